@@ -1,0 +1,4 @@
+pub mod Points
+pub mod Orders
+pub mod Tree
+pub mod Outcomes

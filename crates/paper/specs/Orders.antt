@@ -1,0 +1,139 @@
+-- Document 01, "Near order" and "Asking": what measuring every stored claim gives. Definitions only.
+use Prim.Native.Nat.{ℕ, zero, suc, _+_, _-_, _*_, _^_}
+use mathlib.Core.Bool.{Bool, true, false, cond, _&&_, _||_}
+use mathlib.Core.List.{List, [], _∷_, _++_}
+use lib.Dec.{ltb, leb, eqb}
+use lib.IntN.{ℤ}
+use lib.ListN.{length, getD, take, drop}
+use Rattle.paper.specs.declared.orders.Mark.{Mark}
+use Rattle.paper.specs.declared.orders.Order.{Order}
+use Rattle.paper.specs.declared.orders.Order.the-variants.{Near, Far}
+use Rattle.paper.specs.declared.orders.Place.{Place}
+use Rattle.paper.specs.declared.orders.Place.the-variants.{Start, After}
+use Rattle.paper.specs.Points.{measureOf, distance, greatestOf, Claim, noClaim}
+
+-- "Each item is number, reference, distance."
+pub record Item : Type 0 where
+  pub number : ℕ
+  pub reference : ℕ
+  pub distance : ℕ
+
+abbrev pub noItem : Item
+noItem = record { number = 0; reference = 0; distance = 0 }
+
+-- what a list is opened with, "table number, measure, d, probe and reach", and its order
+pub record Query : Type 0 where
+  pub order : Order
+  pub table : ℕ
+  pub measure : ℕ
+  pub d : ℕ
+  pub probe : List ℤ
+  pub reach : ℕ
+
+-- an order's rank of a distance: "smaller distance from the probe first" in near order, "the largest distance" in far order
+unfoldable pub rank : Order → ℕ → ℕ
+rank Near x = x
+rank Far x = 2 ^ 64 - 1 - x
+
+-- "smaller distance from the probe first, then smaller number": distance x and number k stand before distance y and number j
+unfoldable pub before : Order → ℕ → ℕ → ℕ → ℕ → Bool
+before o x k y j = ltb (rank o x) (rank o y) || (eqb (rank o x) (rank o y) && ltb k j)
+
+abbrev pub earlier : Order → Item → Item → Bool
+earlier o a b = before o (a .distance) (a .number) (b .distance) (b .number)
+
+-- an item put in its place
+unfoldable pub insert : Order → Item → List Item → List Item
+insert o a [] = a ∷ []
+insert o a (b ∷ l) = cond (earlier o a b) (a ∷ b ∷ l) (b ∷ insert o a l)
+
+-- claim k, measured
+unfoldable pub itemOf : Query → List Claim → ℕ → Item
+itemOf q cs k =
+    record {
+      number = k;
+      reference = getD cs k noClaim .reference;
+      distance = distance (measureOf (q .measure)) (q .d) (getD cs k noClaim .place) (q .probe);
+    }
+
+-- "claims numbered below the snapshot and within reach", "bound included", in order
+unfoldable pub listed : Query → List Claim → ℕ → List Item
+listed q cs zero = []
+listed q cs (suc k) =
+    cond (leb (itemOf q cs k .distance) (q .reach)) (insert (q .order) (itemOf q cs k) (listed q cs k)) (listed q cs k)
+
+-- "the mark is distance 0, number 0, and holds back no claim"
+abbrev pub startMark : Mark
+startMark = record { distance = 0; number = 0 }
+
+-- "that come after the mark"; from the start "no mark applies"
+unfoldable pub follows : Order → Place → Item → Bool
+follows o Start a = true
+follows o (After n m) a = before o (m .distance) (m .number) (a .distance) (a .number)
+
+unfoldable pub rest : Order → Place → List Item → List Item
+rest o p [] = []
+rest o p (a ∷ l) = cond (follows o p a) (a ∷ rest o p l) (rest o p l)
+
+-- "From the start, the snapshot is the present count"
+abbrev pub snapshotOf : Place → ℕ → ℕ
+snapshotOf Start count = count
+snapshotOf (After n m) count = n
+
+-- 7: "snapshot over the count"
+unfoldable pub snapshotHolds : List Claim → Place → Bool
+snapshotHolds cs p = leb (snapshotOf p (length cs)) (length cs)
+
+-- the claims that a page is taken from
+unfoldable pub following : Query → List Claim → Place → List Item
+following q cs p = rest (q .order) p (listed q cs (snapshotOf p (length cs)))
+
+-- "it gives the first page-size ones that come after the mark"
+unfoldable pub pageOf : Query → List Claim → Place → ℕ → List Item
+pageOf q cs p size = take size (following q cs p)
+
+-- "Last is set exactly when the page holds fewer claims than the page size."
+unfoldable pub lastOf : ℕ → List Item → Bool
+lastOf size r = ltb (length (take size r)) size
+
+-- "the first claim in near order, or Nothing exactly if none is within reach"
+pub data Found : Type 0 where
+  nothing : Found
+  found : Item → Found
+
+unfoldable pub firstOf : List Item → Found
+firstOf [] = nothing
+firstOf (a ∷ l) = found a
+
+unfoldable pub nearestOf : Query → List Claim → Found
+nearestOf q cs = firstOf (listed q cs (length cs))
+
+-- "the largest distance, then the smallest number": no claim lies beyond the measure's greatest distance
+abbrev pub farQuery : Query → Query
+farQuery q =
+    record {
+      order = Far;
+      table = q .table;
+      measure = q .measure;
+      d = q .d;
+      probe = q .probe;
+      reach = greatestOf (measureOf (q .measure)) (q .d);
+    }
+
+unfoldable pub farthestOf : Query → List Claim → Found
+farthestOf q cs = firstOf (listed (farQuery q) cs (length cs))
+
+-- 8: "mark number not below the snapshot, or mark distance not that claim's distance, or over reach"
+unfoldable pub markHolds : Query → List Claim → Place → Bool
+markHolds q cs Start = true
+markHolds q cs (After n m) =
+    ltb (m .number) n && (eqb (m .distance) (itemOf q cs (m .number) .distance) && leb (m .distance) (q .reach))
+
+-- a page's items as numbers, three for each
+unfoldable pub flat : List Item → List ℕ
+flat [] = []
+flat (a ∷ l) = a .number ∷ a .reference ∷ a .distance ∷ flat l
+
+-- "The page comes back as the filled front of the caller's room; rooms behind it keep their contents."
+unfoldable pub fronted : List Item → List ℕ → List ℕ
+fronted l room = flat l ++ drop (3 * length l) room

@@ -1,0 +1,123 @@
+-- Document 01, "Building the tree". Here claims j and k are `e j k` apart. Definitions only.
+use Prim.Native.Nat.{ℕ, zero, suc, _+_, _-_, _*_, max}
+use mathlib.Core.Bool.{Bool, true, false, cond, _&&_}
+use mathlib.Core.List.{List, [], _∷_, _++_}
+use lib.Dec.{leb, eqb}
+use lib.IntN.{ℤ}
+use lib.ListN.{length, getD, set, take, drop, replicate}
+use Rattle.paper.specs.declared.tables.Table.{Table}
+use Rattle.paper.specs.Points.{measureOf, distance, Claim, point}
+
+-- "A node has a left claim, perhaps a right one, and on each side a far distance and perhaps a node below": six numbers a room.
+-- Side 0 is the left one, side 1 the right one. Of side s: its claim's number plus one in field s, its far distance in
+-- field 2 + s, the number of the room below it plus one in field 4 + s; 0 is no claim and no room.
+abbrev pub fieldAt : List ℕ → ℕ → ℕ → ℕ
+fieldAt rooms m f = getD rooms (m * 6 + f) 0
+
+abbrev pub put : List ℕ → ℕ → ℕ → ℕ → List ℕ
+put rooms m f v = set rooms (m * 6 + f) v
+
+abbrev pub claimAt : List ℕ → ℕ → ℕ → ℕ
+claimAt rooms m s = fieldAt rooms m s - 1
+
+-- fields 1 to f of room w made 0
+unfoldable pub cleared : List ℕ → ℕ → ℕ → List ℕ
+cleared rooms w zero = rooms
+cleared rooms w (suc f) = put (cleared rooms w f) w (suc f) 0
+
+-- "a new one is made, with the claim on its left"; "A side with nothing below has far distance 0."
+unfoldable pub fresh : List ℕ → ℕ → ℕ → List ℕ
+fresh rooms w k = cleared (put rooms w 0 (k + 1)) w 5
+
+-- "the claim goes below the nearer of the two, and below the left one when the distances are equal"
+unfoldable pub nearSide : (ℕ → ℕ → ℕ) → List ℕ → ℕ → ℕ → ℕ
+nearSide e rooms m k = cond (leb (e (claimAt rooms m 0) k) (e (claimAt rooms m 1) k)) 0 1
+
+-- "That side's far distance becomes the larger of itself and the distance from the side's claim to the new one."
+unfoldable pub raise : (ℕ → ℕ → ℕ) → List ℕ → ℕ → ℕ → ℕ → List ℕ
+raise e rooms m s k = put rooms m (2 + s) (max (fieldAt rooms m (2 + s)) (e (claimAt rooms m s) k))
+
+-- rooms, with how many are in use
+pub record Grown : Type 0 where
+  pub rooms : List ℕ
+  pub used : ℕ
+
+abbrev pub grown : List ℕ → ℕ → Grown
+grown rooms used = record { rooms = rooms; used = used }
+
+-- claim k entered from room m: "only a left claim: the claim becomes the right one"; "both: the claim goes below the nearer of the two";
+-- "New nodes take the next free room in rising order"; "Repeat at the node below", at most so many times
+unfoldable pub placed : ℕ → (ℕ → ℕ → ℕ) → ℕ → ℕ → ℕ → List ℕ → Grown
+placed zero e used k m rooms = grown rooms used
+placed (suc times) e used k m rooms =
+    cond (eqb (fieldAt rooms m 1) 0)
+    (grown (put rooms m 1 (k + 1)) used)
+    (cond (eqb (fieldAt rooms m (4 + nearSide e rooms m k)) 0)
+    (grown (fresh (put (raise e rooms m (nearSide e rooms m k) k) m (4 + nearSide e rooms m k) (used + 1)) used k) (used + 1))
+    (placed times e used k (fieldAt rooms m (4 + nearSide e rooms m k) - 1) (raise e rooms m (nearSide e rooms m k) k)))
+
+-- "Entering a claim, from the root"; "no node here: a new one is made"
+unfoldable pub entered : (ℕ → ℕ → ℕ) → ℕ → ℕ → List ℕ → Grown
+entered e zero k rooms = grown (fresh rooms 0 k) 1
+entered e (suc u) k rooms = placed (suc u) e (suc u) k 0 rooms
+
+-- "entering its claims one by one, in number order": claims 0 to n - 1
+unfoldable pub built : (ℕ → ℕ → ℕ) → ℕ → List ℕ → Grown
+built e zero rooms = grown rooms 0
+built e (suc n) rooms = entered e (built e n rooms .used) n (built e n rooms .rooms)
+
+-- a table with the memory that its caller lends
+pub record Store : Type 0 where
+  pub table : Table
+  pub references : List ℕ
+  pub coordinates : List ℤ
+  pub rooms : List ℕ
+
+abbrev pub store : Table → List ℕ → List ℤ → List ℕ → Store
+store t references coordinates rooms = record { table = t; references = references; coordinates = coordinates; rooms = rooms }
+
+-- how far claims j and k are apart, by measure and d, where the coordinates stand one after another
+unfoldable pub apart : ℕ → ℕ → List ℤ → ℕ → ℕ → ℕ
+apart measure d coordinates j k = distance (measureOf measure) d (drop (j * d) coordinates) (drop (k * d) coordinates)
+
+abbrev pub apartIn : Store → ℕ → ℕ → ℕ
+apartIn s = apart (s .table .measure) (s .table .d) (s .coordinates)
+
+-- the first n claims of the lent memory
+unfoldable pub claimsFrom : ℕ → ℕ → List ℕ → List ℤ → List Claim
+claimsFrom d zero references coordinates = []
+claimsFrom d (suc n) references coordinates =
+    claimsFrom d n references coordinates
+    ++ (record { reference = getD references n 0; place = point d coordinates n } ∷ [])
+
+abbrev pub claimsIn : Store → List Claim
+claimsIn s = claimsFrom (s .table .d) (s .table .count) (s .references) (s .coordinates)
+
+-- 1: "measure, d or capacity out of range, or lent memory smaller than these need"
+unfoldable pub inRange : ℕ → ℕ → Bool
+inRange measure d = (leb 1 measure && leb measure 3) && (leb 1 d && leb d 8)
+
+unfoldable pub fits : Store → Bool
+fits s =
+    inRange (s .table .measure) (s .table .d)
+    && ((leb 1 (s .table .capacity) && leb (s .table .capacity) 4096)
+    && (leb (s .table .capacity) (length (s .references))
+    && (leb (s .table .capacity * s .table .d) (length (s .coordinates))
+    && leb (s .table .capacity * 6) (length (s .rooms)))))
+
+-- the first w numbers of the two are the same
+unfoldable pub sameFront : ℕ → List ℕ → List ℕ → Bool
+sameFront zero a b = true
+sameFront (suc w) a b = sameFront w a b && eqb (getD a w 0) (getD b w 0)
+
+-- what entering the claims one by one gives, into rooms that held nothing
+unfoldable pub afresh : (ℕ → ℕ → ℕ) → ℕ → Grown
+afresh e n = built e n (replicate (n * 6) 0)
+
+-- "A table is sound when its count is at most its capacity and each field in use equals what entering its claims one by one, in
+-- number order, gives. Rooms not in use may hold anything, are not read, and keep it until used."
+unfoldable pub sound : Store → Bool
+sound s =
+    leb (s .table .count) (s .table .capacity)
+    && (eqb (afresh (apartIn s) (s .table .count) .used) (s .table .used)
+    && sameFront (s .table .used * 6) (afresh (apartIn s) (s .table .count) .rooms) (s .rooms))

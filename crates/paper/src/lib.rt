@@ -1,0 +1,5 @@
+// The words of document 01 as types: what a claim is measured by, where a page starts, what a table is.
+// Their meaning stands in specs/, a file for each section of the document; the crates above this one cite it.
+pub mod orders;
+pub mod points;
+pub mod tables;

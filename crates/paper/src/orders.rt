@@ -1,0 +1,41 @@
+// Document 01, "Near order" and "Asking".
+ghost use mathlib.Core.Path.{_≡_};
+ghost use Rattle.paper.specs.Orders.{startMark};
+
+// Near order is the base's order of a list; far order is farthest's.
+pub enum Order {
+    Near,
+    Far,
+}
+
+// The last claim that a page before has shown: its distance from the probe, with its number.
+pub struct Mark {
+    pub distance: u64,
+    pub number: u64,
+}
+
+impl Mark {
+    // The fixed value that stands where no mark applies.
+    pub const START: Mark = Mark {
+        distance: 0,
+        number: 0,
+    };
+
+    pub fn at(distance: u64, number: u64) -> Mark
+        ensures { λ r. ⌜ (r .distance ≡ distance) × (r .number ≡ number) ⌝ }
+    {
+        Mark { distance, number }
+    }
+
+    pub fn start() -> Mark
+        ensures { λ r. ⌜ r ≡ startMark ⌝ }
+    {
+        Mark::START
+    }
+}
+
+// Where a page starts: at the start, or after a mark in the first so many claims.
+pub enum Place {
+    Start,
+    After(u64, Mark),
+}
