@@ -1,1 +1,4 @@
 pub mod Examples
+pub mod EndExamples
+pub mod Tests
+pub mod Reading

@@ -2,3 +2,13 @@ pub mod Points
 pub mod Orders
 pub mod Tree
 pub mod Outcomes
+pub mod Runs
+pub mod Frames
+pub mod Fields
+pub mod Lines
+pub mod Ends
+pub mod Lists
+pub mod Codec
+pub mod EndExamples
+pub mod Calls
+pub mod Program

@@ -5,6 +5,8 @@ use mathlib.Core.List.{List, [], _∷_, _++_}
 use lib.Dec.{ltb, leb, eqb}
 use lib.IntN.{ℤ}
 use lib.ListN.{length, getD, take, drop}
+use Rattle.paper.specs.declared.orders.Found.{Found as Answer}
+use Rattle.paper.specs.declared.orders.Found.the-variants.{Nothing, Item as AnItem}
 use Rattle.paper.specs.declared.orders.Mark.{Mark}
 use Rattle.paper.specs.declared.orders.Order.{Order}
 use Rattle.paper.specs.declared.orders.Order.the-variants.{Near, Far}
@@ -66,6 +68,10 @@ listed q cs (suc k) =
 abbrev pub startMark : Mark
 startMark = record { distance = 0; number = 0 }
 
+-- "a mark, which is a distance with a number"
+abbrev pub markAt : ℕ → ℕ → Mark
+markAt x k = record { distance = x; number = k }
+
 -- "that come after the mark"; from the start "no mark applies"
 unfoldable pub follows : Order → Place → Item → Bool
 follows o Start a = true
@@ -100,6 +106,11 @@ lastOf size r = ltb (length (take size r)) size
 pub data Found : Type 0 where
   nothing : Found
   found : Item → Found
+
+-- what each case of the declared answer says
+unfoldable pub told : Answer → Found
+told Nothing = nothing
+told (AnItem k y x) = found (record { number = k; reference = y; distance = x })
 
 unfoldable pub firstOf : List Item → Found
 firstOf [] = nothing

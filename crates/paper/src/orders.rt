@@ -1,6 +1,6 @@
 // Document 01, "Near order" and "Asking".
 ghost use mathlib.Core.Path.{_≡_};
-ghost use Rattle.paper.specs.Orders.{startMark};
+ghost use Rattle.paper.specs.Orders.{startMark, markAt};
 
 // Near order is the base's order of a list; far order is farthest's.
 pub enum Order {
@@ -22,7 +22,7 @@ impl Mark {
     };
 
     pub fn at(distance: u64, number: u64) -> Mark
-        ensures { λ r. ⌜ (r .distance ≡ distance) × (r .number ≡ number) ⌝ }
+        ensures { λ r. ⌜ r ≡ markAt distance number ⌝ }
     {
         Mark { distance, number }
     }
@@ -38,4 +38,28 @@ impl Mark {
 pub enum Place {
     Start,
     After(u64, Mark),
+}
+
+// What a page call gives beside the room's filled front: how many items stand there, and whether the page is the last.
+pub struct Paged {
+    pub count: usize,
+    pub last: bool,
+}
+
+// What nearest and farthest give: nothing, or an item's number, reference and distance.
+pub enum Found {
+    Nothing,
+    Item(u64, u64, u64),
+}
+
+// What the public nearest and farthest give.
+pub enum Nearest {
+    Refused(u8),
+    Answer(Found),
+}
+
+// What the public page gives, beside the room's filled front.
+pub enum Page {
+    Refused(u8),
+    Filled(Paged),
 }

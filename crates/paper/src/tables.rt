@@ -8,3 +8,15 @@ pub struct Table {
     // Node rooms in use.
     pub used: usize,
 }
+
+// What making an empty table answers.
+pub enum Made {
+    Table(Table),
+    Refused(u8),
+}
+
+// What entering a run of claims answers: the table's header afterwards.
+pub enum Entered {
+    Table(Table),
+    Refused(u8),
+}

@@ -1,0 +1,178 @@
+-- The answer to an ask: a law for each way through the calls. Assumes nothing.
+use Prim.Native.Nat.{ℕ, _≤_, _<_}
+use mathlib.Core.Path.{_≡_, refl, sym, ap, _∙_}
+use mathlib.Core.Bool.{Bool, true, false, _&&_, _||_, not}
+use mathlib.Core.List.{List}
+use native.Mathlib.Omega.{arith}
+use lib.Dec.{leb, eqb}
+use lib.IntN.{ℤ}
+use lib.ListN.{length, take, drop, length-take}
+use borrow.Author.Tests.{eq-eqb, ne-eqb, le-leb, leb-true, eqb-true, not-true, not-false}
+use Rattle.paper.specs.declared.lines.Ask as lines-Ask
+use Rattle.paper.specs.declared.lines.AskRead.{AskRead}
+use Rattle.paper.specs.declared.lines.Scope.{Scope}
+use Rattle.paper.specs.declared.lines.Wrote.{Wrote}
+use Rattle.paper.specs.declared.lines.Wrote.the-variants.{Line, Refused}
+use Rattle.paper.specs.declared.orders.Order.the-variants.{Near}
+use Rattle.paper.specs.declared.orders.Place.{Place}
+use Rattle.paper.specs.Orders.{Query, snapshotOf, snapshotHolds, markHolds}
+use Rattle.paper.specs.Tree.{Store, claimsIn}
+use Rattle.paper.specs.Outcomes.{Outcome, refused, gives, must, onto}
+use Rattle.paper.specs.Frames.{num, frameOf, sound}
+use Rattle.paper.specs.Fields.{scopeIn, scopeOk}
+use Rattle.paper.specs.Lines.{behind, askRanges, askOk, askAt, anAsk, noAsk, askOf, reading}
+use Rattle.paper.specs.Ends.{Ask, Answer, tableOf, matches, answerOf, answerTo, served}
+use Rattle.paper.specs.Ends as Ends
+use Rattle.paper.specs.Codec.{placeIn, asked, answerLine, readAsk, lines, wroteOf, roomAfter}
+use Rattle.paper.specs.Program.{replyTo}
+use Rattle.paper.proofs.Tests.{and-first, and-second, never}
+use Rattle.lines.proofs.Tests.{is-ask}
+use Rattle.walk.specs.Asking.{queryOf}
+use Rattle.walk.proofs.Bridge.{claims-length}
+use Rattle.desk.specs.Desk.{Says, Given, Open, Answering, Asking, Paging, askFor, pageLine, pageReply}
+use Rattle.desk.proofs.Telling.{place-start, place-after}
+
+says-refused : (o : Outcome (List ℕ)) (n : ℕ) (before : List ℕ) → o ≡ refused n → Says o before (Refused n) before
+unfolding wroteOf roomAfter
+says-refused o n before e = rw e (record { answer = refl; room = refl })
+
+-- ---- is_ours, snapshot_holds
+
+module _ (x a y b z c : ℕ) where
+  pub ours-not : (x ≡ a → ⊥) → false ≡ (eqb x a && (eqb y b && eqb z c))
+  ours-not n = rw (ne-eqb x a n)
+
+  pub ours-nor : x ≡ a → (y ≡ b → ⊥) → false ≡ (eqb x a && (eqb y b && eqb z c))
+  ours-nor e n = rw (eq-eqb x a e, ne-eqb y b n)
+
+  pub ours-then : x ≡ a → y ≡ b → eqb z c ≡ (eqb x a && (eqb y b && eqb z c))
+  ours-then e q = rw (eq-eqb x a e, eq-eqb y b q)
+
+pub holds-start : (p : Scope) (n : ℕ) → p .from ≡ 0 → true ≡ leb (snapshotOf (placeIn p) n) n
+holds-start p n e = rw (place-start p e) (sym (le-leb n n (omega arith)))
+
+pub holds-after : (p : Scope) (n : ℕ) → (p .from ≡ 0 → ⊥) → leb (p .snapshot) n ≡ leb (snapshotOf (placeIn p) n) n
+holds-after p n e = rw (place-after p e)
+
+-- ---- answer_here
+
+module _ (s : Store) (probe : List ℤ) (p : Scope) (size : ℕ) (b : Bool) (holds : b ≡ leb (snapshotOf (placeIn p) (s .table .count)) (s .table .count)) where
+  stored-is : snapshotHolds (claimsIn s) (placeIn p) ≡ b
+  unfolding snapshotHolds
+  stored-is = rw (claims-length (s .table .d) (s .table .count) (s .references) (s .coordinates)) (sym holds)
+
+  pub here-7 : (before : List ℕ) → not b ≡ true → Says (pageReply (tableOf s) (askFor (s .table) probe p size)) before (Refused 7) before
+  unfolding pageReply
+  here-7 before t = says-refused _ 7 before (rw (stored-is, not-true b t))
+
+  pub here-stored : not b ≡ false → snapshotOf (placeIn p) (s .table .count) ≤ s .table .count
+  here-stored t = leb-true _ _ (sym holds ∙ not-false b t)
+
+  module _ (m : Bool) (place : Place) (at : place ≡ placeIn p) (marked : m ≡ markHolds (queryOf (s .table) Near probe (p .reach)) (claimsIn s) place) (t : not b ≡ false) where
+    pub here-8 : (before : List ℕ) → not m ≡ true → Says (pageReply (tableOf s) (askFor (s .table) probe p size)) before (Refused 8) before
+    unfolding pageReply
+    here-8 before u = says-refused _ 8 before (rw (stored-is, not-false b t, ← at, ← marked, not-true m u))
+
+    pub here-page : (before : List ℕ) (w : Wrote) (after : List ℕ) → not m ≡ false → Says (pageLine (tableOf s) (askFor (s .table) probe p size)) before w after
+        → Says (pageReply (tableOf s) (askFor (s .table) probe p size)) before w after
+    unfolding pageReply
+    here-page before w after u x = rw (stored-is, not-false b t, sym (ap (λ (z : Place). markHolds (queryOf (s .table) Near probe (p .reach)) (claimsIn s) z) at) ∙ sym marked ∙ not-false m u) x
+
+-- ---- answer_ask
+
+reply-here : (t : Ends.Table) (a : Ask) → matches t (a .query) ≡ true → replyTo t a ≡ pageReply t a
+unfolding replyTo answerTo pageReply
+reply-here t a e = rw e (go (snapshotHolds (t .claims) (a .place)) (markHolds (a .query) (t .claims) (a .place)))
+  where
+    go : (b c : Bool) → onto (must b 7 (must c 8 (gives (answerOf t a)))) (λ y. gives (answerLine y)) ≡ must b 7 (must c 8 (pageLine t a))
+    go true true = refl
+    go true false = refl
+    go false c = refl
+
+module _ (s : Store) (a : lines-Ask.Ask) (b : Bool)
+    (is : b ≡ (eqb (a .table) (s .table .number) && (eqb (a .measure) (s .table .measure) && eqb (a .d) (s .table .d)))) where
+  matches-is : matches (tableOf s) (asked Near a .query) ≡ b
+  unfolding matches asked
+  matches-is = sym is
+
+  pub ask-11 : (before : List ℕ) → not b ≡ true → Says (replyTo (tableOf s) (asked Near a)) before (Refused 11) before
+  unfolding replyTo answerTo
+  ask-11 before t = says-refused _ 11 before (rw (matches-is, not-true b t))
+
+  module _ (t : not b ≡ false) where
+    ours : (eqb (a .table) (s .table .number) && (eqb (a .measure) (s .table .measure) && eqb (a .d) (s .table .d))) ≡ true
+    ours = sym is ∙ not-false b t
+
+    pub ask-d : a .d ≡ s .table .d
+    ask-d = eqb-true _ _ (and-second (eqb (a .measure) (s .table .measure)) _ (and-second (eqb (a .table) (s .table .number)) _ ours))
+
+    same-ask : asked Near a ≡ askFor (s .table) (take (a .d) (a .probe)) (a .scope) (a .size)
+    unfolding asked
+    same-ask =
+        let number : a .table ≡ s .table .number = eqb-true _ _ (and-first (eqb (a .table) (s .table .number)) _ ours) in
+        let measure : a .measure ≡ s .table .measure =
+        eqb-true _ _ (and-first (eqb (a .measure) (s .table .measure)) _ (and-second (eqb (a .table) (s .table .number)) _ ours)) in
+        λ i. record {
+          query = record {
+            order = Near;
+            table = number i;
+            measure = measure i;
+            d = ask-d i;
+            probe = take (a .d) (a .probe);
+            reach = a .scope .reach;
+          };
+          place = placeIn (a .scope);
+          size = a .size;
+        }
+
+    pub ask-here : (n : ℕ) (before : List ℕ) (w : Wrote) (after : List ℕ) → n ≡ a .d
+        → Says (pageReply (tableOf s) (askFor (s .table) (take n (a .probe)) (a .scope) (a .size))) before w after
+        → Says (replyTo (tableOf s) (asked Near a)) before w after
+    ask-here n before w after e x =
+        rw (reply-here (tableOf s) (asked Near a) (matches-is ∙ not-false b t), same-ask, ← e) x
+
+    pub ask-ready : (out n : ℕ) → Answering s a out → 7 < length (a .probe) → n ≡ a .d → Asking s (take n (a .probe)) (a .scope) (a .size) out
+    ask-ready out n h l e =
+        record { isOpen = h .isOpen; aimed = simp length-take (omega (arith, h .ask .narrow, ask-d)); scope = h .ask .scope; some = h .ask .some; most = h .ask .most }
+
+-- ---- answer_line
+
+pub ask-given : (f : List ℕ) → askOk 1 f ≡ true → Given (askAt f)
+unfolding askAt askRanges
+ask-given f e =
+    let p = scopeIn (behind f) in
+    let n = num 1 (drop 21 (behind f)) in
+    let i = is-ask 1 f e in
+    let a = and-second (scopeOk p) ((eqb (p .from) 1 || eqb (p .snapshot) 0) && (leb 1 n && leb n 16)) (i .rest) in
+    let b = and-second (eqb (p .from) 1 || eqb (p .snapshot) 0) (leb 1 n && leb n 16) a in
+    record {
+      narrow = i .headed .range .d-high;
+      scope = and-first (scopeOk p) ((eqb (p .from) 1 || eqb (p .snapshot) 0) && (leb 1 n && leb n 16)) (i .rest);
+      some = leb-true 1 n (and-first (leb 1 n) (leb n 16) b);
+      most = leb-true n 16 (and-second (leb 1 n) (leb n 16) b);
+    }
+
+-- a reader's answer: the line's ask, or the number of its refusal
+pub record Reads (line : List ℕ) (r : AskRead) : Type 0 where
+  pub refuses : (r .refusal ≡ 0 → ⊥) → readAsk line ≡ refused (r .refusal)
+  pub given : r .refusal ≡ 0 → Given (r .ask)
+  pub reads : r .refusal ≡ 0 → readAsk line ≡ gives (asked Near (r .ask))
+
+pub read-is : (line : List ℕ) (r : AskRead) → r ≡ askOf 1 line → Reads line r
+unfolding askOf reading anAsk noAsk readAsk
+read-is line r e = rw e (go (sound line) (askOk 1 (frameOf line)) refl refl)
+  where
+    go : (b c : Bool) → sound line ≡ b → askOk 1 (frameOf line) ≡ c → Reads line (askOf 1 line)
+    go true true p q = rw (p, q) (record { refuses = λ n. absurd (n refl); given = λ z. ask-given (frameOf line) q; reads = λ z. rw (p, q) })
+    go true false p q = rw (p, q) (record { refuses = λ n. rw (p, q); given = λ z. absurd (omega arith); reads = λ z. absurd (omega arith) })
+    go false c p q = rw p (record { refuses = λ n. rw p; given = λ z. absurd (omega arith); reads = λ z. absurd (omega arith) })
+
+module _ (s : Store) (line : List ℕ) (r : AskRead) (is : Reads line r) where
+  pub line-refused : (before : List ℕ) → (r .refusal ≡ 0 → ⊥) → Says (served lines (tableOf s) line) before (Refused (r .refusal)) before
+  unfolding served
+  line-refused before n = says-refused _ (r .refusal) before (rw (is .refuses n))
+
+  pub line-answered : (before : List ℕ) (w : Wrote) (after : List ℕ) → r .refusal ≡ 0
+      → Says (replyTo (tableOf s) (asked Near (r .ask))) before w after → Says (served lines (tableOf s) line) before w after
+  unfolding served replyTo
+  line-answered before w after z x = rw (is .reads z) x

@@ -1,0 +1,95 @@
+-- `desk::pages::tell_page` meets its contract: the page fits a line, and its line is written. Assumes nothing.
+use Prim.Native.Nat.{_≤_}
+use mathlib.Core.Path.{_≡_, refl, sym, _∙_}
+use native.Mathlib.Omega.{arith}
+use lib.Dec.{lit≤}
+use lib.ListN.{length}
+use lib.Seq.{length-take-le}
+use Rattle.paper.specs.Tree.{store}
+use Rattle.desk.proofs.Telling.{scope-from, answerable, pageable, told-few, page-told}
+use borrow.Author.Needs.{needs}
+use Rattle.desk.proofs.pages.tell_page.Statement.{statement}
+use Rattle.desk.proofs.pages.tell_page.Tie as tie
+
+place-in-requires : tie.Need-place-in-requires
+place-in-requires c κs = search needs
+
+slice-aggregate-page-of : tie.Need-slice-aggregate-page-of
+slice-aggregate-page-of c = search needs
+
+page-of-requires : tie.Need-page-of-requires
+page-of-requires c κs =
+    let a = c .before .before .before .before .before .args in
+    let s = store (a .t) (a .references .now) (a .coordinates .now) (a .rooms .now) in
+    (answerable s (a .probe .now) (c .before .before .before .before .before .pre .asking .isOpen .good) (c .before .before .before .before .before .pre .asking .aimed),
+    pageable s (a .probe .now) (a .p) (a .size) (length (a .out .now)) (c .before .before .before .before .before .pre) _ _ (c .before .place-in .ensures) (lit≤ tt))
+
+cast-answer-scope : tie.Need-cast-answer-scope
+cast-answer-scope c = search needs
+
+answer-scope-requires : tie.Need-answer-scope-requires
+answer-scope-requires c κs = scope-from (c .before .before .before .before .before .before .before .before .args .p) (c .before .before .before .before .before .before .before .before .pre .asking .scope)
+
+mul-n : tie.Need-mul-n
+mul-n c =
+    let a = c .before .before .before .before .before .before .before .before .before .args in
+    let f = told-few (store (a .t) (a .references .now) (a .coordinates .now) (a .rooms .now)) (a .probe .now) (a .p) (a .size) (length (a .out .now)) (c .before .before .before .before .before .before .before .before .before .pre) _ _ _ _ (c .before .before .before .before .before .place-in .ensures) (c .before .before .before .page-of .ensures) in
+    omega arith
+
+cast-write-answer : tie.Need-cast-write-answer
+cast-write-answer c = omega (arith, (c .before .before .before .before .before .before .before .before .before .before .pre) .asking .isOpen .good .fit .range .narrow)
+
+flag-requires : tie.Need-flag-requires
+flag-requires c κs = search needs
+
+cast-write-answer-2 : tie.Need-cast-write-answer-2
+cast-write-answer-2 c =
+    let a = c .before .before .before .before .before .before .before .before .before .before .before .args in
+    let f = told-few (store (a .t) (a .references .now) (a .coordinates .now) (a .rooms .now)) (a .probe .now) (a .p) (a .size) (length (a .out .now)) (c .before .before .before .before .before .before .before .before .before .before .before .pre) _ _ _ _ (c .before .before .before .before .before .before .before .place-in .ensures) (c .before .before .before .before .before .page-of .ensures) in
+    omega arith
+
+array-share-prefix-room : tie.Need-array-share-prefix-room
+array-share-prefix-room c =
+    let a = c .before .before .before .before .before .before .before .before .before .before .before .args in
+    let f = told-few (store (a .t) (a .references .now) (a .coordinates .now) (a .rooms .now)) (a .probe .now) (a .p) (a .size) (length (a .out .now)) (c .before .before .before .before .before .before .before .before .before .before .before .pre) _ _ _ _ (c .before .before .before .before .before .before .before .place-in .ensures) (c .before .before .before .before .before .page-of .ensures) in
+    let k = c .before .before .before .before .before .page-of .kept .1 .1 .1 .1 .1 .1 .1 .1 .1 .0 in
+    omega arith
+
+slice-aggregate-write-answer : tie.Need-slice-aggregate-write-answer
+slice-aggregate-write-answer c =
+    let a = c .before .before .before .before .before .before .before .before .before .before .before .before .args in
+    let f = told-few (store (a .t) (a .references .now) (a .coordinates .now) (a .rooms .now)) (a .probe .now) (a .p) (a .size) (length (a .out .now)) (c .before .before .before .before .before .before .before .before .before .before .before .before .pre) _ _ _ _ (c .before .before .before .before .before .before .before .before .place-in .ensures) (c .before .before .before .before .before .before .page-of .ensures) in
+    let k = c .before .before .before .before .before .before .page-of .kept .1 .1 .1 .1 .1 .1 .1 .1 .1 .0 in
+    sym (length-take-le _ _ (omega arith))
+
+write-answer-requires : tie.Need-write-answer-requires
+write-answer-requires c κs = search needs
+
+same-length : tie.Need-same-length
+same-length c = search needs
+
+returns : tie.Need-returns
+returns c =
+    let a = c .before .before .before .before .before .before .before .before .before .before .before .before .before .before .before .before .args in
+    page-told (store (a .t) (a .references .now) (a .coordinates .now) (a .rooms .now)) (a .probe .now) (a .p) (a .size) (length (a .out .now)) (c .before .before .before .before .before .before .before .before .before .before .before .before .before .before .before .before .pre)
+    _ _ _ _ (c .before .before .before .before .before .before .before .before .before .before .before .before .place-in .ensures) (c .before .before .before .before .before .before .before .before .before .before .page-of .ensures) _ (c .before .before .before .before .before .before .before .answer-scope .ensures) _ (c .before .before .before .before .before .flag .ensures) _ refl (λ i. c .before .before .before .before .before .before .before .before .before .before .before .before .before .before .before .shared-slice-known .given i .fits)
+    _ _ _ (c .before .before .before .before .before .before .before .before .before .before .before .before .before .before .before .before .pre .asking .isOpen .room) (c .before .before .write-answer .ensures)
+
+pub tell-page-spec : {M : Type 1} → statement M
+tell-page-spec =
+    tie.close
+    (tie.spec
+    place-in-requires
+    slice-aggregate-page-of
+    page-of-requires
+    cast-answer-scope
+    answer-scope-requires
+    mul-n
+    cast-write-answer
+    flag-requires
+    cast-write-answer-2
+    array-share-prefix-room
+    slice-aggregate-write-answer
+    write-answer-requires
+    same-length
+    returns)

@@ -1,0 +1,69 @@
+-- The office's end: what it asks of its table, of an ask and of its output room, and what it then gives. Definitions only.
+use Prim.Native.Nat.{ℕ, _≤_}
+use mathlib.Core.Path.{_≡_}
+use mathlib.Core.Bool.{Bool, true, cond}
+use mathlib.Core.List.{List}
+use lib.IntN.{ℤ}
+use lib.ListN.{length}
+use Rattle.paper.specs.declared.lines.Ask as lines-Ask
+use Rattle.paper.specs.declared.lines.Scope.{Scope}
+use Rattle.paper.specs.declared.lines.Wrote.{Wrote}
+use Rattle.paper.specs.declared.orders.Order.the-variants.{Near}
+use Rattle.paper.specs.declared.tables.Table.{Table}
+use Rattle.paper.specs.Orders.{snapshotOf, snapshotHolds, markHolds}
+use Rattle.paper.specs.Tree.{Store}
+use Rattle.paper.specs.Outcomes.{Outcome, must, gives}
+use Rattle.paper.specs.Fields.{scopeOk}
+use Rattle.paper.specs.Ends.{Ask, answerOf}
+use Rattle.paper.specs.Ends as Ends
+use Rattle.paper.specs.Codec.{placeIn, answerLine, wroteOf, roomAfter}
+use Rattle.tree.specs.Soundness.{Good}
+use Rattle.walk.specs.Asking.{queryOf}
+
+-- a call that writes a line: its answer, and what its room then holds
+pub record Says (o : Outcome (List ℕ)) (before : List ℕ) (r : Wrote) (after : List ℕ) : Type 0 where
+  pub answer : r ≡ wroteOf o
+  pub room : after ≡ roomAfter o before
+
+-- an ask that a reader gives
+pub record Given (a : lines-Ask.Ask) : Type 0 where
+  pub narrow : a .d ≤ 8
+  pub scope : scopeOk (a .scope) ≡ true
+  pub some : 1 ≤ a .size
+  pub most : a .size ≤ 16
+
+-- a sound table, with room for the longest line
+pub record Open (s : Store) (out : ℕ) : Type 0 where
+  pub good : Good s
+  pub room : 573 ≤ out
+
+pub record Answering (s : Store) (a : lines-Ask.Ask) (out : ℕ) : Type 0 where
+  pub isOpen : Open s out
+  pub ask : Given a
+
+-- an ask to this very table
+pub record Asking (s : Store) (probe : List ℤ) (p : Scope) (size out : ℕ) : Type 0 where
+  pub isOpen : Open s out
+  pub aimed : length probe ≡ s .table .d
+  pub scope : scopeOk p ≡ true
+  pub some : 1 ≤ size
+  pub most : size ≤ 16
+
+-- whose snapshot is not over the count
+pub record Paging (s : Store) (probe : List ℤ) (p : Scope) (size out : ℕ) : Type 0 where
+  pub asking : Asking s probe p size out
+  pub stored : snapshotOf (placeIn p) (s .table .count) ≤ s .table .count
+
+abbrev pub askFor : Table → List ℤ → Scope → ℕ → Ask
+askFor t probe p size = record { query = queryOf t Near probe (p .reach); place = placeIn p; size = size }
+
+abbrev pub flagged : Bool → ℕ
+flagged b = cond b 1 0
+
+-- the line of the page that is asked for
+abbrev pub pageLine : Ends.Table → Ask → Outcome (List ℕ)
+pageLine t a = gives (answerLine (answerOf t a))
+
+-- the line, or 7, 8
+unfoldable pub pageReply : Ends.Table → Ask → Outcome (List ℕ)
+pageReply t a = must (snapshotHolds (t .claims) (a .place)) 7 (must (markHolds (a .query) (t .claims) (a .place)) 8 (pageLine t a))

@@ -1,0 +1,106 @@
+// The answer to an ask, as fields or as a line.
+ghost use mathlib.Core.Path.{_≡_};
+ghost use mathlib.Core.Bool.{_&&_};
+ghost use lib.Dec.{leb, eqb};
+ghost use lib.ListN.{length};
+ghost use Rattle.paper.specs.declared.orders.Order.the-variants.{Near};
+ghost use Rattle.paper.specs.Orders.{snapshotOf};
+ghost use Rattle.paper.specs.Tree.{store};
+ghost use Rattle.paper.specs.Ends.{tableOf, served};
+ghost use Rattle.paper.specs.Codec.{placeIn, asked};
+ghost use Rattle.paper.specs.Codec.{lines as Codec·lines};
+ghost use Rattle.paper.specs.Program.{replyTo};
+ghost use Rattle.desk.specs.Desk.{Says, Open, Answering, Asking, askFor, pageReply};
+use super::pages::place_in;
+use super::pages::tell_page;
+use paper::lines::Ask;
+use paper::lines::Scope;
+use paper::lines::Wrote;
+use paper::tables::Table;
+
+// Whether a line is about this table.
+pub fn is_ours(t: Table, number: u32, measure: u8, d: u8) -> bool
+    ensures { λ r. ⌜ r ≡ eqb number (t .number) && (eqb measure (t .measure) && eqb d (t .d)) ⌝ }
+{
+    if number != t.number {
+        return false;
+    }
+    if measure != t.measure {
+        return false;
+    }
+    d as usize == t.d
+}
+
+fn snapshot_holds(p: Scope, count: usize) -> bool
+    ensures { λ r. ⌜ r ≡ leb (snapshotOf (placeIn p) count) count ⌝ }
+{
+    if p.from == 0 {
+        return true;
+    }
+    p.snapshot as usize <= count
+}
+
+// The answer to an ask that is about this table.
+fn answer_here(
+    t: Table,
+    references: &[u32],
+    coordinates: &[i32],
+    rooms: &[u64],
+    probe: &[i32],
+    p: Scope,
+    size: u8,
+    out: &mut [u8],
+) -> Wrote
+    requires { ⌜ Asking (store t (now references) (now coordinates) (now rooms)) (now probe) p size (length (now out)) ⌝ }
+    ensures { λ r. ⌜ Says (pageReply (tableOf (store t (now (references .entry)) (now (coordinates .entry)) (now (rooms .entry)))) (askFor t (now (probe .entry)) p size)) (now (out .entry)) r (now (out .exit)) ⌝ }
+{
+    if !snapshot_holds(p, t.count) {
+        return Wrote::Refused(7);
+    }
+    let place = place_in(p);
+    if !walk::questions::mark_holds(t, coordinates, probe, p.reach, place) {
+        return Wrote::Refused(8);
+    }
+    tell_page(t, references, coordinates, rooms, probe, p, size, out)
+}
+
+// Answers an ask that a reader gave.
+pub fn answer_ask(
+    t: Table,
+    references: &[u32],
+    coordinates: &[i32],
+    rooms: &[u64],
+    ask: Ask,
+    out: &mut [u8],
+) -> Wrote
+    requires { ⌜ Answering (store t (now references) (now coordinates) (now rooms)) ask (length (now out)) ⌝ }
+    ensures { λ r. ⌜ Says (replyTo (tableOf (store t (now (references .entry)) (now (coordinates .entry)) (now (rooms .entry)))) (asked Near ask)) (now (out .entry)) r (now (out .exit)) ⌝ }
+{
+    if !is_ours(t, ask.table, ask.measure, ask.d) {
+        return Wrote::Refused(11);
+    }
+    let probe = ask.probe;
+    let scope = ask.scope;
+    let d = ask.d as usize;
+    answer_here(t, references, coordinates, rooms, &probe[..d], scope, ask.size, out)
+}
+
+// Answers an ask line.
+pub fn answer_line(
+    t: Table,
+    references: &[u32],
+    coordinates: &[i32],
+    rooms: &[u64],
+    line: &[u8],
+    out: &mut [u8],
+) -> Wrote
+    requires { ⌜ Open (store t (now references) (now coordinates) (now rooms)) (length (now out)) ⌝ }
+    ensures { λ r. ⌜ Says (served Codec·lines (tableOf (store t (now (references .entry)) (now (coordinates .entry)) (now (rooms .entry)))) (now (line .entry))) (now (out .entry)) r (now (out .exit)) ⌝ }
+{
+    let read = lines::read_ask(line);
+    if read.refusal != 0 {
+        return Wrote::Refused(read.refusal);
+    }
+    let ask = read.ask;
+    answer_ask(t, references, coordinates, rooms, ask, out)
+}

@@ -1,0 +1,93 @@
+// The page that an ask wants, and the line that tells it.
+ghost use mathlib.Core.Path.{_≡_};
+ghost use Prim.Native.Nat.{_≤_};
+ghost use lib.ListN.{length};
+ghost use Rattle.paper.specs.Orders.{snapshotOf};
+ghost use Rattle.paper.specs.Tree.{store};
+ghost use Rattle.paper.specs.Ends.{tableOf};
+ghost use Rattle.paper.specs.Codec.{placeIn, scopeOf};
+ghost use Rattle.desk.specs.Desk.{Says, Paging, askFor, flagged, pageLine};
+use paper::lines::Scope;
+use paper::lines::Wrote;
+use paper::orders::Mark;
+use paper::orders::Order;
+use paper::orders::Place;
+use paper::tables::Table;
+
+// Where the page starts, by the fields of an ask.
+pub fn place_in(p: Scope) -> Place
+    ensures { λ r. ⌜ r ≡ placeIn p ⌝ }
+{
+    if p.from == 0 {
+        return Place::Start;
+    }
+    Place::After(p.snapshot as u64, Mark::at(p.distance, p.number as u64))
+}
+
+// The fields that the answer repeats, with the snapshot that it used.
+fn answer_scope(p: Scope, count: u16) -> Scope
+    requires { ⌜ p .from ≤ 1 ⌝ }
+    ensures { λ r. ⌜ r ≡ scopeOf (p .reach) (placeIn p) (snapshotOf (placeIn p) count) ⌝ }
+{
+    if p.from == 0 {
+        return Scope {
+            reach: p.reach,
+            from: 0,
+            snapshot: count,
+            distance: 0,
+            number: 0,
+        };
+    }
+    p
+}
+
+fn flag(b: bool) -> u8
+    ensures { λ r. ⌜ r ≡ flagged b ⌝ }
+{
+    if b { 1 } else { 0 }
+}
+
+// Finds the page and writes its line.
+pub fn tell_page(
+    t: Table,
+    references: &[u32],
+    coordinates: &[i32],
+    rooms: &[u64],
+    probe: &[i32],
+    p: Scope,
+    size: u8,
+    out: &mut [u8],
+) -> Wrote
+    requires { ⌜ Paging (store t (now references) (now coordinates) (now rooms)) (now probe) p size (length (now out)) ⌝ }
+    ensures { λ r. ⌜ Says (pageLine (tableOf (store t (now (references .entry)) (now (coordinates .entry)) (now (rooms .entry)))) (askFor t (now (probe .entry)) p size)) (now (out .entry)) r (now (out .exit)) ⌝ }
+{
+    let mut room = [0u64; 48];
+    let near = Order::Near;
+    let place = place_in(p);
+    let paged = walk::questions::page_of(
+        t,
+        references,
+        coordinates,
+        rooms,
+        near,
+        probe,
+        p.reach,
+        place,
+        size as usize,
+        &mut room,
+    );
+    let scope = answer_scope(p, t.count as u16);
+    let count = paged.count;
+    let n = 3 * count;
+    lines::write_answer(
+        t.number,
+        t.measure,
+        t.d as u8,
+        probe,
+        scope,
+        flag(paged.last),
+        count as u8,
+        &room[..n],
+        out,
+    )
+}

@@ -1,0 +1,19 @@
+-- Where things stand while a line is written or read: places are counted in bytes of the frame. Assumes nothing.
+use Prim.Native.Nat.{ℕ, _+_, _*_, _^_, _<_}
+use mathlib.Core.Path.{_≡_}
+use mathlib.Core.List.{List, _++_}
+use lib.ListN.{length, take, drop}
+use Rattle.paper.specs.Frames.{num, hexes}
+
+-- the characters o, with the frame f written as digits from byte `at` on, and everything else kept
+unfoldable pub over : List ℕ → ℕ → List ℕ → List ℕ
+over o at f = take (2 * at) o ++ (hexes f ++ drop (2 * at + 2 * length f) o)
+
+-- the frame that a source of fields holds: the source itself, which `unhex` filled
+unfoldable pub held : List ℕ → List ℕ
+held s = s
+
+-- the field of w bytes at byte `at` of what a source holds
+pub record Field (s : List ℕ) (at w r : ℕ) : Type 0 where
+  pub value : r ≡ num w (drop at (held s))
+  pub small : r < 256 ^ w

@@ -1,0 +1,73 @@
+// Hexadecimal digits: a line's soundness, and its frame.
+ghost use mathlib.Core.Path.{_≡_};
+ghost use mathlib.Core.List.{_++_};
+ghost use Prim.Native.Nat.{_/_, _≤_, _<_};
+ghost use lib.ListN.{length, drop};
+ghost use Rattle.paper.specs.Frames.{sound, frameOf};
+ghost use Rattle.paper.specs.Frames.{glyph as Frames·glyph, digit as Frames·digit};
+
+pub fn glyph(n: u64) -> u8
+    requires { ⌜ n < 16 ⌝ }
+    ensures { λ r. ⌜ r ≡ Frames·glyph n ⌝ }
+{
+    if n < 10 { 48 + n as u8 } else { 87 + n as u8 }
+}
+
+// The value of a digit, or 16 for a byte that is none.
+pub fn digit(b: u8) -> u64
+    ensures { λ r. ⌜ r ≡ Frames·digit b ⌝ }
+{
+    if b < 48 {
+        return 16;
+    }
+    if b < 58 {
+        return (b - 48) as u64;
+    }
+    if b < 97 {
+        return 16;
+    }
+    if b < 103 {
+        return (b - 87) as u64;
+    }
+    16
+}
+
+// Whether a line is an even, nonzero run of digits and a final 0A, of at most 573 characters.
+pub fn is_sound(line: &[u8]) -> bool
+    ensures { λ r. ⌜ r ≡ sound (now (line .entry)) ⌝ }
+{
+    let n = line.len();
+    if n < 2 {
+        return false;
+    }
+    if 573 < n {
+        return false;
+    }
+    if n % 2 == 0 {
+        return false;
+    }
+    let last = n - 1;
+    let mut i = 0;
+    while i < last {
+        if 16 <= digit(line[i]) {
+            return false;
+        }
+        i += 1;
+    }
+    line[last] == 10
+}
+
+// Writes the frame of a line to the front of `out`, and gives the frame's length.
+pub fn unhex(line: &[u8], out: &mut [u8]) -> usize
+    requires { ⌜ length (now line) / 2 ≤ length (now out) ⌝ }
+    ensures { λ r. ⌜ (r ≡ length (now (line .entry)) / 2) × (now (out .exit) ≡ frameOf (now (line .entry)) ++ drop r (now (out .entry))) ⌝ }
+{
+    let n = line.len() / 2;
+    let mut i = 0;
+    while i < n {
+        let k = 2 * i;
+        out[i] = (digit(line[k]) % 16 * 16 + digit(line[k + 1]) % 16) as u8;
+        i += 1;
+    }
+    n
+}

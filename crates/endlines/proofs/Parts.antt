@@ -1,0 +1,140 @@
+-- The parts of the ends' lines: ranges, places as scopes, probes and items as the fields of a line. Assumes nothing.
+use Prim.Native.Nat.{ℕ, zero, suc, _^_, _<_, _≤_}
+use mathlib.Core.Path.{_≡_, refl, sym, ap}
+use mathlib.Core.Bool.{Bool, true, false, cond, _&&_, _||_, and-assoc}
+use mathlib.Core.List.{List, [], _∷_, _++_, List·Memᴰ, List·Memᴰ·head, List·Memᴰ·tail}
+use native.Mathlib.Omega.{arith}
+use lib.Dec.{leb, eqb, lit<}
+use lib.IntN.{ℤ}
+use lib.ListN.{drop}
+use lib.Signed.{mag}
+use mir.Syntax.{w32}
+use mir.Facts.{sfits-toZ}
+use borrow.Author.Tests.{leb-true, le-leb, lt-ltb}
+use Rattle.paper.specs.declared.lines.Scope.{Scope}
+use Rattle.paper.specs.declared.orders.Place.{Place}
+use Rattle.paper.specs.declared.orders.Place.the-variants.{Start, After}
+use Rattle.paper.specs.Frames.{num}
+use Rattle.paper.specs.Fields.{ranged, coordsIn, scopeOk, itemsIn, numbersOk, referencesOk}
+use Rattle.paper.specs.Tree.{inRange}
+use Rattle.paper.specs.Orders.{Item, snapshotOf, flat}
+use Rattle.paper.specs.Lists as lists
+use Rattle.paper.specs.Codec.{scopeOf, placeIn}
+use Rattle.digits.proofs.Laws.{Bytes, bytes-drop, num-lt}
+use Rattle.fields.proofs.Round.{Fit, ScopeFit}
+use Rattle.fields.proofs.ItemLaws.{Distances}
+use Rattle.orders.specs.Laws.{PlaceOk, ItemOk}
+use Rattle.orders.proofs.Tests.{and-left, and-right, and-both}
+use Rattle.orders.proofs.Lists.{All}
+
+-- "measure 1 to 3, d 1 to 8", in a call and in a line
+pub same-range : (m d : ℕ) → inRange m d ≡ ranged m d
+unfolding ranged inRange
+same-range m d = and-assoc (leb 1 m) (leb m 3) (leb 1 d && leb d 8)
+
+-- a place's scope, and the place of a scope
+pub scope-reach : (reach : ℕ) (p : Place) (s : ℕ) → scopeOf reach p s .reach ≡ reach
+unfolding scopeOf
+scope-reach reach Start s = refl
+scope-reach reach (After n m) s = refl
+
+pub scope-place : (reach : ℕ) (p : Place) (s : ℕ) → snapshotOf p s ≡ s → placeIn (scopeOf reach p s) ≡ p
+unfolding scopeOf placeIn
+scope-place reach Start s e = refl
+scope-place reach (After n m) s e = ap (λ (k : ℕ). After k m) (sym e)
+
+pub scope-snapshot : (reach : ℕ) (p : Place) (s : ℕ) → scopeOf reach p s .snapshot ≡ s
+unfolding scopeOf
+scope-snapshot reach Start s = refl
+scope-snapshot reach (After n m) s = refl
+
+-- the snapshot of an ask: its place's, or 0 from the start
+pub asked-small : (p : Place) → PlaceOk p → snapshotOf p 0 ≤ 4096
+asked-small Start ok = omega arith
+asked-small (After n m) ok = ok .snapshot
+
+pub asked-used : (p : Place) → snapshotOf p (snapshotOf p 0) ≡ snapshotOf p 0
+asked-used Start = refl
+asked-used (After n m) = refl
+
+pub scope-ok : (reach : ℕ) (p : Place) (s : ℕ) → PlaceOk p → s ≤ 4096 → scopeOk (scopeOf reach p s) ≡ true
+unfolding scopeOf scopeOk
+scope-ok reach Start s ok h = rw (le-leb s 4096 h)
+scope-ok reach (After n m) s ok h =
+    let k : m .number ≤ 4095 = omega (arith, ok .number) in
+    rw (le-leb s 4096 h, le-leb (m .number) 4095 k)
+
+pub scope-fit : (reach : ℕ) (p : Place) (s : ℕ) → reach < 2 ^ 64 → PlaceOk p → s ≤ 4096 → ScopeFit (scopeOf reach p s)
+unfolding scopeOf
+scope-fit reach Start s r ok h = record { reach = r; from = lit< tt; snapshot = omega arith; distance = lit< tt; number = lit< tt }
+scope-fit reach (After n m) s r ok h =
+    record { reach = r; from = lit< tt; snapshot = omega arith; distance = ok .distance; number = omega (arith, ok .number) }
+
+pub scope-asks : (reach : ℕ) (p : Place)
+    → (eqb (scopeOf reach p (snapshotOf p 0) .from) 1 || eqb (scopeOf reach p (snapshotOf p 0) .snapshot) 0) ≡ true
+unfolding scopeOf
+scope-asks reach Start = refl
+scope-asks reach (After n m) = refl
+
+pub place-ok : (s : Scope) → scopeOk s ≡ true → s .distance < 2 ^ 64 → PlaceOk (placeIn s)
+unfolding scopeOk placeIn
+place-ok s e far =
+    let e1 = and-right (leb (s .from) 1) _ e in
+    let e2 = and-right (leb (s .snapshot) 4096) _ e1 in
+    go (eqb (s .from) 0) (leb-true _ _ (and-left _ _ e1)) (leb-true _ _ (and-left _ _ e2))
+  where
+    go : (b : Bool) → s .snapshot ≤ 4096 → s .number ≤ 4095
+        → PlaceOk (cond b Start (After (s .snapshot) (record { distance = s .distance; number = s .number })))
+    go true n k = tt
+    go false n k = record { snapshot = n; distance = far; number = omega arith }
+
+pub place-used : (s : Scope) → snapshotOf (placeIn s) (s .snapshot) ≡ s .snapshot
+unfolding placeIn
+place-used s = go (eqb (s .from) 0)
+  where
+    go : (b : Bool) → snapshotOf (cond b Start (After (s .snapshot) (record { distance = s .distance; number = s .number }))) (s .snapshot) ≡ s .snapshot
+    go true = refl
+    go false = refl
+
+pub scope-small : (s : Scope) → scopeOk s ≡ true → s .snapshot ≤ 4096
+unfolding scopeOk
+scope-small s e = leb-true _ _ (and-left _ _ (and-right (leb (s .from) 1) _ e))
+
+-- coordinates of 32 bits
+pub probe-fit : (cs : List ℤ) → ((x : ℤ) → List·Memᴰ x cs → mag x < 2 ^ 31) → Fit cs
+probe-fit [] f = tt
+probe-fit (x ∷ cs) f = (record { sfits = f x (List·Memᴰ·head refl) }, probe-fit cs (λ y m. f y (List·Memᴰ·tail m)))
+
+pub probe-read : (d : ℕ) (f : List ℕ) → Bytes f → All (λ x. mag x < 2 ^ 31) (coordsIn d f)
+unfolding coordsIn
+probe-read zero f b = tt
+probe-read (suc d) f b = (sfits-toZ {w = w32} {n = num 4 f} (record { fits = num-lt 4 f b }) .sfits, probe-read d (drop 4 f) (bytes-drop 4 f b))
+
+-- items as numbers, three for each
+pub flat-numbers : (l : List Item) → All ItemOk l → numbersOk (flat l) ≡ true
+unfolding flat numbersOk
+flat-numbers [] h = refl
+flat-numbers (x ∷ l) h = and-both _ _ (le-leb (x .number) 4095 (omega (arith, h .0 .number))) (flat-numbers l (h .1))
+
+pub flat-references : (l : List Item) → All ItemOk l → referencesOk (flat l) ≡ true
+unfolding flat referencesOk
+flat-references [] h = refl
+flat-references (x ∷ l) h = and-both _ _ (lt-ltb (x .reference) 4294967296 (h .0 .reference)) (flat-references l (h .1))
+
+pub flat-distances : (l : List Item) → All ItemOk l → Distances (flat l)
+unfolding flat
+flat-distances [] h = tt
+flat-distances (x ∷ l) h = (h .0 .distance, flat-distances l (h .1))
+
+-- the items of a frame are in range
+pub items-ok : (k : ℕ) (g r : List ℕ) → Bytes g → numbersOk (itemsIn k g) ≡ true → All ItemOk (lists.itemsIn k (itemsIn k g ++ r))
+unfolding itemsIn numbersOk lists.itemsIn
+items-ok zero g r b e = tt
+items-ok (suc k) g r b e = (
+  record {
+    number = omega (arith, leb-true (num 2 g) 4095 (and-left _ _ e));
+    reference = num-lt 4 (drop 2 g) (bytes-drop 2 g b);
+    distance = num-lt 8 (drop 6 g) (bytes-drop 6 g b);
+  },
+  items-ok k (drop 14 g) r (bytes-drop 14 g b) (and-right (leb (num 2 g) 4095) _ e),
+)

@@ -1,0 +1,40 @@
+use mathlib.Core.Path.{_∙_}
+use borrow.Author.Tests.{eq-eqb, ne-eqb}
+use Rattle.paper.specs.Fields.{ranged}
+use Rattle.paper.specs.Lines.{headOk}
+use borrow.Author.Needs.{needs}
+use Rattle.fields.proofs.parts.head_ok.Statement.{statement}
+use Rattle.fields.proofs.parts.head_ok.Tie as tie
+
+number-requires : tie.Need-number-requires
+number-requires c κs = search needs
+
+number-requires-2 : tie.Need-number-requires-2
+number-requires-2 c κs = search needs
+
+number-requires-3 : tie.Need-number-requires-3
+number-requires-3 c κs = search needs
+
+ranged-requires : tie.Need-ranged-requires
+ranged-requires c κs = search needs
+
+returns : tie.Need-returns
+unfolding headOk
+returns c =
+    c .ranged .ensures
+    ∙ rw (← c .before .before .before .before .number .ensures .value, ← c .before .before .number2 .ensures .value, ← c .before .number3 .ensures .value, eq-eqb _ _ (c .before .before .before .if1 .taken))
+
+returns-2 : tie.Need-returns-2
+unfolding headOk
+returns-2 c = rw (← c .before .number .ensures .value, ne-eqb _ _ (c .if1 .left))
+
+pub head-ok-spec : {M : Type 1} → statement M
+head-ok-spec =
+    tie.close
+    (tie.spec
+    number-requires
+    number-requires-2
+    number-requires-3
+    ranged-requires
+    returns
+    returns-2)

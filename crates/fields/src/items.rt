@@ -1,0 +1,81 @@
+// The items of an answer line: number, reference and distance for each.
+ghost use mathlib.Core.Path.{_≡_};
+ghost use mathlib.Core.Bool.{_&&_};
+ghost use Prim.Native.Nat.{_+_, _*_, _≤_};
+ghost use lib.ListN.{length, drop};
+ghost use lib.Dec.{eqb};
+ghost use Rattle.paper.specs.Fields.{item, itemBytes, itemsIn, itemPlaces, numbersOk, referencesOk};
+ghost use Rattle.digits.specs.Places.{held, over};
+
+fn put_item(out: &mut [u8], at: usize, n: u64, r: u64, x: u64)
+    requires { ⌜ 2 * (at + 14) ≤ length (now out) ⌝ }
+    ensures { λ _. ⌜ now (out .exit) ≡ over (now (out .entry)) at (item n r x) ⌝ }
+{
+    digits::put(out, at, 2, n);
+    digits::put(out, at + 2, 4, r);
+    digits::put(out, at + 6, 8, x);
+}
+
+pub fn put_items(out: &mut [u8], at: usize, items: &[u64], k: usize)
+    requires { ⌜ (length (now items) ≡ 3 * k) × ((k ≤ 16) × (2 * (at + 14 * k) ≤ length (now out))) ⌝ }
+    ensures { λ _. ⌜ now (out .exit) ≡ over (now (out .entry)) at (itemBytes (now (items .entry))) ⌝ }
+{
+    let mut i = 0;
+    while i < k {
+        let j = 3 * i;
+        put_item(out, at + 14 * i, items[j], items[j + 1], items[j + 2]);
+        i += 1;
+    }
+}
+
+pub fn items_at(src: &[u8], at: usize, k: usize) -> [u64; 48]
+    requires { ⌜ (at + 14 * k ≤ length (held (now src))) × (k ≤ 16) ⌝ }
+    ensures { λ r. ⌜ r ≡ itemPlaces k (itemsIn k (drop at (held (now (src .entry))))) ⌝ }
+{
+    let mut found = [0u64; 48];
+    let mut i = 0;
+    while i < k {
+        let j = 3 * i;
+        let a = at + 14 * i;
+        found[j] = digits::number(src, a, 2);
+        found[j + 1] = digits::number(src, a + 2, 4);
+        found[j + 2] = digits::number(src, a + 6, 8);
+        i += 1;
+    }
+    found
+}
+
+// Whether each of the k items from byte `at` on has a number in range.
+pub fn numbers_ok(src: &[u8], at: usize, k: usize) -> bool
+    requires { ⌜ at + 14 * k ≤ length (held (now src)) ⌝ }
+    ensures { λ r. ⌜ r ≡ numbersOk (itemsIn k (drop at (held (now (src .entry))))) ⌝ }
+{
+    let mut i = 0;
+    while i < k {
+        if 4095 < digits::number(src, at + 14 * i, 2) {
+            return false;
+        }
+        i += 1;
+    }
+    true
+}
+
+// Whether a writer was handed k items, and each fits its fields.
+pub fn items_fit(items: &[u64], k: u8) -> bool
+    ensures { λ r. ⌜ r ≡ eqb (length (now (items .entry))) (3 * k) && (referencesOk (now (items .entry)) && numbersOk (now (items .entry))) ⌝ }
+{
+    if items.len() != 3 * k as usize {
+        return false;
+    }
+    let mut j = 0;
+    while j < items.len() {
+        if 4095 < items[j] {
+            return false;
+        }
+        if 4294967295 < items[j + 1] {
+            return false;
+        }
+        j += 3;
+    }
+    true
+}

@@ -1,0 +1,158 @@
+// The head, coordinates, the scope, and what an ask and an answer begin with.
+ghost use mathlib.Core.Path.{_≡_};
+ghost use Prim.Native.Nat.{_+_, _*_, _≤_};
+ghost use lib.ListN.{length, drop};
+ghost use Rattle.paper.specs.Frames.{num};
+ghost use Rattle.paper.specs.Fields.{head, coordBytes, coordsIn, places, scopeBytes, scopeIn, scopeOk};
+ghost use Rattle.paper.specs.Fields.{ranged as Fields·ranged, front as Fields·front};
+ghost use Rattle.paper.specs.Lines.{headOk};
+ghost use Rattle.digits.specs.Places.{held, over};
+ghost use Rattle.fields.specs.Fronts.{Begun, frontAt};
+use paper::lines::Scope;
+
+pub fn ranged(measure: u64, d: u64) -> bool
+    ensures { λ r. ⌜ r ≡ Fields·ranged measure d ⌝ }
+{
+    if measure < 1 {
+        return false;
+    }
+    if 3 < measure {
+        return false;
+    }
+    if d < 1 {
+        return false;
+    }
+    d <= 8
+}
+
+// The kind of the frame that `src` holds.
+pub fn kind(src: &[u8]) -> u64
+    requires { ⌜ 1 ≤ length (held (now src)) ⌝ }
+    ensures { λ r. ⌜ r ≡ num 1 (held (now (src .entry))) ⌝ }
+{
+    digits::number(src, 0, 1)
+}
+
+// Whether a frame begins with a head of this kind, in range.
+pub fn head_ok(src: &[u8], kind: u8) -> bool
+    requires { ⌜ 7 ≤ length (held (now src)) ⌝ }
+    ensures { λ r. ⌜ r ≡ headOk kind (held (now (src .entry))) ⌝ }
+{
+    if digits::number(src, 0, 1) == kind as u64 {
+        return ranged(digits::number(src, 5, 1), digits::number(src, 6, 1));
+    }
+    false
+}
+
+pub fn put_head(out: &mut [u8], kind: u8, table: u32, measure: u8, d: u8)
+    requires { ⌜ 14 ≤ length (now out) ⌝ }
+    ensures { λ _. ⌜ now (out .exit) ≡ over (now (out .entry)) 0 (head kind table measure d) ⌝ }
+{
+    digits::put(out, 0, 1, kind as u64);
+    digits::put(out, 1, 4, table as u64);
+    digits::put(out, 5, 1, measure as u64);
+    digits::put(out, 6, 1, d as u64);
+}
+
+pub fn put_coords(out: &mut [u8], at: usize, coords: &[i32])
+    requires { ⌜ 2 * (at + 4 * length (now coords)) ≤ length (now out) ⌝ }
+    ensures { λ _. ⌜ now (out .exit) ≡ over (now (out .entry)) at (coordBytes (now (coords .entry))) ⌝ }
+{
+    let mut i = 0;
+    while i < coords.len() {
+        digits::put(out, at + 4 * i, 4, digits::pattern(coords[i]) as u64);
+        i += 1;
+    }
+}
+
+pub fn coords_at(src: &[u8], at: usize, d: usize) -> [i32; 8]
+    requires { ⌜ (at + 4 * d ≤ length (held (now src))) × (d ≤ 8) ⌝ }
+    ensures { λ r. ⌜ r ≡ places d (coordsIn d (drop at (held (now (src .entry))))) ⌝ }
+{
+    let mut found = [0i32; 8];
+    let mut i = 0;
+    while i < d {
+        found[i] = digits::signed(digits::number(src, at + 4 * i, 4) as u32);
+        i += 1;
+    }
+    found
+}
+
+pub fn scope_ok(p: Scope) -> bool
+    ensures { λ r. ⌜ r ≡ scopeOk p ⌝ }
+{
+    if 1 < p.from {
+        return false;
+    }
+    if 4096 < p.snapshot {
+        return false;
+    }
+    if 4095 < p.number {
+        return false;
+    }
+    if p.from == 1 {
+        return true;
+    }
+    if p.distance == 0 {
+        return p.number == 0;
+    }
+    false
+}
+
+pub fn put_scope(out: &mut [u8], at: usize, p: Scope)
+    requires { ⌜ 2 * (at + 21) ≤ length (now out) ⌝ }
+    ensures { λ _. ⌜ now (out .exit) ≡ over (now (out .entry)) at (scopeBytes p) ⌝ }
+{
+    digits::put(out, at, 8, p.reach);
+    digits::put(out, at + 8, 1, p.from as u64);
+    digits::put(out, at + 9, 2, p.snapshot as u64);
+    digits::put(out, at + 11, 8, p.distance);
+    digits::put(out, at + 19, 2, p.number as u64);
+}
+
+pub fn scope_at(src: &[u8], at: usize) -> Scope
+    requires { ⌜ at + 21 ≤ length (held (now src)) ⌝ }
+    ensures { λ r. ⌜ r ≡ scopeIn (drop at (held (now (src .entry)))) ⌝ }
+{
+    Scope {
+        reach: digits::number(src, at, 8),
+        from: digits::number(src, at + 8, 1) as u8,
+        snapshot: digits::number(src, at + 9, 2) as u16,
+        distance: digits::number(src, at + 11, 8),
+        number: digits::number(src, at + 19, 2) as u16,
+    }
+}
+
+// What an ask and an answer begin with, as values.
+pub struct Front {
+    pub table: u32,
+    pub measure: u8,
+    pub d: u8,
+    pub probe: [i32; 8],
+    pub scope: Scope,
+}
+
+pub fn put_front(out: &mut [u8], kind: u8, table: u32, measure: u8, d: u8, probe: &[i32], p: Scope)
+    requires { ⌜ 2 * (28 + 4 * length (now probe)) ≤ length (now out) ⌝ }
+    ensures { λ _. ⌜ now (out .exit) ≡ over (now (out .entry)) 0 (Fields·front kind table measure d (now (probe .entry)) p) ⌝ }
+{
+    put_head(out, kind, table, measure, d);
+    put_coords(out, 7, probe);
+    put_scope(out, 7 + 4 * probe.len(), p);
+}
+
+pub fn front_at(src: &[u8]) -> Front
+    requires { ⌜ Begun (held (now src)) ⌝ }
+    ensures { λ r. ⌜ r ≡ frontAt (held (now (src .entry))) ⌝ }
+{
+    let d = digits::number(src, 6, 1);
+    let probe = coords_at(src, 7, d as usize);
+    let scope = scope_at(src, 7 + 4 * d as usize);
+    Front {
+        table: digits::number(src, 1, 4) as u32,
+        measure: digits::number(src, 5, 1) as u8,
+        d: d as u8,
+        probe,
+        scope,
+    }
+}

@@ -1,0 +1,54 @@
+-- Demand 3 over any lines that obey the laws, in both orders, and with lines from elsewhere. Assumes nothing.
+use Prim.Native.Nat.{ℕ, _≤_}
+use mathlib.Core.Path.{_≡_, _∙_}
+use mathlib.Core.Bool.{true}
+use mathlib.Core.List.{List, List·Memᴰ}
+use native.Mathlib.Omega.{arith}
+use Rattle.paper.specs.Ends.{Codec, count, Listing}
+use Rattle.orders.proofs.Lists.{all-getD, all-mem}
+use Rattle.orders.specs.Laws.{Lawful}
+use Rattle.journey.specs.World.{World, noListing, theList, Reachable, Later, Unshared}
+use Rattle.journey.specs.Promise.{allOf, Truthful, MayAsk, Answered, Grows}
+use Rattle.journey.proofs.Kept.{Kept, Grown, grown-matches, kept-grown, kept-sound}
+use Rattle.journey.proofs.Growth.{Ready, is-answered, has-grown}
+use Rattle.journey.proofs.Journey.{Good, always, later-grown, later-reachable, later-lists}
+
+module _ (c : Codec) (law : Lawful c) (Elsewhere : List ℕ → Type 0) (w : World) (r : Reachable c Elsewhere w) where
+  module _ (L : Listing) (m : List·Memᴰ L (w .lists)) (alone : Unshared c Elsewhere (L .query .table)) where
+    kept : Kept (w .table) L
+    kept = all-mem _ L (w .lists) (always c law Elsewhere r .lists) m .kept alone
+
+    pub truthful : Truthful (w .table) L
+    truthful =
+        let ok = always c law Elsewhere r .table in
+        let few : count (w .table) ≤ 4096 = omega (arith, ok .fits, ok .small) in
+        record { sound = λ room h. kept-sound (w .table) L room kept few h; held = kept .held; front = kept .front; ours = kept .ours }
+
+    pub whole : L .complete ≡ true → L .items ≡ allOf (w .table) L
+    whole = kept .whole
+
+  -- a list that may ask in w is ready wherever its ask arrives later
+  ready : (v : World) (i size : ℕ) → Later c Elsewhere w v → Unshared c Elsewhere (theList w i .query .table) → MayAsk w i size
+      → Ready c (v .table) (theList w i) size
+  ready v i size l alone may =
+      let good : Good c law Elsewhere (w .table) (theList w i) =
+      all-getD _ (w .lists) i noListing (always c law Elsewhere r .lists) (may .here) in
+      let g : Grown (w .table) (v .table) = later-grown c law Elsewhere w l in
+      record {
+        table = always c law Elsewhere (later-reachable c law Elsewhere w r l) .table;
+        kept = kept-grown _ _ g (theList w i) (good .kept alone);
+        spoken = good .spoken;
+        ours = grown-matches _ _ g (theList w i .query) ∙ may .ours;
+        unfinished = may .unfinished;
+        one = may .one;
+        most = may .most;
+      }
+
+  module _ (v : World) (l : Later c Elsewhere w v) (i size : ℕ) (alone : Unshared c Elsewhere (theList w i .query .table)) (may : MayAsk w i size) where
+    pub answered : Answered c w v i size
+    answered = is-answered c law w v i size (ready w i size Later.now alone may) (ready v i size l alone may)
+
+    pub grows : (u : World) → Later c Elsewhere v u → theList u i ≡ theList w i → Grows c w v u i size
+    grows u k stands =
+        has-grown c law w v u i size (ready v i size l alone may) (later-grown c law Elsewhere v k) stands
+        (omega (arith, may .here, later-lists c law Elsewhere w l, later-lists c law Elsewhere v k))

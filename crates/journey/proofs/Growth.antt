@@ -1,0 +1,119 @@
+-- Of a list that is kept: its present ask is written and answered, the answer is taken, and how far it takes the list. Assumes nothing.
+use Prim.Native.Nat.{ℕ, _+_, _≤_, _<_}
+use mathlib.Core.Path.{_≡_, refl, ap, _∙_}
+use mathlib.Core.Bool.{Bool, true, false, cond}
+use mathlib.Core.List.{List, _++_, List·Memᴰ, List·Memᴰ·head}
+use native.Mathlib.Omega.{arith}
+use lib.ListN.{length, take, drop, length-append}
+use lib.Seq.{getD-set-same}
+use borrow.Author.Tests.{le-leb}
+use Rattle.paper.specs.Orders.{Item, listed, snapshotOf, following, pageOf, lastOf}
+use Rattle.paper.specs.Outcomes.{Outcome, gives, onto}
+use Rattle.paper.specs.Ends.{Ask, Answer, Codec, Table, count, matches, answerOf, answerTo, served, office, Listing, presentPlace, presentAsk, asking, joinedTo, taken, taking}
+use Rattle.orders.proofs.Tests.{and-both, false-not, must-pass}
+use Rattle.orders.specs.Laws.{AskOk, AnswerOk, Lawful}
+use Rattle.journey.specs.World.{World, noListing, theList, sent, moved, TableOk, next}
+use Rattle.journey.specs.Promise.{askOf, replyTo, Answered, Grows}
+use Rattle.journey.proofs.Kept.{Kept, Grown, grown-listed, kept-sound, Continues, continues, longer}
+use Rattle.journey.proofs.Answers.{asked-ok, answer-ok, present-snapshot, present-held, present-answered, reply-taken}
+
+-- a list that may ask this table for a page
+pub record Ready (c : Codec) (t : Table) (L : Listing) (size : ℕ) : Type 0 where
+  pub table : TableOk t
+  pub kept : Kept t L
+  pub spoken : c .speaks (L .query .order) ≡ true
+  pub ours : matches t (L .query) ≡ true
+  pub unfinished : L .complete ≡ false
+  pub one : 1 ≤ size
+  pub most : size ≤ 16
+
+module _ (c : Codec) (law : Lawful c) (t : Table) (L : Listing) (size : ℕ) (r : Ready c t L size) where
+  few : count t ≤ 4096
+  few = omega (arith, r .table .fits, r .table .small)
+
+  ask-ok : AskOk (presentAsk L size)
+  ask-ok =
+      asked-ok (length (L .items)) size L (r .kept .query) (kept-sound t L (length (L .items)) (r .kept) few (omega arith)) (r .unfinished) (r .one) (r .most)
+
+  held : snapshotOf (presentPlace L) (count t) ≤ count t
+  held = present-held t L (r .kept) (r .unfinished)
+
+  abbrev pub reply : Answer
+  reply = answerOf t (presentAsk L size)
+
+  reply-ok : AnswerOk reply
+  reply-ok = answer-ok t (presentAsk L size) (r .table) ask-ok held
+
+  pub asks-line : (room out : ℕ) → length (L .items) ≤ room → 123 ≤ out → asking c room size out L ≡ gives (askOf c L size)
+  unfolding asking
+  asks-line room out h g =
+      must-pass _ _ _ (kept-sound t L room (r .kept) few h) ∙ must-pass _ _ _ (false-not _ (r .unfinished))
+      ∙ must-pass _ _ _ (and-both _ _ (le-leb 1 size (r .one)) (le-leb size 16 (r .most))) ∙ must-pass _ _ _ (le-leb 123 out g)
+
+  pub office-line : (out : ℕ) → 573 ≤ out → office c t out (askOf c L size) ≡ gives (replyTo c t L size)
+  unfolding office served
+  office-line out h =
+      must-pass _ _ _ (le-leb 573 out h)
+      ∙ ap (λ (x : Outcome Ask). onto x (λ a. onto (answerTo t a) (λ y. gives (c .answerLine y)))) (law .ask-back (presentAsk L size) ask-ok (r .spoken))
+      ∙ ap (λ (x : Outcome Answer). onto x (λ y. gives (c .answerLine y))) (present-answered t L (r .kept) (r .unfinished) size (r .ours))
+
+  pub takes-line : (room : ℕ) → length (joinedTo L reply .items) ≤ room → taking c room L (replyTo c t L size) ≡ gives (joinedTo L reply)
+  unfolding taking joinedTo answerOf
+  takes-line room h =
+      must-pass _ _ _ (kept-sound t L room (r .kept) few (omega (arith, length-append (L .items) (reply .items))))
+      ∙ ap (λ (x : Outcome Answer). onto x (λ y. taken room L y)) (law .answer-back reply reply-ok (r .spoken))
+      ∙ reply-taken t L size room (r .unfinished) (r .one) h
+
+  -- the snapshot that the answer carries, and what the list then lacks
+  abbrev at : ℕ
+  at = snapshotOf (presentPlace L) (count t)
+
+  module _ (u : Table) (g : Grown t u) where
+    same : listed (L .query) (u .claims) at ≡ listed (L .query) (t .claims) at
+    same = grown-listed t u g (L .query) at held
+
+    on : Continues t L at
+    on =
+        continues t L at (r .kept) (r .unfinished)
+        (λ p. present-snapshot t L (r .kept) (r .unfinished) ∙ ap (λ (b : Bool). cond b (L .snapshot) (count t)) p)
+
+    pub lacking : following (L .query) (t .claims) (presentPlace L) ≡ drop (length (L .items)) (listed (L .query) (u .claims) at)
+    unfolding following
+    lacking = rw same (on .lacks)
+
+    pub joined-front : L .items ++ pageOf (L .query) (t .claims) (presentPlace L) size ≡ take (length (L .items) + size) (listed (L .query) (u .claims) at)
+    unfolding pageOf following
+    joined-front = rw same (longer t L at size on (r .one) .items)
+
+-- what a call gave is in the air, or in its list's place
+sent-has : (w : World) (x : Outcome (List ℕ)) (s : List ℕ) → x ≡ gives s → List·Memᴰ s (sent w x .air)
+sent-has w x s e = rw e (List·Memᴰ·head refl)
+
+moved-is : (w : World) (i : ℕ) (x : Outcome Listing) (L : Listing) → x ≡ gives L → i < length (w .lists) → theList (moved w i x) i ≡ L
+moved-is w i x L e here = rw e (getD-set-same (w .lists) i L noListing here)
+
+module _ (c : Codec) (law : Lawful c) where
+  pub is-answered : (w v : World) (i size : ℕ) → Ready c (w .table) (theList w i) size → Ready c (v .table) (theList w i) size → Answered c w v i size
+  unfolding next
+  is-answered w v i size before after =
+      record {
+        written = λ room out h g. sent-has w _ _ (asks-line c law (w .table) (theList w i) size before room out h g);
+        answered = λ out h. sent-has v _ _ (office-line c law (v .table) (theList w i) size after out h);
+      }
+
+  pub has-grown : (w v u : World) (i size : ℕ) → Ready c (v .table) (theList w i) size → Grown (v .table) (u .table) → theList u i ≡ theList w i
+      → i < length (u .lists) → Grows c w v u i size
+  unfolding next joinedTo answerOf pageOf
+  has-grown w v u i size r g stands here =
+      let L : Listing = theList w i in
+      let t : Table = v .table in
+      record {
+        grown = joinedTo L (answerOf t (presentAsk L size));
+        accepted = λ room h.
+            moved-is u i _ _ (ap (λ (X : Listing). taking c room X (replyTo c t L size)) stands ∙ takes-line c law t L size r room h) here;
+        more = ap (λ (l : List Item). L .items ++ take size l) (lacking c law t L size r (u .table) g);
+        front = joined-front c law t L size r (u .table) g;
+        complete = ap (lastOf size) (lacking c law t L size r (u .table) g);
+        query = refl;
+        snapshot = present-snapshot t L (r .kept) (r .unfinished);
+      }

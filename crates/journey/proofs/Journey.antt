@@ -1,0 +1,253 @@
+-- What holds of every reachable world: the table only grows, every line of the air is honest, every list is kept. Assumes nothing.
+use Prim.Native.Nat.{ℕ, _+_, _<_, _≤_, _^_}
+use mathlib.Core.Path.{_≡_, refl, sym, ap, _∙_}
+use mathlib.Core.Logic.{_⊎_, inl, inr, ⊎-elim}
+use mathlib.Core.Bool.{true, not}
+use mathlib.Core.List.{List, [], _∷_, _++_, List·Memᴰ, List·Memᴰ·append-cases}
+use native.Mathlib.Omega.{arith}
+use lib.ListN.{length, length-append, length-set}
+use lib.Dec.{leb, eqb}
+use borrow.Author.Tests.{leb-true, eqb-true, not-true}
+use Rattle.paper.specs.declared.orders.Order.{Order}
+use Rattle.paper.specs.Points.{Claim}
+use Rattle.paper.specs.Orders.{Query}
+use Rattle.paper.specs.Tree.{inRange}
+use Rattle.paper.specs.Outcomes.{Outcome, refused, gives}
+use Rattle.paper.specs.Ends.{Ask, Answer, Codec, Table, count, answerOf, answerTo, served, answerRoom, office, Listing, fresh, opening, presentAsk, every, soundIn, sizeHolds, askRoom, asking, taking}
+use Rattle.orders.proofs.Tests.{and-left, and-right, must-test, must-rest, through, same-given}
+use Rattle.orders.proofs.Lists.{All, all-map, all-append, all-set, all-getD, all-mem}
+use Rattle.orders.proofs.Taking.{took, took-query, fits-present}
+use Rattle.orders.specs.Laws.{Typed, QueryOk, AskOk, AnswerOk, Lawful}
+use Rattle.journey.specs.World.{World, Event, enters, opens, asks, receives, takes, strays, noListing, theList, entering, entered, sent, added, moved, next, Allowed, TableOk, Reachable, begins, goes, Later, now, onwards, Unshared}
+use Rattle.journey.proofs.Kept.{Kept, Vouched, kept-fresh, Grown, grown-same, grown-trans, kept-grown, vouched-grown, kept-joined}
+use Rattle.journey.proofs.Answers.{asked-ok, answer-ok, replied, answer-vouched}
+
+-- what entering gave
+record Entered (t : Table) (run : List Claim) (u : Table) : Type 0 where
+  roomy : count t + length run ≤ t .capacity
+  is : u ≡ record { number = t .number; measure = t .measure; d = t .d; capacity = t .capacity; claims = t .claims ++ run }
+
+was-entered : (t : Table) (run : List Claim) (u : Table) → entering t run ≡ gives u → Entered t run u
+unfolding entering
+was-entered t run u e =
+    let e1 = must-rest (every (λ k. eqb (length (k .place)) (t .d)) run) 5 _ _ e in
+    record {
+      roomy = leb-true _ _ (must-test (leb (count t + length run) (t .capacity)) 3 _ _ e1);
+      is = sym (same-given _ _ (must-rest (leb (count t + length run) (t .capacity)) 3 _ _ e1));
+    }
+
+-- a table that enters a run only grows
+entered-grown : (t : Table) (run : List Claim) (u : Table) → Entered t run u → Grown t u
+entered-grown t run u e = rw (e .is) (record { more = run; claims = refl; number = refl; measure = refl; d = refl })
+
+entered-ok : (t : Table) (run : List Claim) (u : Table) → Entered t run u → TableOk t → ((k : Claim) → List·Memᴰ k run → k .reference < 2 ^ 32)
+    → TableOk u
+entered-ok t run u e ok typed =
+    rw (e .is) (record {
+      fits = omega (arith, e .roomy, length-append (t .claims) run);
+      small = ok .small;
+      references = λ k m. ⊎-elim (λ a. ok .references k a) (λ a. typed k a) (List·Memᴰ·append-cases (t .claims) m);
+    })
+
+module _ (c : Codec) (law : Lawful c) (Elsewhere : List ℕ → Type 0) where
+  -- a line of the air, read as an answer, is one that the office gave, or comes from elsewhere
+  abbrev pub Honest : Table → List ℕ → Type 0
+  Honest t s = (o : Order) (y : Answer) → c .readAnswer o s ≡ gives y → Vouched t y ⊎ Elsewhere s
+
+  pub record Good (t : Table) (L : Listing) : Type 0 where
+    pub query : QueryOk (L .query)
+    pub spoken : c .speaks (L .query .order) ≡ true
+    pub kept : Unshared c Elsewhere (L .query .table) → Kept t L
+
+  pub record Inv (w : World) : Type 0 where
+    pub table : TableOk (w .table)
+    pub air : All (Honest (w .table)) (w .air)
+    pub lists : All (Good (w .table)) (w .lists)
+
+  enters-inv : (w : World) (run : List Claim) → Inv w → ((k : Claim) → List·Memᴰ k run → k .reference < 2 ^ 32) → (r : Outcome Table)
+      → entering (w .table) run ≡ r → Inv (entered w r)
+  enters-inv w run i typed (refused n) e = i
+  enters-inv w run i typed (gives u) e =
+      let ent = was-entered (w .table) run u e in
+      let g = entered-grown (w .table) run u ent in
+      record {
+        table = entered-ok (w .table) run u ent (i .table) typed;
+        air = all-map _ _ (λ s h o y e. ⊎-elim (λ v. inl (vouched-grown _ _ g y v)) (λ f. inr f) (h o y e)) (w .air) (i .air);
+        lists = all-map _ _ (λ L h. record { query = h .query; spoken = h .spoken; kept = λ a. kept-grown _ _ g L (h .kept a) }) (w .lists) (i .lists);
+      }
+
+  opens-inv : (w : World) (q : Query) → Inv w → Typed q → c .speaks (q .order) ≡ true → (r : Outcome Listing) → opening q ≡ r → Inv (added w r)
+  unfolding opening
+  opens-inv w q i typed spoken (refused n) e = i
+  opens-inv w q i typed spoken (gives L) e =
+      let e1 = must-rest (inRange (q .measure) (q .d)) 1 _ _ e in
+      let ok : QueryOk q =
+      record {
+        range = must-test (inRange (q .measure) (q .d)) 1 _ _ e;
+        long = eqb-true _ _ (must-test (eqb (length (q .probe)) (q .d)) 5 _ _ e1);
+        typed = typed;
+      } in
+      let is : fresh q ≡ L = same-given _ _ (must-rest (eqb (length (q .probe)) (q .d)) 5 _ _ e1) in
+      record {
+        table = i .table;
+        air = i .air;
+        lists = all-append _ (w .lists) (L ∷ []) (i .lists)
+            (rw (← is) (record { query = ok; spoken = spoken; kept = λ a. kept-fresh (w .table) q ok }), tt);
+      }
+
+  -- a line that joins the air
+  sent-inv : (w : World) (s : List ℕ) → Inv w → Honest (w .table) s → Inv (sent w (gives s))
+  sent-inv w s i h = record { table = i .table; air = (h, i .air); lists = i .lists }
+
+  asks-inv : (w : World) (L : Listing) (room size out : ℕ) → Inv w → QueryOk (L .query) → (r : Outcome (List ℕ)) → asking c room size out L ≡ r
+      → Inv (sent w r)
+  unfolding asking
+  asks-inv w L room size out i ok (refused k) e = i
+  asks-inv w L room size out i ok (gives s) e =
+      let e1 = must-rest (soundIn room L) 2 _ _ e in
+      let e2 = must-rest (not (L .complete)) 16 _ _ e1 in
+      let e3 = must-rest (sizeHolds size) 6 _ _ e2 in
+      let sound = must-test (soundIn room L) 2 _ _ e in
+      let unfinished = not-true _ (must-test (not (L .complete)) 16 _ _ e1) in
+      let ranged = must-test (sizeHolds size) 6 _ _ e2 in
+      let is : c .askLine (presentAsk L size) ≡ s = same-given _ _ (must-rest (askRoom out) 12 _ _ e3) in
+      let ask : AskOk (presentAsk L size) =
+      asked-ok room size L ok sound unfinished (leb-true _ _ (and-left _ _ ranged)) (leb-true _ _ (and-right (leb 1 size) _ ranged)) in
+      sent-inv w s i (λ o y r. absurd (law .ask-kind o (presentAsk L size) y ask (rw is r)))
+
+  -- a line that the office wrote reads as what it wrote
+  reads-back : (t : Table) (y : Answer) → AnswerOk y → c .speaks (y .query .order) ≡ true → Vouched t y → Honest t (c .answerLine y)
+  reads-back t y ok spoken v o x r =
+      let p : o ≡ y .query .order = law .answer-kind o y x ok spoken r in
+      let q : x ≡ y = same-given _ _ (sym (rw p at r) ∙ law .answer-back y ok spoken) in
+      inl (rw q v)
+
+  receives-inv : (w : World) (s : List ℕ) (out : ℕ) → Inv w → (r : Outcome (List ℕ)) → office c (w .table) out s ≡ r → Inv (sent w r)
+  unfolding office served
+  receives-inv w s out i (refused k) e = i
+  receives-inv w s out i (gives z) e =
+      let a1 = through (c .readAsk s) _ _ (must-rest (answerRoom out) 12 _ _ e) in
+      let a : Ask = a1 .value in
+      let a2 = through (answerTo (w .table) a) _ _ (a1 .second) in
+      let y : Answer = a2 .value in
+      let ok = law .ask-ok s a (a1 .first) in
+      let rep = replied (w .table) a y (a2 .first) in
+      let yok : AnswerOk y = rw (rep .is) (answer-ok (w .table) a (i .table) (ok .0) (rep .held)) in
+      let v : Vouched (w .table) y = rw (rep .is) (answer-vouched (w .table) a (rep .ours) (rep .held) (ok .0 .one)) in
+      let spoken : c .speaks (y .query .order) ≡ true = unfold answerOf in rw (rep .is) (ok .1) in
+      let is : c .answerLine y ≡ z = same-given _ _ (a2 .second) in
+      sent-inv w z i (rw (← is) (reads-back (w .table) y yok spoken v))
+
+  -- whatever line comes, from the air or a file: a list that takes it stays what it promised
+  pub line-keeps : (t : Table) (room : ℕ) (L K : Listing) (s : List ℕ) → Honest t s → Unshared c Elsewhere (L .query .table) → Kept t L
+      → taking c room L s ≡ gives K → Kept t K
+  unfolding taking Unshared
+  line-keeps t room L K s honest alone k e =
+      let a1 = through (c .readAnswer (L .query .order) s) _ _ (must-rest (soundIn room L) 2 _ _ e) in
+      let y : Answer = a1 .value in
+      let ok = law .answer-ok (L .query .order) s y (a1 .first) in
+      let tk = took room L y K (a1 .second) in
+      let fits = fits-present L y (k .query .long) (ok .0) (ok .1) (tk .present) in
+      ⊎-elim
+      (λ v. rw (tk .is) (kept-joined t L y k v (tk .unfinished) fits))
+      (λ f. absurd (alone s f (L .query .order) y (a1 .first) (ap (λ (q : Query). q .table) (sym (fits .query)))))
+      (honest (L .query .order) y (a1 .first))
+
+  same-query : (room : ℕ) (L K : Listing) (s : List ℕ) → taking c room L s ≡ gives K → K .query ≡ L .query
+  unfolding taking
+  same-query room L K s e =
+      let a1 = through (c .readAnswer (L .query .order) s) _ _ (must-rest (soundIn room L) 2 _ _ e) in
+      took-query room L (a1 .value) K (took room L (a1 .value) K (a1 .second))
+
+  takes-inv : (w : World) (j room : ℕ) (s : List ℕ) → Inv w → j < length (w .lists) → List·Memᴰ s (w .air) → (r : Outcome Listing)
+      → taking c room (theList w j) s ≡ r → Inv (moved w j r)
+  takes-inv w j room s i hj m (refused k) e = i
+  takes-inv w j room s i hj m (gives K) e =
+      let L : Listing = theList w j in
+      let q : K .query ≡ L .query = same-query room L K s e in
+      let good : Good (w .table) L = all-getD _ (w .lists) j noListing (i .lists) hj in
+      let keeps : Unshared c Elsewhere (K .query .table) → Kept (w .table) K =
+      λ u. let v : Unshared c Elsewhere (L .query .table) = rw q at u in
+      line-keeps (w .table) room L K s (all-mem _ s (w .air) (i .air) m) v (good .kept v) e in
+      record {
+        table = i .table;
+        air = i .air;
+        lists = all-set _ (w .lists) j K (i .lists) (record { query = rw q (good .query); spoken = rw q (good .spoken); kept = keeps });
+      }
+
+  step-inv : (w : World) (e : Event) → Inv w → Allowed c Elsewhere w e → Inv (next c w e)
+  unfolding next Allowed
+  step-inv w (enters run) i a = enters-inv w run i a _ refl
+  step-inv w (opens q) i a = opens-inv w q i (a .0) (a .1) _ refl
+  step-inv w (asks j size room out) i a = asks-inv w (theList w j) room size out i (all-getD _ (w .lists) j noListing (i .lists) a .query) _ refl
+  step-inv w (receives s out) i a = receives-inv w s out i _ refl
+  step-inv w (takes j room s) i a = takes-inv w j room s i (a .0) (a .1) _ refl
+  step-inv w (strays s) i a = sent-inv w s i (λ o y r. inr a)
+
+  pub always : {w : World} → Reachable c Elsewhere w → Inv w
+  always (begins t ok) = record { table = ok; air = tt; lists = tt }
+  always (goes {w} r e a) = step-inv w e (always r) a
+
+  -- each event leaves the table as it was, or enters a run
+  entered-same : (w : World) (run : List Claim) (x : Outcome Table) → entering (w .table) run ≡ x → Grown (w .table) (entered w x .table)
+  entered-same w run (refused n) e = grown-same _
+  entered-same w run (gives u) e = entered-grown (w .table) run u (was-entered (w .table) run u e)
+
+  added-same : (w : World) (x : Outcome Listing) → Grown (w .table) (added w x .table)
+  added-same w (refused n) = grown-same _
+  added-same w (gives L) = grown-same _
+
+  sent-same : (w : World) (x : Outcome (List ℕ)) → Grown (w .table) (sent w x .table)
+  sent-same w (refused n) = grown-same _
+  sent-same w (gives s) = grown-same _
+
+  moved-same : (w : World) (i : ℕ) (x : Outcome Listing) → Grown (w .table) (moved w i x .table)
+  moved-same w i (refused n) = grown-same _
+  moved-same w i (gives L) = grown-same _
+
+  table-next : (w : World) (e : Event) → Grown (w .table) (next c w e .table)
+  unfolding next
+  table-next w (enters run) = entered-same w run _ refl
+  table-next w (opens q) = added-same w (opening q)
+  table-next w (asks i size room out) = sent-same w (asking c room size out (theList w i))
+  table-next w (receives s out) = sent-same w (office c (w .table) out s)
+  table-next w (takes i room s) = moved-same w i (taking c room (theList w i) s)
+  table-next w (strays s) = grown-same _
+
+  pub later-grown : (w : World) {v : World} → Later c Elsewhere w v → Grown (w .table) (v .table)
+  later-grown w now = grown-same _
+  later-grown w (onwards {v} l e a) = grown-trans _ _ _ (later-grown w l) (table-next v e)
+
+  pub later-reachable : (w : World) {v : World} → Reachable c Elsewhere w → Later c Elsewhere w v → Reachable c Elsewhere v
+  later-reachable w r now = r
+  later-reachable w r (onwards l e a) = goes (later-reachable w r l) e a
+
+  -- no list is ever lost
+  added-lists : (w : World) (x : Outcome Listing) → length (w .lists) ≤ length (added w x .lists)
+  added-lists w (refused n) = omega arith
+  added-lists w (gives L) = omega (arith, length-append (w .lists) (L ∷ []))
+
+  sent-lists : (w : World) (x : Outcome (List ℕ)) → length (w .lists) ≤ length (sent w x .lists)
+  sent-lists w (refused n) = omega arith
+  sent-lists w (gives s) = omega arith
+
+  entered-lists : (w : World) (x : Outcome Table) → length (w .lists) ≤ length (entered w x .lists)
+  entered-lists w (refused n) = omega arith
+  entered-lists w (gives t) = omega arith
+
+  moved-lists : (w : World) (i : ℕ) (x : Outcome Listing) → length (w .lists) ≤ length (moved w i x .lists)
+  moved-lists w i (refused n) = omega arith
+  moved-lists w i (gives L) = omega (arith, length-set (w .lists) i L)
+
+  lists-next : (w : World) (e : Event) → length (w .lists) ≤ length (next c w e .lists)
+  unfolding next
+  lists-next w (enters run) = entered-lists w (entering (w .table) run)
+  lists-next w (opens q) = added-lists w (opening q)
+  lists-next w (asks i size room out) = sent-lists w (asking c room size out (theList w i))
+  lists-next w (receives s out) = sent-lists w (office c (w .table) out s)
+  lists-next w (takes i room s) = moved-lists w i (taking c room (theList w i) s)
+  lists-next w (strays s) = omega arith
+
+  pub later-lists : (w : World) {v : World} → Later c Elsewhere w v → length (w .lists) ≤ length (v .lists)
+  later-lists w now = omega arith
+  later-lists w (onwards {v} l e a) = omega (arith, later-lists w l, lists-next v e)

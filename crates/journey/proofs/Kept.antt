@@ -1,0 +1,205 @@
+-- What holds of every list and of every answer, at every moment, and that an answer which is taken keeps it. Assumes nothing.
+use Prim.Native.Nat.{ℕ, zero, suc, _+_, _<_, _≤_}
+use mathlib.Core.Path.{_≡_, refl, sym, ap, _∙_}
+use mathlib.Core.Bool.{Bool, true, false, cond, _&&_, _||_, not}
+use mathlib.Core.List.{List, [], _++_, append-nil, append-assoc}
+use native.Mathlib.Omega.{arith}
+use lib.ListN.{length, take, drop, length-take, length-drop, length-append}
+use lib.Seq.{take-all}
+use lib.Dec.{leb, eqb}
+use borrow.Author.Tests.{lt-ltb, le-leb, eq-eqb}
+use Rattle.paper.specs.declared.orders.Place.{Place}
+use Rattle.paper.specs.Points.{Claim}
+use Rattle.paper.specs.Orders.{Item, noItem, Query, listed, rest, lastOf}
+use Rattle.paper.specs.Ends.{Answer, Table, count, matches, Listing, fresh, presentPlace, fitting, startedWell, soundIn, joinedTo}
+use Rattle.orders.proofs.Tests.{never, and-both, or-right}
+use Rattle.orders.proofs.Lists.{All, all-map, all-take, every-true, front-length, join-front, last-of-front}
+use Rattle.orders.proofs.Sorted.{Rising, rising-take, rising-test, IsOf, listed-are, listed-rising, listed-grown, rest-start, rest-next}
+use Rattle.orders.proofs.Page.{last-all, last-more}
+use Rattle.orders.proofs.Taking.{present-start, present-after, Fits}
+use Rattle.orders.specs.Laws.{QueryOk}
+use Rattle.journey.specs.Promise.{allOf}
+
+pub record Kept (t : Table) (L : Listing) : Type 0 where
+  pub query : QueryOk (L .query)
+  pub unstarted : L .started ≡ false → L ≡ fresh (L .query)
+  pub ours : L .started ≡ true → matches t (L .query) ≡ true
+  pub held : L .snapshot ≤ count t
+  pub front : L .items ≡ take (length (L .items)) (allOf t L)
+  pub whole : L .complete ≡ true → L .items ≡ allOf t L
+  pub going : L .started ≡ true → L .complete ≡ false → 0 < length (L .items)
+
+-- what follows a place in the list of the first s claims
+abbrev pub after : Table → Query → Place → ℕ → List Item
+after t q p s = rest (q .order) p (listed q (t .claims) s)
+
+-- an answer that this table gave, at some count up to now
+pub record Vouched (t : Table) (y : Answer) : Type 0 where
+  pub ours : matches t (y .query) ≡ true
+  pub held : y .snapshot ≤ count t
+  pub size : ℕ
+  pub one : 1 ≤ size
+  pub page : y .items ≡ take size (after t (y .query) (y .place) (y .snapshot))
+  pub flag : y .last ≡ lastOf size (after t (y .query) (y .place) (y .snapshot))
+
+-- a list that was just opened
+pub kept-fresh : (t : Table) (q : Query) → QueryOk q → Kept t (fresh q)
+kept-fresh t q ok =
+    record {
+      query = ok;
+      unstarted = λ p. refl;
+      ours = λ p. absurd (never (sym p));
+      held = omega arith;
+      front = refl;
+      whole = λ p. absurd (never (sym p));
+      going = λ p. absurd (never (sym p));
+    }
+
+-- a table that only grew
+pub record Grown (t u : Table) : Type 0 where
+  pub more : List Claim
+  pub claims : u .claims ≡ t .claims ++ more
+  pub number : u .number ≡ t .number
+  pub measure : u .measure ≡ t .measure
+  pub d : u .d ≡ t .d
+
+pub grown-same : (t : Table) → Grown t t
+grown-same t = record { more = []; claims = sym (append-nil (t .claims)); number = refl; measure = refl; d = refl }
+
+pub grown-trans : (t u v : Table) → Grown t u → Grown u v → Grown t v
+grown-trans t u v g h =
+    record {
+      more = g .more ++ h .more;
+      claims = h .claims ∙ ap (λ (l : List Claim). l ++ h .more) (g .claims) ∙ append-assoc (t .claims) (g .more) (h .more);
+      number = h .number ∙ g .number;
+      measure = h .measure ∙ g .measure;
+      d = h .d ∙ g .d;
+    }
+
+module _ (t u : Table) (g : Grown t u) where
+  grown-count : count t ≤ count u
+  grown-count = omega (arith, ap length (g .claims), length-append (t .claims) (g .more))
+
+  pub grown-matches : (q : Query) → matches u q ≡ matches t q
+  unfolding matches
+  grown-matches q = rw (g .number, g .measure, g .d)
+
+  pub grown-listed : (q : Query) (s : ℕ) → s ≤ count t → listed q (u .claims) s ≡ listed q (t .claims) s
+  grown-listed q s p = rw (g .claims) (listed-grown q (t .claims) (g .more) s p)
+
+  pub kept-grown : (L : Listing) → Kept t L → Kept u L
+  kept-grown L k =
+      let e : allOf u L ≡ allOf t L = grown-listed (L .query) (L .snapshot) (k .held) in
+      record {
+        query = k .query;
+        unstarted = k .unstarted;
+        ours = λ p. grown-matches (L .query) ∙ k .ours p;
+        held = omega (arith, k .held, grown-count);
+        front = rw e (k .front);
+        whole = λ p. rw e (k .whole p);
+        going = k .going;
+      }
+
+  pub vouched-grown : (y : Answer) → Vouched t y → Vouched u y
+  vouched-grown y v =
+      let e : listed (y .query) (u .claims) (y .snapshot) ≡ listed (y .query) (t .claims) (y .snapshot) =
+      grown-listed (y .query) (y .snapshot) (v .held) in
+      record {
+        ours = grown-matches (y .query) ∙ v .ours;
+        held = omega (arith, v .held, grown-count);
+        size = v .size;
+        one = v .one;
+        page = rw e (v .page);
+        flag = rw e (v .flag);
+      }
+
+-- what follows that place is what the list lacks
+pub record Continues (t : Table) (L : Listing) (s : ℕ) : Type 0 where
+  pub had : L .items ≡ take (length (L .items)) (listed (L .query) (t .claims) s)
+  pub lacks : after t (L .query) (presentPlace L) s ≡ drop (length (L .items)) (listed (L .query) (t .claims) s)
+
+pub continues : (t : Table) (L : Listing) (s : ℕ) → Kept t L → L .complete ≡ false → (L .started ≡ true → s ≡ L .snapshot) → Continues t L s
+continues t L s k c same = go (L .started) refl (length (L .items)) refl
+  where
+    go : (b : Bool) → L .started ≡ b → (n : ℕ) → length (L .items) ≡ n → Continues t L s
+    go false q n e =
+        let z : L .items ≡ [] = ap (λ (X : Listing). X .items) (k .unstarted q) in
+        record { had = rw z; lacks = rw (present-start L q, z) (rest-start (L .query .order) _) }
+    go true q zero e = absurd (omega (arith, k .going q c))
+    go true q (suc j) e =
+        let l : List Item = allOf t L in
+        let w = last-of-front (L .items) l j (k .front) e in
+        record {
+          had = rw (same q) (k .front);
+          lacks = rw (present-after L q, same q, w .0, e) (rest-next (L .query .order) _ l j noItem (listed-rising (L .query) (t .claims) (L .snapshot)) (w .1));
+        }
+
+-- a page of size n joined to the list
+pub record Longer (t : Table) (L : Listing) (s n : ℕ) (r : List Item) (last : Bool) : Type 0 where
+  pub items : L .items ++ r ≡ take (length (L .items) + n) (listed (L .query) (t .claims) s)
+  pub whole : last ≡ true → L .items ++ r ≡ listed (L .query) (t .claims) s
+  pub some : last ≡ false → 0 < length (L .items ++ r)
+
+pub longer : (t : Table) (L : Listing) (s n : ℕ) → Continues t L s → 1 ≤ n
+    → Longer t L s n (take n (after t (L .query) (presentPlace L) s)) (lastOf n (after t (L .query) (presentPlace L) s))
+longer t L s n c one =
+    let l : List Item = listed (L .query) (t .claims) s in
+    let f : List Item = after t (L .query) (presentPlace L) s in
+    let e : L .items ++ take n f ≡ take (length (L .items) + n) l = join-front (L .items) l f n (c .had) (c .lacks) in
+    record {
+      items = e;
+      whole = λ q. e ∙ take-all (length (L .items) + n) l (omega (arith, last-all n f q, ap length (c .lacks), length-drop (length (L .items)) l));
+      some = λ q. omega (arith, last-more n f q, length-take n f, length-append (L .items) (take n f));
+    }
+
+pub kept-joined : (t : Table) (L : Listing) (y : Answer) → Kept t L → Vouched t y → L .complete ≡ false → Fits L y → Kept t (joinedTo L y)
+unfolding joinedTo
+kept-joined t L y k v c f =
+    let pg : y .items ≡ take (v .size) (after t (L .query) (presentPlace L) (y .snapshot)) = rw (f .place, f .query) (v .page) in
+    let fl : y .last ≡ lastOf (v .size) (after t (L .query) (presentPlace L) (y .snapshot)) = rw (f .place, f .query) (v .flag) in
+    let lo = longer t L (y .snapshot) (v .size) (continues t L (y .snapshot) k c (f .snapshot)) (v .one) in
+    record {
+      query = k .query;
+      unstarted = λ z. absurd (never z);
+      ours = λ z. rw (f .query) (v .ours);
+      held = v .held;
+      front = front-length _ (length (L .items) + v .size) _ (rw pg (lo .items));
+      whole = λ z. rw pg (lo .whole (sym fl ∙ z));
+      going = λ z q. rw pg (lo .some (sym fl ∙ q));
+    }
+
+-- the items of a list
+module _ (t : Table) (L : Listing) (k : Kept t L) where
+  pub kept-are : All (IsOf (L .query) (t .claims) (L .snapshot)) (L .items)
+  kept-are = rw (k .front) (all-take _ (length (L .items)) _ (listed-are (L .query) (t .claims) (L .snapshot)))
+
+  kept-rising : Rising (L .query .order) (L .items)
+  kept-rising = rw (k .front) (rising-take (L .query .order) (length (L .items)) _ (listed-rising (L .query) (t .claims) (L .snapshot)))
+
+pub is-fitting : (q : Query) (cs : List Claim) (s : ℕ) (x : Item) → IsOf q cs s x → fitting (q .reach) s x ≡ true
+is-fitting q cs s x p = and-both _ _ (le-leb (x .distance) (q .reach) (p .within)) (lt-ltb (x .number) s (p .below))
+
+started-well : (t : Table) (L : Listing) → Kept t L → startedWell L ≡ true
+unfolding startedWell
+started-well t L k = go (L .started) (L .complete) refl refl
+  where
+    go : (b f : Bool) → L .started ≡ b → L .complete ≡ f
+        → cond b (leb 1 (length (L .items)) || f) (eqb (length (L .items)) 0 && (eqb (L .snapshot) 0 && not f)) ≡ true
+    go true true p q = or-right (leb 1 (length (L .items))) true refl
+    go true false p q = let e : 1 ≤ length (L .items) = k .going p q in rw (le-leb 1 (length (L .items)) e)
+    go false f p q =
+        let a : L .items ≡ [] = ap (λ (X : Listing). X .items) (k .unstarted p) in
+        let b : L .snapshot ≡ 0 = ap (λ (X : Listing). X .snapshot) (k .unstarted p) in
+        let e : f ≡ false = sym q ∙ ap (λ (X : Listing). X .complete) (k .unstarted p) in
+        rw (a, b, e)
+
+pub kept-sound : (t : Table) (L : Listing) (room : ℕ) → Kept t L → count t ≤ 4096 → length (L .items) ≤ room → soundIn room L ≡ true
+unfolding soundIn
+kept-sound t L room k small r =
+    and-both _ _ (k .query .range)
+    (and-both _ _ (eq-eqb _ _ (k .query .long))
+    (and-both _ _ (le-leb (L .snapshot) 4096 (omega (arith, k .held)))
+    (and-both _ _ (le-leb (length (L .items)) room r)
+    (and-both _ _ (rising-test (L .query .order) (L .items) (kept-rising t L k))
+    (and-both _ _ (every-true _ (L .items) (all-map _ _ (λ x p. is-fitting (L .query) (t .claims) (L .snapshot) x p) (L .items) (kept-are t L k)))
+    (started-well t L k))))))

@@ -1,0 +1,5 @@
+pub mod Keeping
+pub mod Moving
+pub mod Placing
+pub mod Walks
+pub mod Leaves

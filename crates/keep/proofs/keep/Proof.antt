@@ -1,0 +1,98 @@
+-- `keep::keep` meets its contract. Assumes nothing.
+use Rattle.keep.proofs.Placing.{keep-full, keep-same, keep-more, keep-over}
+use borrow.Author.Needs.{needs}
+use Rattle.keep.proofs.keep.Statement.{statement}
+use Rattle.keep.proofs.keep.Tie as tie
+
+place-requires : tie.Need-place-requires
+place-requires c κs = search needs
+
+same-length : tie.Need-same-length
+same-length c = search needs
+
+returns : tie.Need-returns
+returns c = keep-full _ _ _ _ _ _ _ _ (c .before .before .before .before .pre) (c .before .place .ensures) (c .if1 .taken)
+
+held-requires : tie.Need-held-requires
+held-requires c κs = search needs
+
+same-length-2 : tie.Need-same-length-2
+same-length-2 c = search needs
+
+returns-2 : tie.Need-returns-2
+returns-2 c = keep-same _ _ _ _ _ _ _ _ (c .before .before .before .before .before .before .before .pre) (c .before .before .before .before .place .ensures) _ (c .before .held .ensures) (c .if2 .taken)
+
+mul-shift : tie.Need-mul-shift
+mul-shift c = search needs
+
+mul-shift-2 : tie.Need-mul-shift-2
+mul-shift-2 c = search needs
+
+shift-requires : tie.Need-shift-requires
+shift-requires c κs = search needs
+
+mul-write : tie.Need-mul-write
+mul-write c = search needs
+
+write-requires : tie.Need-write-requires
+write-requires c κs = search needs
+
+add-result : tie.Need-add-result
+add-result c = search needs
+
+same-length-3 : tie.Need-same-length-3
+same-length-3 c = search needs
+
+returns-3 : tie.Need-returns-3
+returns-3 c = keep-more _ _ _ _ _ _ _ _ (c .before .before .before .before .before .before .before .before .before .before .before .before .before .before .before .before .pre) (c .before .before .before .before .before .before .before .before .before .before .before .before .before .place .ensures) _ _ (c .before .before .before .before .before .before .before .before .if3 .taken) (c .before .before .before .before .before .before .shift .ensures) (c .before .before .write .ensures) _ (c .before .before .before .before .before .before .before .before .before .before .held .ensures) (c .before .before .before .before .before .before .before .before .before .if2 .left)
+
+mul-shift-3 : tie.Need-mul-shift-3
+mul-shift-3 c = search needs
+
+mul-shift-4 : tie.Need-mul-shift-4
+mul-shift-4 c = search needs
+
+sub-shift : tie.Need-sub-shift
+sub-shift c = search needs
+
+shift-requires-2 : tie.Need-shift-requires-2
+shift-requires-2 c κs = search needs
+
+mul-write-2 : tie.Need-mul-write-2
+mul-write-2 c = search needs
+
+write-requires-2 : tie.Need-write-requires-2
+write-requires-2 c κs = search needs
+
+same-length-4 : tie.Need-same-length-4
+same-length-4 c = search needs
+
+returns-4 : tie.Need-returns-4
+returns-4 c = keep-over _ _ _ _ _ _ _ _ (c .before .before .before .before .before .before .before .before .before .before .before .before .before .before .before .before .pre) (c .before .before .before .before .before .before .before .before .before .before .before .before .before .place .ensures) _ _ (c .before .before .before .before .before .before .before .before .if3 .left) (c .before .before .before .before .before .before .before .before .before .before .before .before .if1 .left) (c .before .before .before .before .before .before .shift2 .ensures) (c .before .before .write2 .ensures) _ (c .before .before .before .before .before .before .before .before .before .before .held .ensures) (c .before .before .before .before .before .before .before .before .before .if2 .left)
+
+pub keep-spec : {M : Type 1} → statement M
+keep-spec =
+    tie.close
+    (tie.spec
+    place-requires
+    same-length
+    returns
+    held-requires
+    same-length-2
+    returns-2
+    mul-shift
+    mul-shift-2
+    shift-requires
+    mul-write
+    write-requires
+    add-result
+    same-length-3
+    returns-3
+    mul-shift-3
+    mul-shift-4
+    sub-shift
+    shift-requires-2
+    mul-write-2
+    write-requires-2
+    same-length-4
+    returns-4)

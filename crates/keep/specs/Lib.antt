@@ -1,0 +1,3 @@
+pub mod Page
+pub mod Kept
+pub mod Skips

@@ -1,0 +1,228 @@
+// The leaves of the walk: what a question admits, when a branch may be skipped, and keeping the first so many, in order, in the
+// front of the caller's room, three numbers an item: number, reference, distance.
+ghost use mathlib.Core.Path.{_≡_};
+ghost use Prim.Native.Nat.{_+_, _*_, _<_, _≤_};
+ghost use lib.ListN.{length};
+ghost use lib.Dec.{ltb};
+ghost use Rattle.paper.specs.Orders.{before};
+ghost use Rattle.paper.specs.Orders.{rank as Orders·rank};
+ghost use Rattle.keep.specs.Kept.{Roomy, PlaceIs, shifted, written, heldAt, KeepIs};
+ghost use Rattle.keep.specs.Skips.{admitted, boundOf, halfOf, beyondOf, passedOf};
+use paper::orders::Mark;
+use paper::orders::Order;
+
+// A question to a table, as the walk asks it.
+pub struct Asked {
+    pub order: Order,
+    pub measure: u8,
+    pub d: usize,
+    // How many claims the table has, and how many rooms are in use.
+    pub claims: usize,
+    pub used: usize,
+    pub reach: u64,
+    pub snapshot: u64,
+    // Whether the mark applies.
+    pub after: bool,
+    pub mark: Mark,
+    // The page size.
+    pub size: usize,
+}
+
+// The order's rank of a distance. Far order turns the distances round.
+pub fn rank(order: Order, x: u64) -> u64
+    ensures { λ r. ⌜ r ≡ Orders·rank order x ⌝ }
+{
+    match order {
+        Order::Near => x,
+        Order::Far => 0xffff_ffff_ffff_ffff - x,
+    }
+}
+
+// Whether distance y and number j come after distance x and number k.
+pub fn follows(order: Order, x: u64, k: u64, y: u64, j: u64) -> bool
+    ensures { λ r. ⌜ r ≡ before order x k y j ⌝ }
+{
+    let a = rank(order, x);
+    let b = rank(order, y);
+    if a < b {
+        return true;
+    }
+    if b < a {
+        return false;
+    }
+    k < j
+}
+
+// Whether claim k, at distance x, is admitted.
+pub fn admits(ask: Asked, x: u64, k: u64) -> bool
+    ensures { λ r. ⌜ r ≡ admitted ask x k ⌝ }
+{
+    let order = ask.order;
+    let snapshot = ask.snapshot;
+    let reach = ask.reach;
+    let after = ask.after;
+    if snapshot <= k {
+        return false;
+    }
+    if reach < x {
+        return false;
+    }
+    if after {
+        return follows(order, ask.mark.distance, ask.mark.number, x, k);
+    }
+    true
+}
+
+// Whether no claim within `far` of one at rank x can be at rank `bound` or before.
+pub fn too_far(bound: u64, x: u64, far: u64) -> bool
+    ensures { λ r. ⌜ r ≡ ltb (bound + far) x ⌝ }
+{
+    if x <= far {
+        return false;
+    }
+    if bound < x - far {
+        return true;
+    }
+    false
+}
+
+// Whether every claim below a side, whose claim is at rank x and the other's at rank y, is on the side's half too deep to be at
+// rank `bound` or before. Near order only.
+pub fn halfway(order: Order, bound: u64, x: u64, y: u64, s: usize) -> bool
+    requires { ⌜ s < 2 ⌝ }
+    ensures { λ r. ⌜ r ≡ halfOf order bound x y s ⌝ }
+{
+    if let Order::Far = order {
+        return false;
+    }
+    if x < y {
+        return false;
+    }
+    let apart = x - y;
+    if apart < bound {
+        return false;
+    }
+    let rest = apart - bound;
+    if s == 0 {
+        return bound < rest;
+    }
+    bound <= rest
+}
+
+// Whether no claim below side s can be at rank `bound` or before.
+pub fn beyond(order: Order, bound: u64, x: u64, y: u64, s: usize, far: u64) -> bool
+    requires { ⌜ s < 2 ⌝ }
+    ensures { λ r. ⌜ r ≡ beyondOf order bound x y s far ⌝ }
+{
+    if too_far(bound, x, far) {
+        return true;
+    }
+    halfway(order, bound, x, y, s)
+}
+
+// Whether every claim within `far` of one at rank x comes before the mark.
+pub fn passed(ask: Asked, x: u64, far: u64) -> bool
+    ensures { λ r. ⌜ r ≡ passedOf ask x far ⌝ }
+{
+    let order = ask.order;
+    let after = ask.after;
+    if after {
+        return too_far(x, rank(order, ask.mark.distance), far);
+    }
+    false
+}
+
+// The place of distance x and number k among the first `count` items.
+fn place(order: Order, room: &[u64], count: usize, x: u64, k: u64) -> usize
+    requires { ⌜ (count * 3 ≤ length (now room)) × (count ≤ 16) ⌝ }
+    ensures { λ r. ⌜ PlaceIs order (now (room .entry)) count x k r ⌝ }
+{
+    let mut i = count;
+    while 0 < i {
+        if follows(order, room[i * 3 - 1], room[i * 3 - 3], x, k) {
+            return i;
+        }
+        i -= 1;
+    }
+    i
+}
+
+// Moves the numbers from a to e up by three.
+fn shift(room: &mut [u64], a: usize, e: usize)
+    requires { ⌜ (a ≤ e) × (e + 3 ≤ length (now room)) ⌝ }
+    ensures { λ _. ⌜ now (room .exit) ≡ shifted a e (now (room .entry)) ⌝ }
+{
+    let mut i = e;
+    while a < i {
+        room[i + 2] = room[i - 1];
+        i -= 1;
+    }
+}
+
+// Puts three numbers at a.
+fn write(room: &mut [u64], a: usize, x: u64, y: u64, z: u64)
+    requires { ⌜ a + 3 ≤ length (now room) ⌝ }
+    ensures { λ _. ⌜ now (room .exit) ≡ written a x y z (now (room .entry)) ⌝ }
+{
+    room[a] = x;
+    room[a + 1] = y;
+    room[a + 2] = z;
+}
+
+// Whether item p is there, and is claim k.
+fn held(room: &[u64], p: usize, count: usize, k: u64) -> bool
+    requires { ⌜ (count * 3 ≤ length (now room)) × (count ≤ 16) ⌝ }
+    ensures { λ r. ⌜ r ≡ heldAt (now (room .entry)) p count k ⌝ }
+{
+    if p < count {
+        return room[p * 3] == k;
+    }
+    false
+}
+
+// Puts claim k, with reference y and distance x, in its place among the first `count` items; the last falls out where there are
+// `size` already. Gives how many items there are then.
+pub fn keep(
+    order: Order,
+    size: usize,
+    room: &mut [u64],
+    count: usize,
+    k: u64,
+    y: u64,
+    x: u64,
+) -> usize
+    requires { ⌜ Roomy size (now room) count ⌝ }
+    ensures { λ r. ⌜ KeepIs order size (now (room .entry)) count k y x (now (room .exit)) r ⌝ }
+{
+    let p = place(order, room, count, x, k);
+    if p == size {
+        return count;
+    }
+    if held(room, p, count, k) {
+        return count;
+    }
+    if count < size {
+        shift(room, p * 3, count * 3);
+        write(room, p * 3, k, y, x);
+        return count + 1;
+    }
+    shift(room, p * 3, count * 3 - 3);
+    write(room, p * 3, k, y, x);
+    count
+}
+
+// The greatest rank still wanted.
+pub fn wanted(ask: Asked, room: &[u64], count: usize) -> u64
+    requires { ⌜ Roomy (ask .size) (now room) count ⌝ }
+    ensures { λ r. ⌜ r ≡ boundOf ask (now (room .entry)) count ⌝ }
+{
+    let size = ask.size;
+    let order = ask.order;
+    if count < size {
+        return match order {
+            Order::Near => ask.reach,
+            Order::Far => 0xffff_ffff_ffff_ffff,
+        };
+    }
+    rank(order, room[size * 3 - 1])
+}

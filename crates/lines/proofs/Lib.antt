@@ -1,0 +1,6 @@
+pub mod Ways
+pub mod Tests
+pub mod AskRound
+pub mod AnswerRound
+pub mod ClaimRound
+pub mod OneKind

@@ -1,0 +1,266 @@
+-- What the tests of the three kinds say, and how long their frames are. No contract cites this file. Assumes nothing.
+use Prim.Native.Nat.{ℕ, _+_, _-_, _*_, _≤_, _<_}
+use native.Mathlib.Omega.{arith}
+use mathlib.Core.Path.{_≡_, refl, sym, ap, _∙_}
+use mathlib.Core.Bool.{Bool, true, false, _&&_, _||_}
+use mathlib.Core.List.{List, _++_}
+use lib.ListN.{length, drop, length-append}
+use lib.Seq.{drop-drop}
+use lib.Dec.{leb, eqb}
+use lib.IntN.{ℤ}
+use borrow.Author.Tests.{leb-true, eqb-true, eq-eqb, ne-eqb, le-leb, lt-leb}
+use Rattle.paper.specs.Frames.{be, num}
+use Rattle.paper.specs.Fields.{ranged, head, front, coordBytes, scopeIn, scopeOk, itemBytes, itemsIn, itemPlaces, numbersOk, referencesOk}
+use Rattle.paper.specs.Lines.{headOk, behind, askFrame, askRanges, askFits, askOk, askAt, answerFrame, answerRanges, answerFits, countIn, answerOk, answerAt, claimFrame, claimFits, claimOk}
+use Rattle.paper.specs.declared.lines.Scope.{Scope}
+use Rattle.digits.proofs.Laws.{and-false, and-both, Bytes, bytes-append, bytes-be, length-be}
+use Rattle.fields.specs.Fronts.{Begun, frontAt}
+use Rattle.fields.specs.declared.parts.Front.{Front}
+use Rattle.fields.proofs.PartLaws.{Ranged, ranged-yes, Headed, is-head, length-front, bytes-front, length-head, bytes-head, length-coordBytes, bytes-coordBytes}
+use Rattle.fields.proofs.ItemLaws.{length-items, bytes-items}
+use Rattle.fields.proofs.Round.{behind-eq}
+
+and-true : (t : Bool) → t && true ≡ t
+and-true true = refl
+and-true false = refl
+
+-- where what stands behind the mark number begins
+pub last-at : (f : List ℕ) (at : ℕ) → at ≡ 28 + 4 * num 1 (drop 6 f) → drop at f ≡ drop 21 (behind f)
+unfolding behind
+last-at f at e = let q : at ≡ 7 + 4 * num 1 (drop 6 f) + 21 = omega arith in rw (drop-drop, q)
+
+-- ---- ask
+
+pub length-ask : (k t m d : ℕ) (cs : List ℤ) (p : Scope) (s : ℕ) → length (askFrame k t m d cs p s) ≡ 29 + 4 * length cs
+unfolding askFrame
+length-ask k t m d cs p s = simp (length-append, length-front, length-be) (omega arith)
+
+pub bytes-ask : (k t m d : ℕ) (cs : List ℤ) (p : Scope) (s : ℕ) → Bytes (askFrame k t m d cs p s)
+unfolding askFrame
+bytes-ask k t m d cs p s = bytes-append (front k t m d cs p) (be 1 s) (bytes-front k t m d cs p) (bytes-be 1 s)
+
+pub page-size : (p : Scope) (s : ℕ) → askRanges p s ≡ true → s ≤ 16
+unfolding askRanges
+page-size p s e =
+    let a = and-both (scopeOk p) ((eqb (p .from) 1 || eqb (p .snapshot) 0) && (leb 1 s && leb s 16)) e in
+    let b = and-both (eqb (p .from) 1 || eqb (p .snapshot) 0) (leb 1 s && leb s 16) (a .1) in
+    leb-true s 16 (and-both (leb 1 s) (leb s 16) (b .1) .1)
+
+-- what the writer's test says
+pub record AskFits (m d : ℕ) (cs : List ℤ) (p : Scope) (s : ℕ) : Type 0 where
+  pub test : ranged m d ≡ true
+  pub range : Ranged m d
+  pub count : length cs ≡ d
+  pub rest : askRanges p s ≡ true
+
+pub ask-fits : (m d : ℕ) (cs : List ℤ) (p : Scope) (s : ℕ) → askFits m d cs p s ≡ true → AskFits m d cs p s
+unfolding askFits
+ask-fits m d cs p s e =
+    let a = and-both (ranged m d) (eqb (length cs) d && askRanges p s) e in
+    let b = and-both (eqb (length cs) d) (askRanges p s) (a .1) in
+    record { test = a .0; range = ranged-yes m d (a .0); count = eqb-true (length cs) d (b .0); rest = b .1 }
+
+-- what the reader's test says
+pub record AskFrame (k : ℕ) (f : List ℕ) : Type 0 where
+  pub headed : Headed k f
+  pub size : length f ≡ 29 + 4 * num 1 (drop 6 f)
+  pub rest : askRanges (scopeIn (behind f)) (num 1 (drop 21 (behind f))) ≡ true
+
+pub is-ask : (k : ℕ) (f : List ℕ) → askOk k f ≡ true → AskFrame k f
+unfolding askOk
+is-ask k f e =
+    let last = askRanges (scopeIn (behind f)) (num 1 (drop 21 (behind f))) in
+    let size = eqb (length f) (29 + 4 * num 1 (drop 6 f)) in
+    let p = and-both (headOk k f) (size && last) e in
+    let q = and-both size last (p .1) in
+    record { headed = is-head k f (p .0); size = eqb-true (length f) (29 + 4 * num 1 (drop 6 f)) (q .0); rest = q .1 }
+
+pub ask-begun : (k : ℕ) (f : List ℕ) → askOk k f ≡ true → Begun f
+ask-begun k f e = let p = is-ask k f e in record { few = p .headed .range .d-high; long = omega arith }
+
+-- the ask that a frame holds, from its parts
+pub ask-value : (f : List ℕ) (x : Front) (at s : ℕ) → x ≡ frontAt f → at ≡ 28 + 4 * x .d → s ≡ num 1 (drop at f)
+    → record { table = x .table; measure = x .measure; d = x .d; probe = x .probe; scope = x .scope; size = s } ≡ askAt f
+unfolding askAt frontAt
+ask-value f x at s e q v =
+    let h : at ≡ 28 + 4 * num 1 (drop 6 f) = q ∙ ap (λ (y : Front). 28 + 4 * y .d) e in
+    rw (e, v, last-at f at h)
+
+-- the rules behind a scope that is in range, one after the other
+module _ (p : Scope) (s : ℕ) (e : scopeOk p ≡ true) where
+  pub page-low : s < 1 → askRanges p s ≡ false
+  unfolding askRanges
+  page-low h = rw (e, lt-leb 1 s h) (and-false (eqb (p .from) 1 || eqb (p .snapshot) 0))
+
+  pub page-high : 1 ≤ s → 16 < s → askRanges p s ≡ false
+  unfolding askRanges
+  page-high l h = rw (e, le-leb 1 s l, lt-leb s 16 h) (and-false (eqb (p .from) 1 || eqb (p .snapshot) 0))
+
+  pub placed : 1 ≤ s → s ≤ 16 → p .from ≡ 1 → askRanges p s ≡ true
+  unfolding askRanges
+  placed l h q = rw (e, le-leb 1 s l, le-leb s 16 h, eq-eqb (p .from) 1 q)
+
+  pub unplaced : 1 ≤ s → s ≤ 16 → (p .from ≡ 1 → ⊥) → askRanges p s ≡ eqb (p .snapshot) 0
+  unfolding askRanges
+  unplaced l h q = rw (e, le-leb 1 s l, le-leb s 16 h, ne-eqb (p .from) 1 q) (and-true (eqb (p .snapshot) 0))
+
+-- what is left to test where the head and the length are right
+pub ask-rule : (k : ℕ) (f : List ℕ) (d : ℕ) → headOk k f ≡ true → d ≡ num 1 (drop 6 f) → length f ≡ 29 + 4 * d
+    → askOk k f ≡ askRanges (scopeIn (drop (7 + 4 * d) f)) (num 1 (drop (7 + 4 * d + 21) f))
+unfolding askOk behind
+ask-rule k f d h e l = rw (h, ← e, l, eq-eqb (29 + 4 * d) (29 + 4 * d) refl, drop-drop)
+
+-- ---- answer
+
+pub length-answer : (k t m d : ℕ) (cs : List ℤ) (p : Scope) (last n : ℕ) (ns : List ℕ) → length ns ≡ 3 * n
+    → length (answerFrame k t m d cs p last n ns) ≡ 30 + 4 * length cs + 14 * n
+unfolding answerFrame
+length-answer k t m d cs p last n ns e =
+    let l = length-items n ns e in
+    simp (length-append, length-front, length-be) (omega arith)
+
+pub bytes-answer : (k t m d : ℕ) (cs : List ℤ) (p : Scope) (last n : ℕ) (ns : List ℕ) → Bytes (answerFrame k t m d cs p last n ns)
+unfolding answerFrame
+bytes-answer k t m d cs p last n ns =
+    bytes-append (front k t m d cs p) (be 1 last ++ (be 1 n ++ itemBytes ns)) (bytes-front k t m d cs p)
+    (bytes-append (be 1 last) (be 1 n ++ itemBytes ns) (bytes-be 1 last) (bytes-append (be 1 n) (itemBytes ns) (bytes-be 1 n) (bytes-items ns)))
+
+-- what the writer's test says
+pub record AnswerFits (m d : ℕ) (cs : List ℤ) (p : Scope) (last n : ℕ) (ns : List ℕ) : Type 0 where
+  pub test : ranged m d ≡ true
+  pub range : Ranged m d
+  pub probe : length cs ≡ d
+  pub rest : answerRanges p last n ≡ true
+  pub last-high : last ≤ 1
+  pub few : n ≤ 16
+  pub count : length ns ≡ 3 * n
+  pub references : referencesOk ns ≡ true
+  pub numbers : numbersOk ns ≡ true
+
+pub few-items : (p : Scope) (last n : ℕ) → answerRanges p last n ≡ true → (last ≤ 1) × (n ≤ 16)
+unfolding answerRanges
+few-items p last n e =
+    let a = and-both (scopeOk p) (leb last 1 && leb n 16) e in
+    let b = and-both (leb last 1) (leb n 16) (a .1) in
+    (leb-true last 1 (b .0), leb-true n 16 (b .1))
+
+pub answer-fits : (m d : ℕ) (cs : List ℤ) (p : Scope) (last n : ℕ) (ns : List ℕ) → answerFits m d cs p last n ns ≡ true → AnswerFits m d cs p last n ns
+unfolding answerFits
+answer-fits m d cs p last n ns e =
+    let t5 = referencesOk ns && numbersOk ns in
+    let t4 = eqb (length ns) (3 * n) && t5 in
+    let t3 = answerRanges p last n && t4 in
+    let a = and-both (ranged m d) (eqb (length cs) d && t3) e in
+    let b = and-both (eqb (length cs) d) t3 (a .1) in
+    let r = and-both (answerRanges p last n) t4 (b .1) in
+    let s = and-both (eqb (length ns) (3 * n)) t5 (r .1) in
+    let u = and-both (referencesOk ns) (numbersOk ns) (s .1) in
+    let w = few-items p last n (r .0) in
+    record {
+      test = a .0;
+      range = ranged-yes m d (a .0);
+      probe = eqb-true (length cs) d (b .0);
+      rest = r .0;
+      last-high = w .0;
+      few = w .1;
+      count = eqb-true (length ns) (3 * n) (s .0);
+      references = u .0;
+      numbers = u .1;
+    }
+
+-- what the reader's test says
+pub record AnswerFrame (k : ℕ) (f : List ℕ) : Type 0 where
+  pub headed : Headed k f
+  pub size : length f ≡ 30 + 4 * num 1 (drop 6 f) + 14 * countIn f
+  pub rest : answerRanges (scopeIn (behind f)) (num 1 (drop 21 (behind f))) (countIn f) ≡ true
+  pub few : countIn f ≤ 16
+  pub numbers : numbersOk (itemsIn (countIn f) (drop 23 (behind f))) ≡ true
+
+pub is-answer : (k : ℕ) (f : List ℕ) → answerOk k f ≡ true → AnswerFrame k f
+unfolding answerOk
+is-answer k f e =
+    let numbers = numbersOk (itemsIn (countIn f) (drop 23 (behind f))) in
+    let ranges = answerRanges (scopeIn (behind f)) (num 1 (drop 21 (behind f))) (countIn f) in
+    let size = eqb (length f) (30 + 4 * num 1 (drop 6 f) + 14 * countIn f) in
+    let p = and-both (headOk k f) (size && (ranges && numbers)) e in
+    let q = and-both size (ranges && numbers) (p .1) in
+    let r = and-both ranges numbers (q .1) in
+    record {
+      headed = is-head k f (p .0);
+      size = eqb-true (length f) (30 + 4 * num 1 (drop 6 f) + 14 * countIn f) (q .0);
+      rest = r .0;
+      few = few-items (scopeIn (behind f)) (num 1 (drop 21 (behind f))) (countIn f) (r .0) .1;
+      numbers = r .1;
+    }
+
+pub answer-begun : (k : ℕ) (f : List ℕ) → answerOk k f ≡ true → Begun f
+answer-begun k f e = let p = is-answer k f e in record { few = p .headed .range .d-high; long = omega arith }
+
+-- where the item count stands
+pub count-at : (f : List ℕ) (at : ℕ) → at ≡ 28 + 4 * num 1 (drop 6 f) → countIn f ≡ num 1 (drop (at + 1) f)
+unfolding countIn behind
+count-at f at e =
+    let q : 7 + 4 * num 1 (drop 6 f) + 22 ≡ at + 1 = omega arith in
+    rw (drop-drop, q)
+
+-- where the items stand
+pub items-from : (f : List ℕ) (at : ℕ) → at ≡ 28 + 4 * num 1 (drop 6 f) → drop (at + 2) f ≡ drop 23 (behind f)
+unfolding behind
+items-from f at e = let q : at + 2 ≡ 7 + 4 * num 1 (drop 6 f) + 23 = omega arith in rw (drop-drop, q)
+
+-- the answer that a frame holds, from its parts
+pub answer-value : (f : List ℕ) (x : Front) (at last n : ℕ) (ns : List ℕ) → x ≡ frontAt f → at ≡ 28 + 4 * x .d → last ≡ num 1 (drop at f) → n ≡ num 1 (drop (at + 1) f) → ns ≡ itemPlaces n (itemsIn n (drop (at + 2) f))
+    → record { table = x .table; measure = x .measure; d = x .d; probe = x .probe; scope = x .scope; last = last; count = n; items = ns } ≡ answerAt f
+unfolding answerAt frontAt
+answer-value f x at last n ns e q v w z =
+    let h : at ≡ 28 + 4 * num 1 (drop 6 f) = q ∙ ap (λ (y : Front). 28 + 4 * y .d) e in
+    let c : n ≡ countIn f = w ∙ sym (count-at f at h) in
+    rw (e, z, v, last-at f at h, items-from f at h, c)
+
+-- what is left to test where the head and the length are right
+pub answer-rule : (k : ℕ) (f : List ℕ) (at n : ℕ) → headOk k f ≡ true → at ≡ 28 + 4 * num 1 (drop 6 f) → n ≡ num 1 (drop (at + 1) f) → length f ≡ at + 2 + 14 * n
+    → answerOk k f ≡ answerRanges (scopeIn (drop (at - 21) f)) (num 1 (drop at f)) n && numbersOk (itemsIn n (drop (at + 2) f))
+unfolding answerOk
+answer-rule k f at n h e c l =
+    let d = num 1 (drop 6 f) in
+    let q : countIn f ≡ n = count-at f at e ∙ sym c in
+    let e0 : 7 + 4 * d ≡ at - 21 = omega arith in
+    let e1 : at - 21 + 21 ≡ at = omega arith in
+    let e2 : at - 21 + 23 ≡ at + 2 = omega arith in
+    let e3 : length f ≡ 30 + 4 * d + 14 * n = omega arith in
+    rw (h, q, e3, eq-eqb (30 + 4 * d + 14 * n) (30 + 4 * d + 14 * n) refl, behind-eq f, e0, drop-drop 21 (at - 21) f, drop-drop 23 (at - 21) f, e1, e2)
+
+-- ---- claim
+
+pub length-claim : (t m d r : ℕ) (cs : List ℤ) → length (claimFrame t m d r cs) ≡ 11 + 4 * length cs
+unfolding claimFrame
+length-claim t m d r cs = simp (length-append, length-head, length-be, length-coordBytes) (omega arith)
+
+pub bytes-claim : (t m d r : ℕ) (cs : List ℤ) → Bytes (claimFrame t m d r cs)
+unfolding claimFrame
+bytes-claim t m d r cs =
+    bytes-append (head 3 t m d) (be 4 r ++ coordBytes cs) (bytes-head 3 t m d)
+    (bytes-append (be 4 r) (coordBytes cs) (bytes-be 4 r) (bytes-coordBytes cs))
+
+-- what the writer's test says
+pub record ClaimFits (m d : ℕ) (cs : List ℤ) : Type 0 where
+  pub test : ranged m d ≡ true
+  pub range : Ranged m d
+  pub count : length cs ≡ d
+
+pub claim-fits : (m d : ℕ) (cs : List ℤ) → claimFits m d cs ≡ true → ClaimFits m d cs
+unfolding claimFits
+claim-fits m d cs e =
+    let a = and-both (ranged m d) (eqb (length cs) d) e in
+    record { test = a .0; range = ranged-yes m d (a .0); count = eqb-true (length cs) d (a .1) }
+
+-- what the reader's test says
+pub record ClaimFrame (f : List ℕ) : Type 0 where
+  pub headed : Headed 3 f
+  pub size : length f ≡ 11 + 4 * num 1 (drop 6 f)
+
+pub is-claim : (f : List ℕ) → claimOk f ≡ true → ClaimFrame f
+unfolding claimOk
+is-claim f e =
+    let p = and-both (headOk 3 f) (eqb (length f) (11 + 4 * num 1 (drop 6 f))) e in
+    record { headed = is-head 3 f (p .0); size = eqb-true (length f) (11 + 4 * num 1 (drop 6 f)) (p .1) }

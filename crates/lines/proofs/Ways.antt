@@ -1,0 +1,83 @@
+-- The ways through a writer and through a reader, whatever the kind, and the line end that every writer stores. Assumes nothing.
+use Prim.Native.Nat.{ℕ, suc, _+_, _*_, _/_, _≤_, _<_}
+use native.Mathlib.Omega.{arith}
+use mathlib.Core.Path.{_≡_, refl, sym, ap, _∙_}
+use mathlib.Core.Bool.{Bool, true, false, cond}
+use mathlib.Core.List.{List, [], _∷_, _++_, append-assoc}
+use lib.ListN.{length, getD, take, drop, set}
+use lib.Seq.{drop-cons, set-at, take-at}
+use borrow.Author.Tests.{le-leb, lt-leb}
+use Rattle.paper.specs.Frames.{hexes, lineOf, frameOf, sound, written}
+use Rattle.paper.specs.Lines.{wrote, room, Writes, reading}
+use Rattle.paper.specs.declared.lines.Wrote.the-variants.{Line, Refused}
+use Rattle.digits.specs.Places.{over, held}
+use Rattle.digits.proofs.Laws.{over-eq, length-hexes, length-line, length-frame, held-all, sound-size}
+
+-- ---- writers
+
+line-eq : (f : List ℕ) → lineOf f ≡ hexes f ++ (10 ∷ [])
+unfolding lineOf
+line-eq f = refl
+
+-- the line end behind a frame that stands in the room
+pub finish : (o f : List ℕ) (n : ℕ) → n ≡ 2 * length f → n < length o → set (over o 0 f) n 10 ≡ written f o
+unfolding written
+finish o f n e h =
+    let l = length-line f in
+    let e1 : 2 * 0 + 2 * length f ≡ n = omega arith in
+    let e2 : length (lineOf f) ≡ suc n = omega arith in
+    rw (over-eq o 0 f, e1, e2, drop-cons o n 0 h, line-eq f)
+    (set-at (hexes f) (getD o n 0) (drop (suc n) o) 10 n (length-hexes f ∙ sym e) ∙ sym (append-assoc (hexes f) (10 ∷ []) (drop (suc n) o)))
+
+module _ {b : Bool} {need : ℕ} {f o : List ℕ} where
+  pub wrote-line : {r : ℕ} {x : List ℕ} → b ≡ true → need ≤ length o → r ≡ length (lineOf f) → x ≡ written f o → Writes b need f o (Line r) x
+  unfolding wrote room
+  wrote-line {r} {x} e h p q = record { answer = rw (e, le-leb need (length o) h) (ap Line p); after = rw (e, le-leb need (length o) h) q }
+
+  pub refused-12 : b ≡ true → length o < need → Writes b need f o (Refused 12) o
+  unfolding wrote room
+  refused-12 e h = record { answer = rw (e, lt-leb need (length o) h); after = rw (e, lt-leb need (length o) h) }
+
+  pub refused-10 : b ≡ false → Writes b need f o (Refused 10) o
+  unfolding wrote room
+  refused-10 e = record { answer = rw e; after = rw e }
+
+-- the front of the room that a writer filled is the line
+pub front-is-line : (f o : List ℕ) → take (length (lineOf f)) (written f o) ≡ lineOf f
+unfolding written
+front-is-line f o = take-at (lineOf f) (drop (length (lineOf f)) o) (length (lineOf f)) refl
+
+-- ---- readers
+
+-- a sound line's frame fits the buffer of 286 bytes
+pub buffered : (l : List ℕ) → sound l ≡ true → length l / 2 ≤ 286
+buffered l e = omega (arith, sound-size l e)
+
+-- what the front of the buffer holds that `unhex` filled
+pub framed : (l o x : List ℕ) (r : ℕ) → r ≡ length l / 2 → x ≡ frameOf l ++ drop r o → held (take r x) ≡ frameOf l
+framed l o x r e q =
+    held-all (take r x) ∙ ap (take r) q ∙ take-at (frameOf l) (drop r o) r (length-frame l ∙ sym e)
+
+module _ {A : Type 0} (ok : List ℕ → Bool) (value : List ℕ → A) (none : ℕ → A) (l : List ℕ) where
+  pub reads : sound l ≡ true → ok (frameOf l) ≡ true → reading ok value none l ≡ value (frameOf l)
+  unfolding reading
+  reads s k = rw (s, k)
+
+  pub reads-10 : sound l ≡ true → ok (frameOf l) ≡ false → reading ok value none l ≡ none 10
+  unfolding reading
+  reads-10 s k = rw (s, k)
+
+  pub reads-9 : sound l ≡ false → reading ok value none l ≡ none 9
+  unfolding reading
+  reads-9 s = rw s
+
+-- a reader that refused nothing found both tests true
+accepted-of : {A : Type 0} (s k : Bool) (good : A) (none : ℕ → A) (refusal : A → ℕ) → ((n : ℕ) → refusal (none n) ≡ n) → refusal (cond s (cond k good (none 10)) (none 9)) ≡ 0 → (s ≡ true) × (k ≡ true)
+accepted-of true true good none refusal r e = (refl, refl)
+accepted-of true false good none refusal r e = absurd (omega (arith, r 10))
+accepted-of false k good none refusal r e = absurd (omega (arith, r 9))
+
+pub accepted : {A : Type 0} (ok : List ℕ → Bool) (value : List ℕ → A) (none : ℕ → A) (refusal : A → ℕ) (l : List ℕ)
+    → ((n : ℕ) → refusal (none n) ≡ n) → refusal (reading ok value none l) ≡ 0 → (sound l ≡ true) × (ok (frameOf l) ≡ true)
+unfolding reading
+accepted ok value none refusal l r e = accepted-of (sound l) (ok (frameOf l)) (value (frameOf l)) none refusal r e

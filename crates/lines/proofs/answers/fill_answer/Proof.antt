@@ -1,0 +1,78 @@
+use Prim.Native.Nat.{_+_, _*_}
+use native.Mathlib.Omega.{arith}
+use mathlib.Core.Path.{_≡_, sym, _∙_}
+use lib.ListN.{length, length-set}
+use Rattle.paper.specs.Fields.{front}
+use Rattle.paper.specs.Lines.{answerFrame}
+use Rattle.digits.specs.Places.{over}
+use Rattle.digits.proofs.Laws.{length-line}
+use Rattle.fields.proofs.PartLaws.{over-to, length-front}
+use Rattle.lines.proofs.Ways.{finish}
+use Rattle.lines.proofs.Tests.{length-answer}
+use borrow.Author.Needs.{needs}
+use Rattle.lines.proofs.answers.fill_answer.Statement.{statement}
+use Rattle.lines.proofs.answers.fill_answer.Tie as tie
+
+put-front-requires : tie.Need-put-front-requires
+put-front-requires c κs = search needs
+
+mul-put-tail : tie.Need-mul-put-tail
+mul-put-tail c = search needs
+
+add-put-tail : tie.Need-add-put-tail
+add-put-tail c = search needs
+
+put-tail-requires : tie.Need-put-tail-requires
+put-tail-requires c κs = search needs
+
+mul-n : tie.Need-mul-n
+mul-n c = search needs
+
+add-n : tie.Need-add-n
+add-n c = search needs
+
+mul-n-2 : tie.Need-mul-n-2
+mul-n-2 c = search needs
+
+add-n-2 : tie.Need-add-n-2
+add-n-2 c = search needs
+
+slice-write-out : tie.Need-slice-write-out
+slice-write-out c = search needs
+
+add-result : tie.Need-add-result
+add-result c = search needs
+
+same-length : tie.Need-same-length
+same-length c = simp length-set (omega arith)
+
+returns : tie.Need-returns
+unfolding answerFrame
+returns c =
+    let a = c .before .before .before .before .before .before .before .before .before .before .args in
+    let n = length (a .probe .now) in
+    let b = front (a .kind) (a .table) (a .measure) (a .d) (a .probe .now) (a .p) in
+    let f = answerFrame (a .kind) (a .table) (a .measure) (a .d) (a .probe .now) (a .p) (a .last) (a .count) (a .items .now) in
+    let lb = length-front (a .kind) (a .table) (a .measure) (a .d) (a .probe .now) (a .p) in
+    let l = length-answer (a .kind) (a .table) (a .measure) (a .d) (a .probe .now) (a .p) (a .last) (a .count) (a .items .now) (c .before .before .before .before .before .before .before .before .before .before .pre .1 .0) in
+    let ll = length-line f in
+    let e : c .before .before .put-tail .last .0 ≡ over (a .out .now) 0 f =
+    c .before .before .put-tail .ensures ∙ sym (over-to (a .out .now) (c .before .before .before .before .before .before .put-front .last .0) 0 (28 + 4 * n) b _ (omega arith) (omega arith) (c .before .before .before .before .before .before .put-front .ensures)) in
+    (omega arith, rw e (finish (a .out .now) f (60 + 8 * n + 28 * a .count) (omega arith) (omega arith)))
+
+pub fill-answer-spec : {M : Type 1} → statement M
+fill-answer-spec =
+    tie.close
+    (tie.spec
+    put-front-requires
+    mul-put-tail
+    add-put-tail
+    put-tail-requires
+    mul-n
+    add-n
+    mul-n-2
+    add-n-2
+    slice-write-out
+    add-result
+    same-length
+    returns)

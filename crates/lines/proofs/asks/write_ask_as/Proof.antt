@@ -1,0 +1,35 @@
+use native.Mathlib.Omega.{arith}
+use mathlib.Core.Path.{sym, _∙_}
+use Rattle.lines.proofs.Ways.{wrote-line, refused-12, refused-10}
+use Rattle.lines.proofs.Tests.{ask-fits}
+use borrow.Author.Needs.{needs}
+use Rattle.lines.proofs.asks.write_ask_as.Statement.{statement}
+use Rattle.lines.proofs.asks.write_ask_as.Tie as tie
+
+ask-fits-requires : tie.Need-ask-fits-requires
+ask-fits-requires c κs = search needs
+
+returns : tie.Need-returns
+returns c = refused-12 (sym (c .before .before .ask-fits .ensures) ∙ c .before .if1 .taken) (c .if2 .taken)
+
+fill-ask-requires : tie.Need-fill-ask-requires
+fill-ask-requires c κs =
+    let a = c .before .before .before .before .before .args in
+    let p = ask-fits (a .measure) (a .d) (a .probe .now) (a .p) (a .size) (sym (c .before .before .before .ask-fits .ensures) ∙ c .before .before .if1 .taken) in
+    omega arith
+
+same-length : tie.Need-same-length
+same-length c = search needs
+
+returns-2 : tie.Need-returns-2
+returns-2 c =
+    let e = c .before .before .fill-ask .ensures in
+    wrote-line (sym (c .before .before .before .before .before .before .ask-fits .ensures) ∙ c .before .before .before .before .before .if1 .taken) (c .before .before .before .before .if2 .left) (e .0) (e .1)
+
+returns-3 : tie.Need-returns-3
+returns-3 c = refused-10 (sym (c .before .ask-fits .ensures) ∙ c .if1 .left)
+
+pub write-ask-as-spec : {M : Type 1} → statement M
+write-ask-as-spec =
+    tie.close
+    (tie.spec ask-fits-requires returns fill-ask-requires same-length returns-2 returns-3)

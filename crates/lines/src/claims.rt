@@ -1,0 +1,117 @@
+// The claim line, kind 03.
+ghost use mathlib.Core.Path.{_≡_};
+ghost use mathlib.Core.Bool.{true};
+ghost use Prim.Native.Nat.{_≤_};
+ghost use lib.ListN.{length};
+ghost use Rattle.paper.specs.Frames.{lineOf, written};
+ghost use Rattle.paper.specs.Lines.{Writes, claimFrame, claimFits, claimOk, claimAt, noClaim, claimOf};
+ghost use Rattle.digits.specs.Places.{held};
+use paper::lines::ClaimLine;
+use paper::lines::ClaimRead;
+use paper::lines::Wrote;
+
+fn claim_fits(measure: u8, d: u8, coords: &[i32]) -> bool
+    ensures { λ r. ⌜ r ≡ claimFits measure d (now (coords .entry)) ⌝ }
+{
+    if fields::ranged(measure as u64, d as u64) {
+        return coords.len() == d as usize;
+    }
+    false
+}
+
+// Writes the claim's line into a room that is large enough, and gives its length.
+fn fill_claim(
+    table: u32,
+    measure: u8,
+    d: u8,
+    reference: u32,
+    coords: &[i32],
+    out: &mut [u8],
+) -> usize
+    requires { ⌜ (length (now coords) ≤ 8) × (87 ≤ length (now out)) ⌝ }
+    ensures { λ r. ⌜ (r ≡ length (lineOf (claimFrame table measure d reference (now (coords .entry))))) × (now (out .exit) ≡ written (claimFrame table measure d reference (now (coords .entry))) (now (out .entry))) ⌝ }
+{
+    fields::put_head(out, 3, table, measure, d);
+    digits::put(out, 7, 4, reference as u64);
+    fields::put_coords(out, 11, coords);
+    let n = 22 + 8 * coords.len();
+    out[n] = 10;
+    n + 1
+}
+
+pub fn write_claim(
+    table: u32,
+    measure: u8,
+    d: u8,
+    reference: u32,
+    coords: &[i32],
+    out: &mut [u8],
+) -> Wrote
+    ensures { λ r. ⌜ Writes (claimFits measure d (now (coords .entry))) 87 (claimFrame table measure d reference (now (coords .entry))) (now (out .entry)) r (now (out .exit)) ⌝ }
+{
+    if claim_fits(measure, d, coords) {
+        if out.len() < 87 {
+            return Wrote::Refused(12);
+        }
+        let n = fill_claim(table, measure, d, reference, coords, out);
+        return Wrote::Line(n);
+    }
+    Wrote::Refused(10)
+}
+
+pub fn claim_ok(src: &[u8]) -> bool
+    ensures { λ r. ⌜ r ≡ claimOk (held (now (src .entry))) ⌝ }
+{
+    let n = digits::size(src);
+    if n < 15 {
+        return false;
+    }
+    if fields::head_ok(src, 3) {
+        return n as u64 == 11 + 4 * digits::number(src, 6, 1);
+    }
+    false
+}
+
+pub fn claim_at(src: &[u8]) -> ClaimLine
+    requires { ⌜ claimOk (held (now src)) ≡ true ⌝ }
+    ensures { λ r. ⌜ r ≡ claimAt (held (now (src .entry))) ⌝ }
+{
+    let d = digits::number(src, 6, 1);
+    let coordinates = fields::coords_at(src, 11, d as usize);
+    ClaimLine {
+        table: digits::number(src, 1, 4) as u32,
+        measure: digits::number(src, 5, 1) as u8,
+        d: d as u8,
+        reference: digits::number(src, 7, 4) as u32,
+        coordinates,
+    }
+}
+
+fn no_claim(n: u8) -> ClaimRead
+    ensures { λ r. ⌜ r ≡ noClaim n ⌝ }
+{
+    let claim = ClaimLine {
+        table: 0,
+        measure: 0,
+        d: 0,
+        reference: 0,
+        coordinates: [0i32; 8],
+    };
+    ClaimRead { refusal: n, claim }
+}
+
+pub fn read_claim(line: &[u8]) -> ClaimRead
+    ensures { λ r. ⌜ r ≡ claimOf (now (line .entry)) ⌝ }
+{
+    if digits::is_sound(line) {
+        let mut frame = [0u8; 286];
+        let n = digits::unhex(line, &mut frame);
+        let src = &frame[..n];
+        if claim_ok(src) {
+            let claim = claim_at(src);
+            return ClaimRead { refusal: 0, claim };
+        }
+        return no_claim(10);
+    }
+    no_claim(9)
+}

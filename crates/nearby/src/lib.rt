@@ -1,0 +1,17 @@
+// The public calls. Each checks its own input in the order that document 01 gives for it, refuses under its number and then
+// leaves all lent memory as it was, and otherwise gives what its definition in paper/specs says.
+mod lists;
+mod office;
+mod questions;
+mod tables;
+
+pub use lists::open_list;
+pub use lists::take;
+pub use lists::write_ask;
+pub use office::answer;
+pub use questions::farthest;
+pub use questions::front;
+pub use questions::nearest;
+pub use questions::page;
+pub use tables::enter;
+pub use tables::make_table;

@@ -1,0 +1,45 @@
+// A tablet's list: opened, asking, taking.
+ghost use mathlib.Core.Path.{_≡_};
+ghost use lib.ListN.{length};
+ghost use Rattle.paper.specs.declared.orders.Order.the-variants.{Near};
+ghost use Rattle.paper.specs.Lists.{held, openingHeld, openedTold, askingHeld, takingHeld};
+ghost use Rattle.paper.specs.Codec.{lines};
+ghost use Rattle.tablet.specs.Holding.{asNear, TakenIs};
+ghost use Rattle.desk.specs.Desk.{Says};
+use paper::lines::Wrote;
+use paper::lists::List;
+use paper::lists::Opened;
+use paper::lists::Taken;
+use paper::orders::Order;
+
+// Refusals 1, 5.
+pub fn open_list(table: u32, measure: u8, d: usize, probe: &[i32], reach: u64) -> Opened
+    ensures { λ r. ⌜ r ≡ openedTold (openingHeld (asNear table measure d (now (probe .entry)) reach)) ⌝ }
+{
+    tablet::open_list(table, measure, d, probe, reach)
+}
+
+// Refusals 2, 16, 6, 12.
+pub fn write_ask(l: List, room: &[u64], size: usize, out: &mut [u8]) -> Wrote
+    ensures { λ r. ⌜ Says (askingHeld lines Near (held l (now (room .entry))) size (length (now (out .entry)))) (now (out .entry)) r (now (out .exit)) ⌝ }
+{
+    let near = Order::Near;
+    if !tablet::is_sound(near, l, room) {
+        return Wrote::Refused(2);
+    }
+    tablet::write_ask(l, room, size, out)
+}
+
+// Refusals 2, 9, 10, 16, 13, 14, 15.
+pub fn take(l: List, room: &mut [u64], line: &[u8]) -> Taken
+    ensures { λ r. ⌜ TakenIs (held l (now (room .entry))) (takingHeld lines Near (held l (now (room .entry))) (now (line .entry))) r (now (room .exit)) ⌝ }
+{
+    let near = Order::Near;
+    if !tablet::is_sound(near, l, room) {
+        return Taken {
+            refusal: 2,
+            list: l,
+        };
+    }
+    tablet::take_line(l, room, line)
+}

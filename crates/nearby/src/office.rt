@@ -1,0 +1,30 @@
+// The office: one ask line in, one answer line out.
+ghost use mathlib.Core.Path.{_≡_};
+ghost use lib.ListN.{length};
+ghost use Rattle.paper.specs.Tree.{store};
+ghost use Rattle.paper.specs.Calls.{officeCall};
+ghost use Rattle.desk.specs.Desk.{Says};
+use crate::tables::table_refusal;
+use paper::lines::Wrote;
+use paper::tables::Table;
+
+// Refusals 12, 1, 2, 9, 10, 11, 7, 8.
+pub fn answer(
+    t: Table,
+    references: &[u32],
+    coordinates: &[i32],
+    rooms: &[u64],
+    line: &[u8],
+    out: &mut [u8],
+) -> Wrote
+    ensures { λ r. ⌜ Says (officeCall (store t (now (references .entry)) (now (coordinates .entry)) (now (rooms .entry))) (length (now (out .entry))) (now (line .entry))) (now (out .entry)) r (now (out .exit)) ⌝ }
+{
+    if out.len() < 573 {
+        return Wrote::Refused(12);
+    }
+    let why = table_refusal(t, references, coordinates, rooms);
+    if why != 0 {
+        return Wrote::Refused(why);
+    }
+    desk::answer_line(t, references, coordinates, rooms, line, out)
+}

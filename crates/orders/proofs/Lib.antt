@@ -1,0 +1,9 @@
+-- Laws of the orders, of pages, and of lists that take them.
+pub mod Tests
+pub mod Lists
+pub mod Sorted
+pub mod Page
+pub mod Meaning
+pub mod Taking
+pub mod Sound
+pub mod Rooms

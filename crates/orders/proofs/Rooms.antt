@@ -1,0 +1,118 @@
+-- A list as code holds it: what is held after a call is the list that the call gives, and stays sound. Assumes nothing.
+use Prim.Native.Nat.{ℕ, zero, suc, _+_, _-_, _*_, _≤_}
+use mathlib.Core.Path.{_≡_, refl, sym, ap}
+use mathlib.Core.Bool.{true, false}
+use mathlib.Core.List.{List, [], _∷_, _++_, append-assoc}
+use native.Mathlib.Omega.{arith}
+use lib.IntN.{pos}
+use lib.ListN.{length, take, drop, replicate, length-append, length-drop}
+use lib.Seq.{take-at, drop-at}
+use Rattle.paper.specs.declared.orders.Order.{Order}
+use Rattle.paper.specs.Orders.{Item, Query, flat, fronted}
+use Rattle.paper.specs.Outcomes.{gives}
+use Rattle.paper.specs.Ends.{Codec, Listing, fresh, every, sameZ, soundIn, taking}
+use Rattle.paper.specs.Lists.{Held, held, itemsIn, roomFor, queryOf, listing, unusedZero, soundHeld, openedAs, takingHeld, put}
+use Rattle.orders.specs.Laws.{Lawful}
+use Rattle.orders.proofs.Tests.{and-both, must-test, must-rest, through}
+use Rattle.orders.proofs.Taking.{took, took-query}
+use Rattle.orders.proofs.Sound.{soundness, stays-sound}
+
+pub read-flat : (l : List Item) (r : List ℕ) → itemsIn (length l) (flat l ++ r) ≡ l
+unfolding itemsIn flat
+read-flat [] r = refl
+read-flat (x ∷ l) r = ap (λ (t : List Item). x ∷ t) (read-flat l r)
+
+pub flat-length : (l : List Item) → length (flat l) ≡ 3 * length l
+unfolding flat
+flat-length [] = refl
+flat-length (x ∷ l) = omega (arith, flat-length l)
+
+-- the items that a room holds, as numbers, are its front
+pub flat-in : (k : ℕ) (r : List ℕ) → 3 * k ≤ length r → flat (itemsIn k r) ≡ take (3 * k) r
+unfolding flat itemsIn
+flat-in zero r h = refl
+flat-in (suc k) [] h = absurd (omega arith)
+flat-in (suc k) (a ∷ []) h = absurd (omega arith)
+flat-in (suc k) (a ∷ b ∷ []) h = absurd (omega arith)
+flat-in (suc k) (a ∷ b ∷ d ∷ r) h =
+    let e : 3 * suc k ≡ suc (suc (suc (3 * k))) = omega arith in
+    rw (e, flat-in k r (omega arith))
+
+pub length-in : (k : ℕ) (r : List ℕ) → length (itemsIn k r) ≡ k
+unfolding itemsIn
+length-in zero r = refl
+length-in (suc k) r = ap suc (length-in k (drop 3 r))
+
+pub flat-append : (a b : List Item) → flat (a ++ b) ≡ flat a ++ flat b
+unfolding flat
+flat-append [] b = refl
+flat-append (x ∷ a) b = ap (λ (t : List ℕ). x .number ∷ x .reference ∷ x .distance ∷ t) (flat-append a b)
+
+-- a page joined behind k items: the room's front stays, the page stands behind it, the rest stays
+pub room-joined : (k : ℕ) (r : List ℕ) (page : List Item) → 3 * k ≤ length r
+    → fronted (itemsIn k r ++ page) r ≡ take (3 * k) r ++ (flat page ++ drop (3 * (k + length page)) r)
+unfolding fronted
+room-joined k r page h =
+    rw (flat-append (itemsIn k r) page, flat-in k r h, length-append (itemsIn k r) page, length-in k r)
+    (append-assoc (take (3 * k) r) (flat page) _)
+
+pub fronted-length : (l : List Item) (r : List ℕ) → 3 * length l ≤ length r → length (fronted l r) ≡ length r
+unfolding fronted
+fronted-length l r h = omega (arith, length-append (flat l) (drop (3 * length l) r), length-drop (3 * length l) r, flat-length l)
+
+-- what is held after an accepted call is what the call gave
+pub listing-put : (o : Order) (s : Held) (L : Listing) → L .query ≡ queryOf o (s .list) → listing o (put s (gives L)) ≡ L
+unfolding listing put fronted
+listing-put o s L e = λ i. record {
+  query = sym e i;
+  started = L .started;
+  snapshot = L .snapshot;
+  complete = L .complete;
+  items = read-flat (L .items) (drop (3 * length (L .items)) (s .room)) i;
+}
+
+-- a line that a held list takes
+module _ (c : Codec) (o : Order) (s : Held) (line : List ℕ) (L : Listing) (e : takingHeld c o s line ≡ gives L) where
+  pub took-held : taking c (roomFor s) (listing o s) line ≡ gives L
+  unfolding takingHeld
+  took-held = must-rest (unusedZero (s .list .d) (s .list .probe)) 2 _ _ e
+
+  pub held-query : L .query ≡ queryOf o (s .list)
+  unfolding taking listing
+  held-query =
+      let a = through (c .readAnswer o line) _ _ (must-rest (soundIn (roomFor s) (listing o s)) 2 _ _ took-held) in
+      took-query (roomFor s) (listing o s) (a .value) L (took (roomFor s) (listing o s) (a .value) L (a .second))
+
+  -- the list moves as the definition says
+  pub moves : listing o (put s (gives L)) ≡ L
+  moves = listing-put o s L held-query
+
+  -- and stays sound
+  pub held-sound : Lawful c → soundHeld o (put s (gives L)) ≡ true
+  unfolding soundHeld takingHeld put
+  held-sound law =
+      let h : soundIn (roomFor s) L ≡ true = stays-sound c law (roomFor s) (listing o s) L line took-held in
+      let f : length (fronted (L .items) (s .room)) ≡ length (s .room) = fronted-length (L .items) (s .room) (omega (arith, soundness (roomFor s) L h .roomy)) in
+      and-both _ _ (must-test (unusedZero (s .list .d) (s .list .probe)) 2 _ _ e) (rw (moves, f) h)
+
+-- a list that was just opened, in whatever room
+pub listing-opened : (o : Order) (q : Query) (room : List ℕ) → q .order ≡ o → length (q .probe) ≡ q .d → listing o (held (openedAs q) room) ≡ fresh q
+unfolding listing openedAs itemsIn
+listing-opened o q room p long =
+    let e : take (q .d) (q .probe ++ replicate (8 - q .d) (pos 0)) ≡ q .probe = take-at (q .probe) _ (q .d) long in
+    λ i. record {
+      query = record { order = sym p i; table = q .table; measure = q .measure; d = q .d; probe = e i; reach = q .reach };
+      started = false;
+      snapshot = 0;
+      complete = false;
+      items = [];
+    }
+
+zeros : (n : ℕ) → every (sameZ (pos 0)) (replicate n (pos 0)) ≡ true
+unfolding every
+zeros zero = refl
+zeros (suc n) = zeros n
+
+pub unused-opened : (q : Query) → length (q .probe) ≡ q .d → unusedZero (openedAs q .d) (openedAs q .probe) ≡ true
+unfolding unusedZero openedAs
+unused-opened q long = rw (drop-at (q .probe) (replicate (8 - q .d) (pos 0)) (q .d) long) (zeros (8 - q .d))

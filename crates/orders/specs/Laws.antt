@@ -1,0 +1,71 @@
+-- What the two ends need of their lines: the ranges, and that what is written reads back. Definitions only.
+use Prim.Native.Nat.{ℕ, _≤_, _<_, _^_}
+use mathlib.Core.Path.{_≡_}
+use mathlib.Core.Bool.{true}
+use mathlib.Core.List.{List, List·Memᴰ}
+use lib.IntN.{ℤ}
+use lib.ListN.{length}
+use lib.Signed.{mag}
+use Rattle.paper.specs.declared.orders.Mark.{Mark}
+use Rattle.paper.specs.declared.orders.Order.{Order}
+use Rattle.paper.specs.declared.orders.Place.{Place}
+use Rattle.paper.specs.declared.orders.Place.the-variants.{Start, After}
+use Rattle.paper.specs.Orders.{Item, Query, snapshotOf}
+use Rattle.paper.specs.Tree.{inRange}
+use Rattle.paper.specs.Outcomes.{gives}
+use Rattle.paper.specs.Ends.{Ask, Answer, Codec}
+
+-- what the types of a call's arguments say: a table number of 32 bits, a reach of 64, signed coordinates of 32
+pub record Typed (q : Query) : Type 0 where
+  pub table : q .table < 2 ^ 32
+  pub reach : q .reach < 2 ^ 64
+  pub probe : (x : ℤ) → List·Memᴰ x (q .probe) → mag x < 2 ^ 31
+
+pub record QueryOk (q : Query) : Type 0 where
+  pub range : inRange (q .measure) (q .d) ≡ true
+  pub long : length (q .probe) ≡ q .d
+  pub typed : Typed q
+
+-- "snapshot 0 to 4,096, numbers 0 to 4,095"
+pub record MarkOk (n : ℕ) (m : Mark) : Type 0 where
+  pub snapshot : n ≤ 4096
+  pub distance : m .distance < 2 ^ 64
+  pub number : m .number < 4096
+
+abbrev pub PlaceOk : Place → Type 0
+PlaceOk Start = Unit {0}
+PlaceOk (After n m) = MarkOk n m
+
+-- "page size 1 to 16"
+pub record AskOk (a : Ask) : Type 0 where
+  pub query : QueryOk (a .query)
+  pub place : PlaceOk (a .place)
+  pub one : 1 ≤ a .size
+  pub most : a .size ≤ 16
+
+pub record ItemOk (x : Item) : Type 0 where
+  pub number : x .number < 4096
+  pub reference : x .reference < 2 ^ 32
+  pub distance : x .distance < 2 ^ 64
+
+-- "item count 0 to 16"; "An answer repeats its ask's fields, except that with from 0 it carries the snapshot it used."
+pub record AnswerOk (y : Answer) : Type 0 where
+  pub query : QueryOk (y .query)
+  pub place : PlaceOk (y .place)
+  pub snapshot : y .snapshot ≤ 4096
+  pub used : snapshotOf (y .place) (y .snapshot) ≡ y .snapshot
+  pub few : length (y .items) ≤ 16
+  pub items : (x : Item) → List·Memᴰ x (y .items) → ItemOk x
+
+-- of a codec, for the orders that it has kinds for
+pub record Lawful (c : Codec) : Type 0 where
+  -- what was written reads back
+  pub ask-back : (a : Ask) → AskOk a → c .speaks (a .query .order) ≡ true → c .readAsk (c .askLine a) ≡ gives a
+  pub answer-back : (y : Answer) → AnswerOk y → c .speaks (y .query .order) ≡ true → c .readAnswer (y .query .order) (c .answerLine y) ≡ gives y
+  -- what reads is in range, and of an order that has its kinds; an answer, of the order it was read under
+  pub ask-ok : (s : List ℕ) (a : Ask) → c .readAsk s ≡ gives a → AskOk a × (c .speaks (a .query .order) ≡ true)
+  pub answer-ok : (o : Order) (s : List ℕ) (y : Answer) → c .readAnswer o s ≡ gives y → AnswerOk y × (y .query .order ≡ o)
+  -- a line reads only as its own kind
+  pub answer-kind : (o : Order) (y z : Answer) → AnswerOk y → c .speaks (y .query .order) ≡ true → c .readAnswer o (c .answerLine y) ≡ gives z
+      → o ≡ y .query .order
+  pub ask-kind : (o : Order) (a : Ask) (z : Answer) → AskOk a → c .readAnswer o (c .askLine a) ≡ gives z → ⊥

@@ -1,0 +1,43 @@
+-- Reading a line as an ask or an answer: what a reader's refusal number says of it. Assumes nothing.
+use Prim.Native.Nat.{ℕ}
+use mathlib.Core.Path.{_≡_, refl}
+use mathlib.Core.Bool.{Bool, true, false, cond}
+use mathlib.Core.List.{List}
+use lib.Dec.{eqb}
+use Rattle.paper.specs.declared.lines.Ask as lines-Ask
+use Rattle.paper.specs.declared.lines.AskRead.{AskRead}
+use Rattle.paper.specs.declared.lines.Answer as lines-Answer
+use Rattle.paper.specs.declared.lines.AnswerRead.{AnswerRead}
+use Rattle.paper.specs.declared.orders.Order.the-variants.{Near}
+use Rattle.paper.specs.Outcomes.{Outcome, refused, gives, must}
+use Rattle.paper.specs.Frames.{frameOf, sound}
+use Rattle.paper.specs.Lines.{reading, askOk, askAt, anAsk, noAsk, askOf, answerOk, answerAt, anAnswer, noAnswer, answerOf}
+use Rattle.paper.specs.Codec.{asked, answered, readAsk, readAnswer}
+
+pub ask-by-refusal : (line : List ℕ) → readAsk line ≡ must (eqb (askOf 1 line .refusal) 0) (askOf 1 line .refusal) (gives (asked Near (askOf 1 line .ask)))
+unfolding readAsk askOf reading
+ask-by-refusal line = go (sound line) (askOk 1 (frameOf line)) (askAt (frameOf line))
+  where
+    read : Bool → Bool → lines-Ask.Ask → AskRead
+    read a b x = cond a (cond b (anAsk x) (noAsk 10)) (noAsk 9)
+
+    go : (a b : Bool) (x : lines-Ask.Ask)
+        → must a 9 (must b 10 (gives (asked Near x))) ≡ must (eqb (read a b x .refusal) 0) (read a b x .refusal) (gives (asked Near (read a b x .ask)))
+    go true true x = unfold anAsk in refl
+    go true false x = unfold noAsk in refl
+    go false b x = unfold noAsk in refl
+
+pub answer-by-refusal : (line : List ℕ)
+    → readAnswer Near line ≡ must (eqb (answerOf 2 line .refusal) 0) (answerOf 2 line .refusal) (gives (answered Near (answerOf 2 line .answer)))
+unfolding readAnswer answerOf reading
+answer-by-refusal line = go (sound line) (answerOk 2 (frameOf line)) (answerAt (frameOf line))
+  where
+    read : Bool → Bool → lines-Answer.Answer → AnswerRead
+    read a b x = cond a (cond b (anAnswer x) (noAnswer 10)) (noAnswer 9)
+
+    go : (a b : Bool) (x : lines-Answer.Answer)
+        → must a 9 (must b 10 (gives (answered Near x)))
+        ≡ must (eqb (read a b x .refusal) 0) (read a b x .refusal) (gives (answered Near (read a b x .answer)))
+    go true true x = unfold anAnswer in refl
+    go true false x = unfold noAnswer in refl
+    go false b x = unfold noAnswer in refl

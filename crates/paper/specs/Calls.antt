@@ -1,0 +1,84 @@
+-- Document 01, "Numbers given back": the public calls on tables in lent memory, as functions of their inputs. Definitions only.
+-- Making and entering stand in `Runs`, lists in `Lists`, bare lines in `Lines`.
+use Prim.Native.Nat.{ℕ, _*_}
+use mathlib.Core.Bool.{Bool}
+use mathlib.Core.List.{List}
+use lib.Dec.{leb, eqb}
+use lib.IntN.{ℤ}
+use lib.ListN.{length}
+use Rattle.paper.specs.declared.orders.Nearest as Answers
+use Rattle.paper.specs.declared.orders.Order.{Order}
+use Rattle.paper.specs.declared.orders.Order.the-variants.{Near}
+use Rattle.paper.specs.declared.orders.Page as Pages
+use Rattle.paper.specs.declared.orders.Place.{Place}
+use Rattle.paper.specs.Orders.{Item, Query, Found, told, following, pageOf, lastOf, nearestOf, farthestOf, snapshotHolds, markHolds, fronted}
+use Rattle.paper.specs.Outcomes.{Outcome, refused, gives, must}
+use Rattle.paper.specs.Tree.{Store, claimsIn, fits, sound}
+use Rattle.paper.specs.Ends.{tableOf, served, answerRoom, sizeHolds}
+use Rattle.paper.specs.Codec.{lines}
+
+-- what is asked of a table: its own number, measure and d
+abbrev pub tableQuery : Store → Order → List ℤ → ℕ → Query
+tableQuery s order probe reach =
+    record { order = order; table = s .table .number; measure = s .table .measure; d = s .table .d; probe = probe; reach = reach }
+
+-- every call on a table begins with 1 and 2
+abbrev pub onTable : {A : Type 0} → Store → Outcome A → Outcome A
+onTable s x = must (fits s) 1 (must (sound s) 2 x)
+
+-- 5: "probe length not d"
+abbrev pub aimed : {A : Type 0} → Store → List ℤ → Outcome A → Outcome A
+aimed s probe x = onTable s (must (eqb (length probe) (s .table .d)) 5 x)
+
+-- "Nearest and farthest: 1, 2, 5."
+unfoldable pub nearestCall : Store → List ℤ → ℕ → Outcome Found
+nearestCall s probe reach = aimed s probe (gives (nearestOf (tableQuery s Near probe reach) (claimsIn s)))
+
+unfoldable pub farthestCall : Store → List ℤ → Outcome Found
+farthestCall s probe = aimed s probe (gives (farthestOf (tableQuery s Near probe 0) (claimsIn s)))
+
+-- the number and the values of each case
+unfoldable pub nearestTold : Answers.Nearest → Outcome Found
+nearestTold (Answers.the-variants.Refused n) = refused n
+nearestTold (Answers.the-variants.Answer a) = gives (told a)
+
+-- a page: its items, and whether it is the last
+pub record PageOf : Type 0 where
+  pub items : List Item
+  pub last : Bool
+
+unfoldable pub thePage : Query → Store → Place → ℕ → PageOf
+thePage q s place size =
+    record { items = pageOf q (claimsIn s) place size; last = lastOf size (following q (claimsIn s) place) }
+
+-- "Page: 1, 2, 5, 6, 7, 8, 12." 12: "output room under the page size in items"
+unfoldable pub pageCall : Store → Order → List ℤ → ℕ → Place → ℕ → ℕ → Outcome PageOf
+pageCall s order probe reach place size room =
+    aimed s probe
+    (must (sizeHolds size) 6
+    (must (snapshotHolds (claimsIn s) place) 7
+    (must (markHolds (tableQuery s order probe reach) (claimsIn s) place) 8
+    (must (leb (size * 3) room) 12
+    (gives (thePage (tableQuery s order probe reach) s place size))))))
+
+-- the number and the values of each case: how many items, and whether they are the last
+pub record Counted : Type 0 where
+  pub count : ℕ
+  pub last : Bool
+
+unfoldable pub pageTold : Pages.Page → Outcome Counted
+pageTold (Pages.the-variants.Refused n) = refused n
+pageTold (Pages.the-variants.Filled p) = gives (record { count = p .count; last = p .last })
+
+unfoldable pub counted : Outcome PageOf → Outcome Counted
+counted (refused n) = refused n
+counted (gives p) = gives (record { count = length (p .items); last = p .last })
+
+-- "The page comes back as the filled front of the caller's room; rooms behind it keep their contents."
+unfoldable pub pageRoom : Outcome PageOf → List ℕ → List ℕ
+pageRoom (refused n) room = room
+pageRoom (gives p) room = fronted (p .items) room
+
+-- "Office: 12, 1, 2, 9, 10, 11, 7, 8."
+unfoldable pub officeCall : Store → ℕ → List ℕ → Outcome (List ℕ)
+officeCall s out line = must (answerRoom out) 12 (onTable s (served lines (tableOf s) line))

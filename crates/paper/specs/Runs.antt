@@ -1,0 +1,83 @@
+-- Document 01, "Building the tree" and "Numbers given back": making an empty table, and entering claims in runs. Definitions only.
+use Prim.Native.Nat.{ℕ, zero, suc, _+_, _*_}
+use mathlib.Core.List.{List}
+use lib.Dec.{leb, eqb}
+use lib.IntN.{ℤ}
+use lib.ListN.{length, getD, set}
+use lib.Seq.{paste}
+use Rattle.paper.specs.declared.tables.Table.{Table}
+use Rattle.paper.specs.declared.tables.Made.{Made}
+use Rattle.paper.specs.declared.tables.Entered.{Entered}
+use Rattle.paper.specs.Points.{point}
+use Rattle.paper.specs.Tree.{Grown, entered, Store, store, apart, fits, sound}
+use Rattle.paper.specs.Outcomes.{Outcome, refused, gives, must}
+
+-- a table before any claim: nothing is entered, and no node room is in use
+abbrev pub emptyTable : ℕ → ℕ → ℕ → ℕ → Table
+emptyTable number measure d capacity =
+    record { number = number; measure = measure; d = d; capacity = capacity; count = 0; used = 0 }
+
+-- "Making an empty table: 1."
+unfoldable pub makeCall : Store → Outcome Table
+makeCall s = must (fits s) 1 (gives (s .table))
+
+-- the number and the values of each case
+abbrev pub madeTold : Made → Outcome Table
+madeTold (Made.Table t) = gives t
+madeTold (Made.Refused n) = refused n
+
+-- the header with one claim more, and so many rooms in use
+abbrev pub counted : Table → ℕ → Table
+counted t used =
+    record { number = t .number; measure = t .measure; d = t .d; capacity = t .capacity; count = t .count + 1; used = used }
+
+-- the rooms after the next claim, where the coordinates hold its place
+abbrev pub nextGrown : Store → List ℤ → Grown
+nextGrown s coordinates = entered (apart (s .table .measure) (s .table .d) coordinates) (s .table .used) (s .table .count) (s .rooms)
+
+-- the store with its next claim's reference and place in the lent memory, entered
+abbrev pub withNext : Store → List ℕ → List ℤ → Store
+withNext s references coordinates =
+    store (counted (s .table) (nextGrown s coordinates .used)) references coordinates (nextGrown s coordinates .rooms)
+
+-- one claim more, with reference r and place p, which are put behind the claims that stand there; what lies behind them is kept
+unfoldable pub added : Store → ℕ → List ℤ → Store
+added s r p =
+    withNext s (set (s .references) (s .table .count) r) (paste (s .coordinates) (s .table .count * s .table .d) p (s .table .d))
+
+-- the first i claims of a run, one by one
+unfoldable pub addedRun : List ℕ → List ℤ → ℕ → Store → Store
+addedRun given places zero s = s
+addedRun given places (suc i) s = added (addedRun given places i s) (getD given i 0) (point (s .table .d) places i)
+
+-- "Claims are entered in runs: a run goes in whole or not at all; an empty run is accepted." "Entering: 1, 2, 5, 3, 4."
+-- 5: "a run's coordinates not d for each reference"; 3: "count plus run over capacity"; 4: "no node room free", where each claim may need one
+unfoldable pub enterCall : Store → List ℕ → List ℤ → Outcome Store
+enterCall s given places =
+    must (fits s) 1
+    (must (sound s) 2
+    (must (eqb (length places) (s .table .d * length given)) 5
+    (must (leb (s .table .count + length given) (s .table .capacity)) 3
+    (must (leb (s .table .used + length given) (s .table .capacity)) 4
+    (gives (addedRun given places (length given) s))))))
+
+-- the number and the values of each case
+abbrev pub enteredTold : Entered → Outcome Table
+enteredTold (Entered.Table t) = gives t
+enteredTold (Entered.Refused n) = refused n
+
+-- what a call leaves: its answer, and the lent memory
+pub record Ending : Type 0 where
+  pub answer : Outcome Table
+  pub references : List ℕ
+  pub coordinates : List ℤ
+  pub rooms : List ℕ
+
+abbrev pub ending : Outcome Table → List ℕ → List ℤ → List ℕ → Ending
+ending answer references coordinates rooms =
+    record { answer = answer; references = references; coordinates = coordinates; rooms = rooms }
+
+-- "A refusal returns its number only, and every table, list and room holds what it held before."
+abbrev pub endingOf : Store → Outcome Store → Ending
+endingOf s (refused n) = ending (refused n) (s .references) (s .coordinates) (s .rooms)
+endingOf s (gives x) = ending (gives (x .table)) (x .references) (x .coordinates) (x .rooms)

@@ -1,0 +1,26 @@
+// Document 01, "The two ends": a tablet's list. Its items lie in memory that the caller lends, three numbers for each.
+pub struct List {
+    pub table: u32,
+    pub measure: u8,
+    pub d: usize,
+    // Unused places are 0.
+    pub probe: [i32; 8],
+    pub reach: u64,
+    pub started: bool,
+    pub snapshot: u64,
+    // Items held.
+    pub count: usize,
+    pub complete: bool,
+}
+
+// What taking a line gives: the refusal's number, or 0, beside the list as it then stands.
+pub struct Taken {
+    pub refusal: u8,
+    pub list: List,
+}
+
+// What opening a list gives: the refusal's number beside a list of zeros, or 0 beside the list.
+pub struct Opened {
+    pub refusal: u8,
+    pub list: List,
+}

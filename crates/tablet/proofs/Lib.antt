@@ -1,0 +1,5 @@
+pub mod ItemLaws
+pub mod ListLaws
+pub mod TakeLaws
+pub mod EndLaws
+pub mod PadLaws

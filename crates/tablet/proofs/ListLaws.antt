@@ -1,0 +1,180 @@
+-- The fields of a list: what each way through its soundness test gives, and that the test is the definition. Assumes nothing.
+use Prim.Native.Nat.{ℕ, zero, suc, _+_, _-_, _*_, _/_, _<_, _≤_}
+use mathlib.Core.Path.{_≡_, refl, sym, ap, _∙_}
+use mathlib.Core.Bool.{Bool, true, false, not, cond, _&&_, _||_}
+use mathlib.Core.List.{List, [], _∷_}
+use native.Mathlib.Omega.{arith}
+use native.Mathlib.Numerals.{add-one}
+use lib.Dec.{leb, eqb}
+use lib.IntN.{ℤ, pos, negsuc, _-ℤ_, natAbs}
+use lib.ListN.{length, getD, take, drop, length-take}
+use lib.Seq.{drop-cons, drop-length, length-take-le, getD-take}
+use borrow.Author.Tests.{le-leb, lt-leb, leb-true, eq-eqb, ne-eqb, eqb-true, not-true, not-false}
+use Rattle.measure.proofs.Away.{away, abs-away}
+use Rattle.paper.specs.declared.lists.List as lists
+use Rattle.paper.specs.declared.orders.Order.{Order}
+use Rattle.paper.specs.declared.orders.Place.the-variants.{Start}
+use Rattle.paper.specs.Orders.{Item, follows}
+use Rattle.paper.specs.Tree.{inRange}
+use Rattle.paper.specs.Ends.{sameZ, sameProbe, every, rising, fitting, startedWell, soundIn}
+use Rattle.paper.specs.Lists.{Held, held, itemsIn, listing, unusedZero, soundHeld}
+use Rattle.paper.proofs.Tests.{and-first, and-second, and-both, alike}
+use Rattle.tablet.specs.Holding.{itemsHold, startedBy, fieldsHold}
+use Rattle.tablet.proofs.ItemLaws.{pass-means, every-start}
+
+-- ---- coordinates
+
+sum-zero : (a b : ℕ) → eqb ((a - b) + (b - a)) 0 ≡ eqb a b
+sum-zero a b =
+    alike (eqb ((a - b) + (b - a)) 0) (eqb a b)
+    (λ h. let z : (a - b) + (b - a) ≡ 0 = eqb-true _ _ h in eq-eqb a b (omega arith))
+    (λ h. let z : a ≡ b = eqb-true _ _ h in eq-eqb ((a - b) + (b - a)) 0 (omega arith))
+
+pub same-gap : (x y : ℤ) → eqb (natAbs (x -ℤ y)) 0 ≡ sameZ x y
+same-gap x y = ap (λ (n : ℕ). eqb n 0) (abs-away x y) ∙ go x y
+  where
+    go : (x y : ℤ) → eqb (away x y) 0 ≡ sameZ x y
+    go (pos a) (pos b) = sum-zero a b
+    go (pos a) (negsuc b) = ne-eqb (a + b + 1) 0 (λ e. omega arith)
+    go (negsuc a) (pos b) = ne-eqb (a + b + 1) 0 (λ e. omega arith)
+    go (negsuc a) (negsuc b) = sum-zero a b
+
+-- ---- the probe
+
+pub unused-start : (probe : List ℤ) → true ≡ every (sameZ (pos 0)) (drop (length probe) probe)
+unfolding every
+unused-start probe = rw (drop-length probe)
+
+pub unused-more : (probe : List ℤ) (i : ℕ) (a b r : Bool) → i < length probe → a ≡ sameZ (pos 0) (getD probe i (pos 0))
+    → b ≡ every (sameZ (pos 0)) (drop (i + 1) probe) → r ≡ a && b → r ≡ every (sameZ (pos 0)) (drop i probe)
+unfolding every
+unused-more probe i a b r h ae be re = re ∙ rw (ae, be, add-one i, drop-cons probe i (pos 0) h)
+
+pub same-more : (p q : List ℤ) (i : ℕ) (a b r : Bool) → b ≡ sameProbe i p q → a ≡ sameZ (getD p i (pos 0)) (getD q i (pos 0)) → r ≡ b && a
+    → r ≡ sameProbe (i + 1) p q
+unfolding sameProbe
+same-more p q i a b r be ae re = re ∙ rw (be, ae, add-one i)
+
+-- the first d places are all that is looked at
+pub same-take : (d n m : ℕ) (p q : List ℤ) → d ≤ n → d ≤ m → sameProbe d (take n p) (take m q) ≡ sameProbe d p q
+unfolding sameProbe
+same-take zero n m p q h k = refl
+same-take (suc d) n m p q h k =
+    rw (same-take d n m p q (omega arith) (omega arith), getD-take n p d (pos 0) (omega arith), getD-take m q d (pos 0) (omega arith))
+
+-- ---- the fields
+
+pub range-8 : (m d : ℕ) → inRange m d ≡ true → d ≤ 8
+unfolding inRange
+range-8 m d h = leb-true d 8 (and-second (leb 1 d) _ (and-second (leb 1 m && leb m 3) _ h))
+
+module _ (l : lists.List) (room : ℕ) (a : Bool) (ae : a ≡ inRange (l .measure) (l .d)) where
+  pub way-range : not a ≡ true → false ≡ fieldsHold l room
+  unfolding fieldsHold
+  way-range h = rw (← ae, not-true a h)
+
+  pub range-d : not a ≡ false → l .d ≤ 8
+  range-d h = range-8 (l .measure) (l .d) (sym ae ∙ not-false a h)
+
+  module _ (ha : not a ≡ false) (b : Bool) (be : b ≡ unusedZero (l .d) (l .probe)) where
+    pub way-unused : not b ≡ true → false ≡ fieldsHold l room
+    unfolding fieldsHold
+    way-unused h = rw (← ae, not-false a ha, ← be, not-true b h)
+
+    module _ (hb : not b ≡ false) where
+      pub way-count-4096 : 4096 < l .snapshot → false ≡ fieldsHold l room
+      unfolding fieldsHold
+      way-count-4096 h = rw (← ae, not-false a ha, ← be, not-false b hb, lt-leb (l .snapshot) 4096 h)
+
+      module _ (hs : l .snapshot ≤ 4096) where
+        pub way-room : room / 3 < l .count → false ≡ fieldsHold l room
+        unfolding fieldsHold
+        way-room h = rw (← ae, not-false a ha, ← be, not-false b hb, le-leb (l .snapshot) 4096 hs, lt-leb (l .count) (room / 3) h)
+
+        pub way-started : l .count ≤ room / 3 → (r : Bool) → r ≡ startedBy (l .started) (l .count) (l .snapshot) (l .complete) → r ≡ fieldsHold l room
+        unfolding fieldsHold
+        way-started h r e =
+            rw (← ae, not-false a ha, ← be, not-false b hb, le-leb (l .snapshot) 4096 hs, le-leb (l .count) (room / 3) h) e
+
+-- ---- the whole test
+
+pub items-length : (k : ℕ) (r : List ℕ) → length (itemsIn k r) ≡ k
+unfolding itemsIn
+items-length zero r = refl
+items-length (suc k) r = ap suc (items-length k (drop 3 r))
+
+pub record Fields (l : lists.List) (room : ℕ) : Type 0 where
+  pub range : inRange (l .measure) (l .d) ≡ true
+  pub unused : unusedZero (l .d) (l .probe) ≡ true
+  pub snapshot : l .snapshot ≤ 4096
+  pub few : l .count ≤ room / 3
+  pub start : startedBy (l .started) (l .count) (l .snapshot) (l .complete) ≡ true
+
+pub fields-facts : (l : lists.List) (room : ℕ) → fieldsHold l room ≡ true → Fields l room
+unfolding fieldsHold
+fields-facts l room h =
+    let a = and-second (inRange (l .measure) (l .d)) _ h in
+    let b = and-second (unusedZero (l .d) (l .probe)) _ a in
+    let e = and-second (leb (l .snapshot) 4096) _ b in
+    record {
+      range = and-first (inRange (l .measure) (l .d)) _ h;
+      unused = and-first (unusedZero (l .d) (l .probe)) _ a;
+      snapshot = leb-true (l .snapshot) 4096 (and-first (leb (l .snapshot) 4096) _ b);
+      few = leb-true (l .count) (room / 3) (and-first (leb (l .count) (room / 3)) _ e);
+      start = and-second (leb (l .count) (room / 3)) _ e;
+    }
+
+-- a list is sound when its fields and its items are as they should be
+module _ (o : Order) (l : lists.List) (room : List ℕ) (eight : 7 < length (l .probe)) where
+  abbrev items : List Item
+  items = itemsIn (l .count) room
+
+  pub sound-splits : soundHeld o (held l room) ≡ fieldsHold l (length room) && itemsHold o Start (l .reach) (l .snapshot) items
+  unfolding soundHeld soundIn listing fieldsHold startedWell startedBy
+  sound-splits =
+      alike (soundHeld o (held l room)) (fieldsHold l (length room) && itemsHold o Start (l .reach) (l .snapshot) items)
+      (λ h.
+      let q = and-second (unusedZero (l .d) (l .probe)) _ h in
+      let range = and-first (inRange (l .measure) (l .d)) _ q in
+      let q₁ = and-second (inRange (l .measure) (l .d)) _ q in
+      let q₂ = and-second (eqb (length (take (l .d) (l .probe))) (l .d)) _ q₁ in
+      let q₃ = and-second (leb (l .snapshot) 4096) _ q₂ in
+      let q₄ = and-second (leb (length items) (length room / 3)) _ q₃ in
+      let q₅ = and-second (rising o items) _ q₄ in
+      let few : leb (l .count) (length room / 3) ≡ true = rw (items-length (l .count) room) at (and-first (leb (length items) (length room / 3)) _ q₃) in
+      let well : startedBy (l .started) (l .count) (l .snapshot) (l .complete) ≡ true =
+      rw (items-length (l .count) room) at (and-second (every (fitting (l .reach) (l .snapshot)) items) _ q₅) in
+      and-both (fieldsHold l (length room)) (itemsHold o Start (l .reach) (l .snapshot) items)
+      (and-both (inRange (l .measure) (l .d)) _ range
+      (and-both (unusedZero (l .d) (l .probe)) _ (and-first (unusedZero (l .d) (l .probe)) _ h)
+      (and-both (leb (l .snapshot) 4096) _ (and-first (leb (l .snapshot) 4096) _ q₂)
+      (and-both (leb (l .count) (length room / 3)) _ few well))))
+      (pass-means o Start (l .reach) (l .snapshot) items
+      ∙ and-both (rising o items) _ (and-first (rising o items) _ q₄)
+      (and-both (every (follows o Start) items) _ (every-start o items) (and-first (every (fitting (l .reach) (l .snapshot)) items) _ q₅))))
+      (λ h.
+      let f = fields-facts l (length room) (and-first (fieldsHold l (length room)) _ h) in
+      let p = sym (pass-means o Start (l .reach) (l .snapshot) items) ∙ and-second (fieldsHold l (length room)) _ h in
+      let p₁ = and-second (rising o items) _ p in
+      let dim : l .d ≤ 8 = range-8 (l .measure) (l .d) (f .range) in
+      let few : leb (length items) (length room / 3) ≡ true = rw (items-length (l .count) room) (le-leb (l .count) (length room / 3) (f .few)) in
+      let well : startedBy (l .started) (length items) (l .snapshot) (l .complete) ≡ true = rw (items-length (l .count) room) (f .start) in
+      and-both (unusedZero (l .d) (l .probe)) _ (f .unused)
+      (and-both (inRange (l .measure) (l .d)) _ (f .range)
+      (and-both (eqb (length (take (l .d) (l .probe))) (l .d)) _ (eq-eqb _ _ (length-take-le (l .d) (l .probe) (omega arith)))
+      (and-both (leb (l .snapshot) 4096) _ (le-leb (l .snapshot) 4096 (f .snapshot))
+      (and-both (leb (length items) (length room / 3)) _ few
+      (and-both (rising o items) _ (and-first (rising o items) _ p)
+      (and-both (every (fitting (l .reach) (l .snapshot)) items) _ (and-second (every (follows o Start) items) _ p₁) well)))))))
+
+  -- the ways through the test
+  module _ (a : Bool) (ae : a ≡ fieldsHold l (length room)) where
+    pub unsound-fields : not a ≡ true → false ≡ soundHeld o (held l room)
+    unsound-fields h = rw (sound-splits, ← ae, not-true a h)
+
+    module _ (ha : not a ≡ false) where
+      pub fields-few : l .count * 3 ≤ length room
+      fields-few = let f = fields-facts l (length room) (sym ae ∙ not-false a ha) in omega (arith, f .few)
+
+      pub sound-items : (r : Bool) → r ≡ itemsHold o Start (l .reach) (l .snapshot) items → r ≡ soundHeld o (held l room)
+      sound-items r e = rw (sound-splits, ← ae, not-false a ha) e

@@ -1,0 +1,333 @@
+-- An answer beside a list: what each way through the tests of taking gives. Assumes nothing.
+use Prim.Native.Nat.{ℕ, zero, suc, _+_, _-_, _*_, _/_, _<_, _≤_}
+use mathlib.Core.Path.{_≡_, refl, sym, ap, _∙_}
+use mathlib.Core.Bool.{Bool, true, false, not, cond, _&&_, _||_}
+use mathlib.Core.List.{List, [], _∷_, _++_}
+use native.Mathlib.Omega.{arith}
+use lib.Dec.{leb, eqb}
+use lib.ListN.{length, getD, take, drop, length-append}
+use lib.Seq.{getD-drop, paste}
+use borrow.Author.Tests.{le-leb, lt-leb, leb-true, eq-eqb, ne-eqb, eqb-true, not-true, not-false, ltb-true}
+use Rattle.paper.specs.declared.lines.Answer.{Answer}
+use Rattle.paper.specs.declared.lines.Scope.{Scope}
+use Rattle.paper.specs.declared.lists.List as lists
+use Rattle.paper.specs.declared.lists.Taken.{Taken}
+use Rattle.paper.specs.declared.orders.Mark.{Mark}
+use Rattle.paper.specs.declared.orders.Order.{Order}
+use Rattle.paper.specs.declared.orders.Place.{Place}
+use Rattle.paper.specs.declared.orders.Place.the-variants.{Start, After}
+use Rattle.paper.specs.Orders.{Item, noItem, follows, snapshotOf, flat, fronted}
+use Rattle.paper.specs.Ends.{every, rising, fitting, lastItem, presentPlace, sameProbe, sameQuery, samePlace, toPresent, pageHolds, startedWell, soundIn, joinedTo, taken, Listing}
+use Rattle.paper.specs.Lists.{Held, held, itemsIn, queryOf, listing, unusedZero, soundHeld, roomFor, put}
+use Rattle.paper.specs.Codec.{placeIn, scopeOf, answered}
+use Rattle.paper.specs.Outcomes.{Outcome, refused, gives, must, number}
+use Rattle.paper.specs.Tree.{inRange}
+use Rattle.paper.proofs.Tests.{and-first, and-second, never}
+use Rattle.tablet.specs.Holding.{itemsHold, startedBy, Asks, joinedFields, TakenIs}
+use Rattle.tablet.proofs.ItemLaws.{itemAt, pass-means}
+use Rattle.tablet.proofs.ListLaws.{items-length, same-take}
+
+-- ---- places
+
+start-cond : (b : Bool) (n : ℕ) (m : Mark) → b ≡ samePlace Start (cond b Start (After n m))
+unfolding samePlace
+start-cond true n m = refl
+start-cond false n m = refl
+
+module _ (p q : Scope) where
+  pub place-start : p .from ≡ 0 → eqb (q .from) 0 ≡ samePlace (placeIn p) (placeIn q)
+  unfolding placeIn
+  place-start h = rw (eq-eqb (p .from) 0 h) (start-cond (eqb (q .from) 0) (q .snapshot) (record { distance = q .distance; number = q .number }))
+
+  module _ (hp : p .from ≡ 0 → ⊥) where
+    pub place-from : q .from ≡ 0 → false ≡ samePlace (placeIn p) (placeIn q)
+    unfolding placeIn samePlace
+    place-from h = rw (ne-eqb (p .from) 0 hp, eq-eqb (q .from) 0 h)
+
+    module _ (hq : q .from ≡ 0 → ⊥) where
+      pub place-snapshot : (p .snapshot ≡ q .snapshot → ⊥) → false ≡ samePlace (placeIn p) (placeIn q)
+      unfolding placeIn samePlace
+      place-snapshot h = rw (ne-eqb (p .from) 0 hp, ne-eqb (q .from) 0 hq, ne-eqb (p .snapshot) (q .snapshot) h)
+
+      pub place-distance : p .snapshot ≡ q .snapshot → (p .distance ≡ q .distance → ⊥) → false ≡ samePlace (placeIn p) (placeIn q)
+      unfolding placeIn samePlace
+      place-distance e h =
+          rw (ne-eqb (p .from) 0 hp, ne-eqb (q .from) 0 hq, eq-eqb (p .snapshot) (q .snapshot) e, ne-eqb (p .distance) (q .distance) h)
+
+      pub place-number : p .snapshot ≡ q .snapshot → p .distance ≡ q .distance → eqb (p .number) (q .number) ≡ samePlace (placeIn p) (placeIn q)
+      unfolding placeIn samePlace
+      place-number e f =
+          rw (ne-eqb (p .from) 0 hp, ne-eqb (q .from) 0 hq, eq-eqb (p .snapshot) (q .snapshot) e, eq-eqb (p .distance) (q .distance) f)
+
+-- what was written reads back
+pub place-back : (reach : ℕ) (p : Place) → placeIn (scopeOf reach p (snapshotOf p 0)) ≡ p
+unfolding placeIn scopeOf
+place-back reach Start = refl
+place-back reach (After n m) = refl
+
+-- ---- queries
+
+module _ (l : lists.List) (y : Answer) where
+  pub query-table : (l .table ≡ y .table → ⊥) → (o : Order) → false ≡ sameQuery (queryOf o l) (answered o y .query)
+  unfolding sameQuery answered
+  query-table h o = rw (ne-eqb (l .table) (y .table) h)
+
+  module _ (ht : l .table ≡ y .table) where
+    pub query-measure : (l .measure ≡ y .measure → ⊥) → (o : Order) → false ≡ sameQuery (queryOf o l) (answered o y .query)
+    unfolding sameQuery answered
+    query-measure h o = rw (eq-eqb (l .table) (y .table) ht, ne-eqb (l .measure) (y .measure) h)
+
+    module _ (hm : l .measure ≡ y .measure) where
+      pub query-d : (l .d ≡ y .d → ⊥) → (o : Order) → false ≡ sameQuery (queryOf o l) (answered o y .query)
+      unfolding sameQuery answered
+      query-d h o = rw (eq-eqb (l .table) (y .table) ht, eq-eqb (l .measure) (y .measure) hm, ne-eqb (l .d) (y .d) h)
+
+      module _ (hd : l .d ≡ y .d) (b : Bool) (be : b ≡ sameProbe (l .d) (l .probe) (y .probe)) where
+        probes : sameProbe (l .d) (take (l .d) (l .probe)) (take (y .d) (y .probe)) ≡ b
+        probes = same-take (l .d) (l .d) (y .d) (l .probe) (y .probe) (omega arith) (omega arith) ∙ sym be
+
+        pub query-probe : not b ≡ true → (o : Order) → false ≡ sameQuery (queryOf o l) (answered o y .query)
+        unfolding sameQuery answered
+        query-probe h o =
+            rw (eq-eqb (l .table) (y .table) ht, eq-eqb (l .measure) (y .measure) hm, eq-eqb (l .d) (y .d) hd, probes, not-true b h)
+
+        pub query-reach : not b ≡ false → (o : Order) → eqb (l .reach) (y .scope .reach) ≡ sameQuery (queryOf o l) (answered o y .query)
+        unfolding sameQuery answered
+        query-reach h o =
+            rw (eq-eqb (l .table) (y .table) ht, eq-eqb (l .measure) (y .measure) hm, eq-eqb (l .d) (y .d) hd, probes, not-false b h)
+
+-- ---- the present ask
+
+item-get : (n k : ℕ) (room : List ℕ) → k < n → getD (itemsIn n room) k noItem ≡ itemAt room k
+unfolding itemsIn
+item-get zero k room h = absurd (omega arith)
+item-get (suc n) zero room h = refl
+item-get (suc n) (suc k) room h =
+    let a : 3 + k * 3 ≡ suc k * 3 = omega arith in
+    let b : 3 + (k * 3 + 1) ≡ suc k * 3 + 1 = omega arith in
+    let e : 3 + (k * 3 + 2) ≡ suc k * 3 + 2 = omega arith in
+    item-get n k (drop 3 room) (omega arith)
+    ∙ rw (getD-drop 3 room (k * 3) 0, getD-drop 3 room (k * 3 + 1) 0, getD-drop 3 room (k * 3 + 2) 0, a, b, e)
+
+every-at : (p : Item → Bool) (l : List Item) (k : ℕ) → k < length l → every p l ≡ true → p (getD l k noItem) ≡ true
+unfolding every
+every-at p [] k h e = absurd (omega arith)
+every-at p (a ∷ l) zero h e = and-first (p a) _ e
+every-at p (a ∷ l) (suc k) h e = every-at p l k (omega arith) (and-second (p a) _ e)
+
+-- the last item of a list that has one
+last-at : (n : ℕ) (room : List ℕ) → 1 ≤ n → lastItem (itemsIn n room) ≡ itemAt room (n - 1)
+last-at n room h = rw (items-length n room) (item-get n (n - 1) room (omega arith))
+
+module _ (l : lists.List) (room : List ℕ) where
+  pub present-after : l .started ≡ true → 1 ≤ l .count → (o : Order)
+      → record { reach = l .reach; from = 1; snapshot = l .snapshot; distance = getD room (l .count * 3 - 1) 0; number = getD room (l .count * 3 - 3) 0 }
+      ≡ scopeOf (l .reach) (presentPlace (listing o (held l room))) (snapshotOf (presentPlace (listing o (held l room))) 0)
+  unfolding presentPlace listing scopeOf
+  present-after s h o =
+      let a : (l .count - 1) * 3 ≡ l .count * 3 - 3 = omega arith in
+      let b : l .count * 3 - 3 + 2 ≡ l .count * 3 - 1 = omega arith in
+      rw (s, last-at (l .count) room h, a, b)
+
+  pub present-start : l .started ≡ false → (o : Order)
+      → record { reach = l .reach; from = 0; snapshot = 0; distance = 0; number = 0 }
+      ≡ scopeOf (l .reach) (presentPlace (listing o (held l room))) (snapshotOf (presentPlace (listing o (held l room))) 0)
+  unfolding presentPlace listing scopeOf
+  present-start s o = rw s
+
+  module _ (y : Answer) (a : Bool) (ae : (o : Order) → a ≡ sameQuery (queryOf o l) (answered o y .query)) where
+    pub present-query : not a ≡ true → (o : Order) → false ≡ toPresent (listing o (held l room)) (answered o y)
+    unfolding toPresent listing
+    present-query h o = rw (← ae o, not-true a h)
+
+    pub present-place : not a ≡ false → (p : Scope)
+        → ((o : Order) → p ≡ scopeOf (l .reach) (presentPlace (listing o (held l room))) (snapshotOf (presentPlace (listing o (held l room))) 0))
+        → (r : Bool) → r ≡ samePlace (placeIn p) (placeIn (y .scope)) → (o : Order) → r ≡ toPresent (listing o (held l room)) (answered o y)
+    unfolding toPresent listing answered
+    present-place h p pe r e o =
+        let b : placeIn p ≡ presentPlace (listing o (held l room)) = ap placeIn (pe o) ∙ place-back (l .reach) (presentPlace (listing o (held l room))) in
+        e ∙ ap (λ (u : Place). samePlace u (placeIn (y .scope))) b ∙ rw (← ae o, not-false a h)
+
+-- ---- the page
+
+module _ (o : Order) (y : Answer) (u : Place) (ue : u ≡ placeIn (y .scope)) (a : Bool)
+    (ae : a ≡ itemsHold o u (y .scope .reach) (y .scope .snapshot) (itemsIn (y .count) (y .items))) where
+  page-splits : pageHolds (answered o y) ≡ a && (leb 1 (y .count) || eqb (y .last) 1)
+  unfolding pageHolds answered
+  page-splits =
+      rw (ae, ue, pass-means o (placeIn (y .scope)) (y .scope .reach) (y .scope .snapshot) (itemsIn (y .count) (y .items)), items-length (y .count) (y .items))
+      (and-group (rising o (itemsIn (y .count) (y .items))) (every (follows o (placeIn (y .scope))) (itemsIn (y .count) (y .items)))
+      (every (fitting (y .scope .reach) (y .scope .snapshot)) (itemsIn (y .count) (y .items))) (leb 1 (y .count) || eqb (y .last) 1))
+    where
+      and-group : (r w f e : Bool) → r && (w && (f && e)) ≡ (r && (w && f)) && e
+      and-group true true f e = refl
+      and-group true false f e = refl
+      and-group false w f e = refl
+
+  pub page-items : not a ≡ true → false ≡ pageHolds (answered o y)
+  page-items h = rw (page-splits, not-true a h)
+
+  pub page-some : not a ≡ false → 1 ≤ y .count → true ≡ pageHolds (answered o y)
+  page-some h k = rw (page-splits, not-false a h, le-leb 1 (y .count) k)
+
+  pub page-none : not a ≡ false → y .count < 1 → eqb (y .last) 1 ≡ pageHolds (answered o y)
+  page-none h k = rw (page-splits, not-false a h, lt-leb 1 (y .count) k)
+
+-- ---- taking
+
+flat-append : (a b : List Item) → flat (a ++ b) ≡ flat a ++ flat b
+unfolding flat
+flat-append [] b = refl
+flat-append (x ∷ a) b = rw (flat-append a b)
+
+flat-items : (k : ℕ) (room : List ℕ) → k * 3 ≤ length room → flat (itemsIn k room) ≡ take (k * 3) room
+unfolding flat itemsIn
+flat-items zero room h = refl
+flat-items (suc k) [] h = absurd (omega arith)
+flat-items (suc k) (x ∷ []) h = absurd (omega arith)
+flat-items (suc k) (x ∷ y ∷ []) h = absurd (omega arith)
+flat-items (suc k) (x ∷ y ∷ z ∷ room) h =
+    let e : suc k * 3 ≡ suc (suc (suc (k * 3))) = omega arith in
+    rw (e, flat-items k room (omega arith))
+
+-- items joined behind the items that stand in the room
+join-front : (room items : List ℕ) (c n : ℕ) → c * 3 + n * 3 ≤ length room → n * 3 ≤ length items
+    → fronted (itemsIn c room ++ itemsIn n items) room ≡ paste room (c * 3) items (n * 3)
+unfolding fronted
+join-front room items c n h k =
+    let e : 3 * length (itemsIn c room ++ itemsIn n items) ≡ c * 3 + n * 3 =
+    omega (arith, length-append (itemsIn c room) (itemsIn n items), items-length c room, items-length n items) in
+    rw (e, flat-append (itemsIn c room) (itemsIn n items), flat-items c room (omega arith), flat-items n items k)
+
+has-item : (started complete : Bool) (n snapshot : ℕ) → started ≡ true → complete ≡ false → startedBy started n snapshot complete ≡ true → 1 ≤ n
+unfolding startedBy
+has-item true true n snapshot s c h = absurd (never true refl c)
+has-item true false zero snapshot s c h = absurd (never false h refl)
+has-item true false (suc n) snapshot s c h = omega arith
+has-item false complete n snapshot s c h = absurd (never false s refl)
+
+last-below : (n : ℕ) (room : List ℕ) (reach snapshot : ℕ) → 1 ≤ n → every (fitting reach snapshot) (itemsIn n room) ≡ true → getD room (n * 3 - 3) 0 < snapshot
+last-below n room reach snapshot h e =
+    let k : n - 1 < length (itemsIn n room) = omega (arith, items-length n room) in
+    let f : fitting reach snapshot (itemAt room (n - 1)) ≡ true =
+    rw (item-get n (n - 1) room (omega arith)) at (every-at (fitting reach snapshot) (itemsIn n room) (n - 1) k e) in
+    let a : (n - 1) * 3 ≡ n * 3 - 3 = omega arith in
+    let b : getD room ((n - 1) * 3) 0 < snapshot = ltb-true (getD room ((n - 1) * 3) 0) snapshot (and-second (leb (getD room ((n - 1) * 3 + 2) 0) reach) _ f) in
+    rw a at b
+
+-- what soundness says of a list that is not complete
+module _ (o : Order) (l : lists.List) (room : List ℕ) (sound : soundHeld o (held l room) ≡ true) where
+  parts : soundIn (length room / 3) (listing o (held l room)) ≡ true
+  unfolding soundHeld
+  parts = and-second (unusedZero (l .d) (l .probe)) _ sound
+
+  abbrev items : List Item
+  items = itemsIn (l .count) room
+
+  pub sound-few : l .count ≤ length room / 3
+  unfolding soundIn listing
+  sound-few =
+      let a = and-second (inRange (l .measure) (l .d)) _ parts in
+      let b = and-second (eqb (length (take (l .d) (l .probe))) (l .d)) _ a in
+      let e = and-second (leb (l .snapshot) 4096) _ b in
+      let f : length items ≤ length room / 3 = leb-true (length items) (length room / 3) (and-first (leb (length items) (length room / 3)) _ e) in
+      omega (arith, items-length (l .count) room)
+
+  pub sound-asks : l .complete ≡ false → Asks l room
+  unfolding soundIn listing startedWell startedBy
+  sound-asks open₀ =
+      let a = and-second (inRange (l .measure) (l .d)) _ parts in
+      let b = and-second (eqb (length (take (l .d) (l .probe))) (l .d)) _ a in
+      let e = and-second (leb (l .snapshot) 4096) _ b in
+      let f = and-second (leb (length items) (length room / 3)) _ e in
+      let g = and-second (rising o items) _ f in
+      let fit = and-first (every (fitting (l .reach) (l .snapshot)) items) _ g in
+      let well = and-second (every (fitting (l .reach) (l .snapshot)) items) _ g in
+      let some : l .started ≡ true → 1 ≤ l .count =
+      λ s. let i : 1 ≤ length items = has-item (l .started) (l .complete) (length items) (l .snapshot) s open₀ well in omega (arith, items-length (l .count) room) in
+      record {
+        range = and-first (inRange (l .measure) (l .d)) _ parts;
+        few = omega (arith, sound-few);
+        snapshot = leb-true (l .snapshot) 4096 (and-first (leb (l .snapshot) 4096) _ b);
+        some = some;
+        below = λ s. last-below (l .count) room (l .reach) (l .snapshot) (some s) fit;
+      }
+
+-- ---- the ways through `take_answer`
+
+pub must-stop : {A : Type 0} (b : Bool) (n : ℕ) (x : Outcome A) → b ≡ false → must b n x ≡ refused n
+must-stop true n x h = absurd (never true refl h)
+must-stop false n x h = refl
+
+pub must-go : {A : Type 0} (b : Bool) (n : ℕ) (x : Outcome A) → b ≡ true → must b n x ≡ x
+must-go true n x h = refl
+must-go false n x h = absurd (never false h refl)
+
+-- a refusal leaves what is held
+pub refuse-is : (s : Held) (x : Outcome Listing) (n : ℕ) (r : Taken) → x ≡ refused n → r ≡ record { refusal = n; list = s .list } → TakenIs s x r (s .room)
+unfolding put
+refuse-is s x n r e re =
+    record {
+      refusal = ap (λ (t : Taken). t .refusal) re ∙ sym (ap number e);
+      state = ap (λ (t : Taken). held (t .list) (s .room)) re ∙ sym (ap (put s) e);
+    }
+
+module _ (o : Order) (l : lists.List) (room : List ℕ) (y : Answer) where
+  abbrev L : Listing
+  L = listing o (held l room)
+
+  abbrev call : Outcome Listing
+  call = taken (length room / 3) L (answered o y)
+
+  pub take-16 : l .complete ≡ true → call ≡ refused 16
+  unfolding taken listing
+  take-16 h = must-stop (not (l .complete)) 16 _ (ap not h)
+
+  module _ (hc : l .complete ≡ false) (a : Bool) (ae : a ≡ toPresent L (answered o y)) where
+    go-16 : not (l .complete) ≡ true
+    go-16 = ap not hc
+
+    pub take-13 : not a ≡ true → call ≡ refused 13
+    unfolding taken listing
+    take-13 h = must-go (not (l .complete)) 16 _ go-16 ∙ must-stop (toPresent L (answered o y)) 13 _ (sym ae ∙ not-true a h)
+
+    module _ (ha : not a ≡ false) (b : Bool) (be : b ≡ pageHolds (answered o y)) where
+      pub take-14 : not b ≡ true → call ≡ refused 14
+      unfolding taken listing
+      take-14 h =
+          must-go (not (l .complete)) 16 _ go-16
+          ∙ must-go (toPresent L (answered o y)) 13 _ (sym ae ∙ not-false a ha)
+          ∙ must-stop (pageHolds (answered o y)) 14 _ (sym be ∙ not-true b h)
+
+      module _ (hb : not b ≡ false) (few : l .count ≤ length room / 3) where
+        sum : length (L .items) + length (answered o y .items) ≡ l .count + y .count
+        unfolding listing answered
+        sum = omega (arith, items-length (l .count) room, items-length (y .count) (y .items))
+
+        up-to-15 : call ≡ must (leb (length (L .items) + length (answered o y .items)) (length room / 3)) 15 (gives (joinedTo L (answered o y)))
+        unfolding taken listing
+        up-to-15 =
+            must-go (not (l .complete)) 16 _ go-16
+            ∙ must-go (toPresent L (answered o y)) 13 _ (sym ae ∙ not-false a ha)
+            ∙ must-go (pageHolds (answered o y)) 14 _ (sym be ∙ not-false b hb)
+
+        pub take-15 : length room / 3 - l .count < y .count → call ≡ refused 15
+        take-15 h = up-to-15 ∙ must-stop _ 15 _ (lt-leb (length (L .items) + length (answered o y .items)) (length room / 3) (omega (arith, sum)))
+
+        pub take-joined : y .count ≤ length room / 3 - l .count → call ≡ gives (joinedTo L (answered o y))
+        take-joined h = up-to-15 ∙ must-go _ 15 _ (le-leb (length (L .items) + length (answered o y .items)) (length room / 3) (omega (arith, sum)))
+
+  -- the page is joined, and rooms behind it keep their contents
+  pub joined-is : (x : Outcome Listing) (t : lists.List) (after : List ℕ) → x ≡ gives (joinedTo L (answered o y))
+      → l .count * 3 + y .count * 3 ≤ length room → y .count * 3 ≤ length (y .items)
+      → t ≡ joinedFields l y (y .count) → after ≡ paste room (l .count * 3) (y .items) (y .count * 3)
+      → TakenIs (held l room) x (record { refusal = 0; list = t }) after
+  unfolding put joinedTo listing answered
+  joined-is x t after e h k te ae =
+      let n : length (itemsIn (l .count) room ++ itemsIn (y .count) (y .items)) ≡ l .count + y .count =
+      omega (arith, length-append (itemsIn (l .count) room) (itemsIn (y .count) (y .items)), items-length (l .count) room, items-length (y .count) (y .items)) in
+      record {
+        refusal = sym (ap number e);
+        state = ap (λ (u : lists.List). held u after) te ∙ ap (held (joinedFields l y (y .count))) ae
+            ∙ rw (← join-front room (y .items) (l .count) (y .count) h k, ← n) (sym (ap (put (held l room)) e));
+      }

@@ -1,0 +1,103 @@
+-- `tablet::items::item_holds` meets its contract, a law for each way. Assumes nothing.
+use lib.ListN.{getD}
+use Rattle.tablet.proofs.ItemLaws.{way-reach, way-snapshot, way-mark, way-next, way-last}
+use borrow.Author.Needs.{needs}
+use Rattle.tablet.proofs.items.item_holds.Statement.{statement}
+use Rattle.tablet.proofs.items.item_holds.Tie as tie
+
+mul-k : tie.Need-mul-k
+mul-k c = search needs
+
+mul-k-2 : tie.Need-mul-k-2
+mul-k-2 c = search needs
+
+shared-slice-read-k : tie.Need-shared-slice-read-k
+shared-slice-read-k c = search needs
+
+mul-x : tie.Need-mul-x
+mul-x c = search needs
+
+add-x : tie.Need-add-x
+add-x c = search needs
+
+mul-x-2 : tie.Need-mul-x-2
+mul-x-2 c = search needs
+
+shared-slice-read-x : tie.Need-shared-slice-read-x
+shared-slice-read-x c = search needs
+
+returns : tie.Need-returns
+returns c = way-reach _ _ _ _ _ _ _ (c .before .before .before .before .pre .0) (c .if1 .taken)
+
+returns-2 : tie.Need-returns-2
+returns-2 c = way-snapshot _ _ _ _ _ _ _ (c .before .before .before .before .before .pre .0) (c .before .if1 .left) (c .if2 .taken)
+
+is-after-requires : tie.Need-is-after-requires
+is-after-requires c κs = search needs
+
+returns-3 : tie.Need-returns-3
+returns-3 c = way-mark _ _ _ _ _ _ _ (c .before .before .before .before .before .before .before .pre .0) (c .before .before .before .if1 .left) (c .before .before .if2 .left) (c .before .is-after .result) (c .before .is-after .ensures _) (c .if3 .taken)
+
+add-if4 : tie.Need-add-if4
+add-if4 c = search needs
+
+mul-follows : tie.Need-mul-follows
+mul-follows c = search needs
+
+add-follows : tie.Need-add-follows
+add-follows c = search needs
+
+mul-follows-2 : tie.Need-mul-follows-2
+mul-follows-2 c = search needs
+
+shared-slice-read-follows : tie.Need-shared-slice-read-follows
+shared-slice-read-follows c = search needs
+
+mul-follows-3 : tie.Need-mul-follows-3
+mul-follows-3 c = search needs
+
+add-follows-2 : tie.Need-add-follows-2
+add-follows-2 c = search needs
+
+mul-follows-4 : tie.Need-mul-follows-4
+mul-follows-4 c = search needs
+
+shared-slice-read-follows-2 : tie.Need-shared-slice-read-follows-2
+shared-slice-read-follows-2 c = search needs
+
+follows-requires : tie.Need-follows-requires
+follows-requires c κs = search needs
+
+returns-4 : tie.Need-returns-4
+returns-4 c = way-next _ _ _ _ _ _ _ (c .before .before .before .before .before .before .before .before .before .before .before .pre .0) (c .before .before .before .before .before .before .before .if1 .left) (c .before .before .before .before .before .before .if2 .left) (c .before .before .before .before .before .is-after .result) (c .before .before .before .before .before .is-after .ensures _) (c .before .before .before .before .if3 .left) (c .before .before .before .if4 .taken) _ (c .follows .ensures)
+
+returns-5 : tie.Need-returns-5
+returns-5 c = way-last _ _ _ _ _ _ _ (c .before .before .before .before .before .before .before .before .pre .0) (c .before .before .before .before .if1 .left) (c .before .before .before .if2 .left) (c .before .before .is-after .result) (c .before .before .is-after .ensures _) (c .before .if3 .left) (c .if4 .left)
+
+pub item-holds-spec : {M : Type 1} → statement M
+item-holds-spec =
+    tie.close
+    (tie.spec
+    mul-k
+    mul-k-2
+    shared-slice-read-k
+    mul-x
+    add-x
+    mul-x-2
+    shared-slice-read-x
+    returns
+    returns-2
+    is-after-requires
+    returns-3
+    add-if4
+    mul-follows
+    add-follows
+    mul-follows-2
+    shared-slice-read-follows
+    mul-follows-3
+    add-follows-2
+    mul-follows-4
+    shared-slice-read-follows-2
+    follows-requires
+    returns-4
+    returns-5)

@@ -1,0 +1,76 @@
+-- What the tablet asks of items, one after another, and of the fields of a list. Definitions only.
+use Prim.Native.Nat.{ℕ, _+_, _-_, _*_, _/_, _≤_, _<_}
+use mathlib.Core.Path.{_≡_}
+use mathlib.Core.Bool.{Bool, true, cond, not, _&&_, _||_}
+use mathlib.Core.List.{List, [], _∷_}
+use lib.Dec.{leb, eqb}
+use lib.IntN.{ℤ}
+use lib.ListN.{length, getD}
+use Rattle.paper.specs.declared.lines.Answer.{Answer}
+use Rattle.paper.specs.declared.lists.List as lists
+use Rattle.paper.specs.declared.lists.Taken.{Taken}
+use Rattle.paper.specs.declared.orders.Order.{Order}
+use Rattle.paper.specs.declared.orders.Order.the-variants.{Near}
+use Rattle.paper.specs.declared.orders.Place.{Place}
+use Rattle.paper.specs.Orders.{Item, Query, follows}
+use Rattle.paper.specs.Tree.{inRange}
+use Rattle.paper.specs.Ends.{fitting, leads, Listing}
+use Rattle.paper.specs.Lists.{Held, held, unusedZero, put}
+use Rattle.paper.specs.Outcomes.{Outcome, number}
+
+-- the first of the items is within reach, below the snapshot and after the place, and comes before the next
+unfoldable pub itemHolds : Order → Place → ℕ → ℕ → List Item → Bool
+itemHolds o p reach snapshot [] = true
+itemHolds o p reach snapshot (a ∷ l) = fitting reach snapshot a && (follows o p a && leads o a l)
+
+-- so are all of them, in one pass
+unfoldable pub itemsHold : Order → Place → ℕ → ℕ → List Item → Bool
+itemsHold o p reach snapshot [] = true
+itemsHold o p reach snapshot (a ∷ l) = itemHolds o p reach snapshot (a ∷ l) && itemsHold o p reach snapshot l
+
+-- a list of n items has started well
+unfoldable pub startedBy : Bool → ℕ → ℕ → Bool → Bool
+startedBy started n snapshot complete = cond started (leb 1 n || complete) (eqb n 0 && (eqb snapshot 0 && not complete))
+
+-- what soundness asks of a list's fields, in a room of so many numbers
+unfoldable pub fieldsHold : lists.List → ℕ → Bool
+fieldsHold l room =
+    inRange (l .measure) (l .d)
+    && (unusedZero (l .d) (l .probe)
+    && (leb (l .snapshot) 4096
+    && (leb (l .count) (room / 3)
+    && startedBy (l .started) (l .count) (l .snapshot) (l .complete))))
+
+-- what a sound list that is not complete lends its next ask
+pub record Asks (l : lists.List) (room : List ℕ) : Type 0 where
+  pub range : inRange (l .measure) (l .d) ≡ true
+  pub few : l .count * 3 ≤ length room
+  pub snapshot : l .snapshot ≤ 4096
+  -- it has a last item, whose number is below the snapshot
+  pub some : l .started ≡ true → 1 ≤ l .count
+  pub below : l .started ≡ true → getD room (l .count * 3 - 3) 0 < l .snapshot
+
+-- the fields of a list with n items of an answer joined to it
+abbrev pub joinedFields : lists.List → Answer → ℕ → lists.List
+joinedFields l y n =
+    record {
+      table = l .table;
+      measure = l .measure;
+      d = l .d;
+      probe = l .probe;
+      reach = l .reach;
+      started = true;
+      snapshot = y .scope .snapshot;
+      count = l .count + n;
+      complete = eqb (y .last) 1;
+    }
+
+-- a call on the list that is held gave r and left the room at `after`, where the definition says `outcome`
+pub record TakenIs (s : Held) (outcome : Outcome Listing) (r : Taken) (after : List ℕ) : Type 0 where
+  pub refusal : r .refusal ≡ number outcome
+  pub state : held (r .list) after ≡ put s outcome
+
+-- a query in near order, the base's order of a list
+abbrev pub asNear : ℕ → ℕ → ℕ → List ℤ → ℕ → Query
+asNear table measure d probe reach =
+    record { order = Near; table = table; measure = measure; d = d; probe = probe; reach = reach }

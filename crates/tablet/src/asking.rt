@@ -1,0 +1,70 @@
+// The present ask of a list: from the start, or after its last item.
+ghost use mathlib.Core.Path.{_≡_};
+ghost use mathlib.Core.Bool.{true};
+ghost use mathlib.Core.List.{_++_};
+ghost use Prim.Native.Nat.{_≤_, _<_};
+ghost use lib.ListN.{length, drop};
+ghost use Rattle.paper.specs.Orders.{snapshotOf};
+ghost use Rattle.paper.specs.Ends.{presentPlace, presentAsk};
+ghost use Rattle.paper.specs.Lists.{held, listing, soundHeld, askingHeld};
+ghost use Rattle.paper.specs.Codec.{scopeOf, askLine, lines, wroteOf, roomAfter};
+ghost use Rattle.paper.specs.declared.orders.Order.{Order};
+ghost use Rattle.paper.specs.declared.orders.Order.the-variants.{Near};
+ghost use Rattle.tablet.specs.Holding.{Asks};
+use paper::lines::Scope;
+use paper::lines::Wrote;
+use paper::lists::List;
+
+// Where the next page starts, as lines write it.
+pub fn present(l: List, room: &[u64]) -> Scope
+    requires { ⌜ Asks l (now room) ⌝ }
+    ensures { λ r. ⌜ ((o : Order) → r ≡ scopeOf (l .reach) (presentPlace (listing o (held l (now (room .entry))))) (snapshotOf (presentPlace (listing o (held l (now (room .entry))))) 0)) ⌝ }
+{
+    let n = l.count;
+    if l.started {
+        return Scope {
+            reach: l.reach,
+            from: 1,
+            snapshot: l.snapshot as u16,
+            distance: room[n * 3 - 1],
+            number: room[n * 3 - 3] as u16,
+        };
+    }
+    Scope {
+        reach: l.reach,
+        from: 0,
+        snapshot: 0,
+        distance: 0,
+        number: 0,
+    }
+}
+
+// Writes the present ask of a sound list.
+pub fn write_ask(l: List, room: &[u64], size: usize, out: &mut [u8]) -> Wrote
+    requires { ⌜ soundHeld Near (held l (now room)) ≡ true ⌝ }
+    ensures { λ r. ⌜ (r ≡ wroteOf (askingHeld lines Near (held l (now (room .entry))) size (length (now (out .entry))))) × (now (out .exit) ≡ roomAfter (askingHeld lines Near (held l (now (room .entry))) size (length (now (out .entry)))) (now (out .entry))) ⌝ }
+{
+    if l.complete {
+        return Wrote::Refused(16);
+    }
+    if size < 1 {
+        return Wrote::Refused(6);
+    }
+    if 16 < size {
+        return Wrote::Refused(6);
+    }
+    if out.len() < 123 {
+        return Wrote::Refused(12);
+    }
+    put_ask(l, room, size, out)
+}
+
+fn put_ask(l: List, room: &[u64], size: usize, out: &mut [u8]) -> Wrote
+    requires { ⌜ Asks l (now room) × ((1 ≤ size) × ((size ≤ 16) × (123 ≤ length (now out)))) ⌝ }
+    ensures { λ r. ⌜ (r ≡ Wrote.Line (length (askLine (presentAsk (listing Near (held l (now (room .entry)))) size)))) × (now (out .exit) ≡ askLine (presentAsk (listing Near (held l (now (room .entry)))) size) ++ drop (length (askLine (presentAsk (listing Near (held l (now (room .entry)))) size))) (now (out .entry))) ⌝ }
+{
+    let p = present(l, room);
+    let probe = l.probe;
+    let d = l.d;
+    lines::write_ask(l.table, l.measure, d as u8, &probe[0..d], p, size as u8, out)
+}

@@ -1,0 +1,75 @@
+// The soundness test of a list in lent memory, for any contents whatsoever.
+ghost use mathlib.Core.Path.{_≡_};
+ghost use Prim.Native.Nat.{_<_};
+ghost use lib.ListN.{length};
+ghost use Rattle.paper.specs.Tree.{inRange};
+ghost use Rattle.paper.specs.Lists.{held, soundHeld};
+ghost use Rattle.tablet.specs.Holding.{startedBy, fieldsHold};
+use crate::items::items_hold;
+use crate::probes::unused_zero;
+use paper::lists::List;
+use paper::orders::Order;
+use paper::orders::Place;
+use paper::points::Measure;
+
+pub fn in_range(measure: u8, d: usize) -> bool
+    ensures { λ r. ⌜ r ≡ inRange measure d ⌝ }
+{
+    if measure < Measure::FIRST {
+        return false;
+    }
+    if Measure::LAST < measure {
+        return false;
+    }
+    if d < 1 {
+        return false;
+    }
+    d <= 8
+}
+
+fn started_well(started: bool, count: usize, snapshot: u64, complete: bool) -> bool
+    ensures { λ r. ⌜ r ≡ startedBy started count snapshot complete ⌝ }
+{
+    if started {
+        if 1 <= count {
+            return true;
+        }
+        return complete;
+    }
+    if count == 0 {
+        if snapshot == 0 {
+            return !complete;
+        }
+    }
+    false
+}
+
+// What an array's type says of its length is told along, for whoever does not look into the probe.
+fn fields_hold(l: List, room: usize) -> bool
+    ensures { λ r. ⌜ (r ≡ fieldsHold l room) × (7 < length (l .probe)) ⌝ }
+{
+    let d = l.d;
+    let probe = l.probe;
+    if !in_range(l.measure, d) {
+        return false;
+    }
+    if !unused_zero(d, &probe) {
+        return false;
+    }
+    if 4096 < l.snapshot {
+        return false;
+    }
+    if room / 3 < l.count {
+        return false;
+    }
+    started_well(l.started, l.count, l.snapshot, l.complete)
+}
+
+pub fn is_sound(order: Order, l: List, room: &[u64]) -> bool
+    ensures { λ r. ⌜ r ≡ soundHeld order (held l (now (room .entry))) ⌝ }
+{
+    if !fields_hold(l, room.len()) {
+        return false;
+    }
+    items_hold(order, Place::Start, l.reach, l.snapshot, room, l.count)
+}

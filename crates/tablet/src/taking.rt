@@ -1,0 +1,200 @@
+// Taking an answer: whether it is to the list's present ask, whether its page holds, and joining it to the list.
+ghost use mathlib.Core.Path.{_≡_};
+ghost use mathlib.Core.Bool.{true};
+ghost use Prim.Native.Nat.{_+_, _*_, _≤_, _<_};
+ghost use lib.ListN.{length};
+ghost use lib.Seq.{paste};
+ghost use Rattle.paper.specs.Ends.{sameProbe, sameQuery, samePlace, toPresent, pageHolds, taken};
+ghost use Rattle.paper.specs.Lists.{held, queryOf, listing, roomFor, soundHeld, takingHeld};
+ghost use Rattle.paper.specs.Codec.{placeIn, answered, lines};
+ghost use Rattle.tablet.specs.Holding.{Asks, TakenIs, joinedFields};
+ghost use Rattle.paper.specs.declared.orders.Order as orders-Order;
+ghost use Rattle.paper.specs.declared.orders.Order.the-variants.{Near};
+use crate::asking::present;
+use crate::items::items_hold;
+use crate::probes::same_probe;
+use paper::lines::Answer;
+use paper::lines::Scope;
+use paper::lists::List;
+use paper::lists::Taken;
+use paper::orders::Mark;
+use paper::orders::Order;
+use paper::orders::Place;
+
+fn place_in(p: Scope) -> Place
+    ensures { λ r. ⌜ r ≡ placeIn p ⌝ }
+{
+    if p.from == 0 {
+        return Place::Start;
+    }
+    let mark = Mark::at(p.distance, p.number as u64);
+    Place::After(p.snapshot as u64, mark)
+}
+
+fn same_place(p: Scope, q: Scope) -> bool
+    ensures { λ r. ⌜ r ≡ samePlace (placeIn p) (placeIn q) ⌝ }
+{
+    if p.from == 0 {
+        return q.from == 0;
+    }
+    if q.from == 0 {
+        return false;
+    }
+    if p.snapshot != q.snapshot {
+        return false;
+    }
+    if p.distance != q.distance {
+        return false;
+    }
+    p.number == q.number
+}
+
+fn probes_alike(l: List, y: Answer) -> bool
+    requires { ⌜ l .d ≤ 8 ⌝ }
+    ensures { λ r. ⌜ r ≡ sameProbe (l .d) (l .probe) (y .probe) ⌝ }
+{
+    let d = l.d;
+    let p = l.probe;
+    let q = y.probe;
+    same_probe(d, &p, &q)
+}
+
+fn same_query(l: List, y: Answer) -> bool
+    requires { ⌜ l .d ≤ 8 ⌝ }
+    ensures { λ r. ⌜ ((o : orders-Order.Order) → r ≡ sameQuery (queryOf o l) (answered o y .query)) ⌝ }
+{
+    let scope = y.scope;
+    if l.table != y.table {
+        return false;
+    }
+    if l.measure != y.measure {
+        return false;
+    }
+    if l.d != y.d as usize {
+        return false;
+    }
+    if !probes_alike(l, y) {
+        return false;
+    }
+    l.reach == scope.reach
+}
+
+// Whether an answer is to the list's present ask; page sizes are not compared.
+fn to_present(l: List, room: &[u64], y: Answer) -> bool
+    requires { ⌜ Asks l (now room) ⌝ }
+    ensures { λ r. ⌜ ((o : orders-Order.Order) → r ≡ toPresent (listing o (held l (now (room .entry)))) (answered o y)) ⌝ }
+{
+    if !same_query(l, y) {
+        return false;
+    }
+    let p = present(l, room);
+    let q = y.scope;
+    same_place(p, q)
+}
+
+// Whether an answer's page rises, after the mark, within reach and below the snapshot, and is none only as the last.
+fn page_holds(order: Order, y: Answer) -> bool
+    requires { ⌜ y .count ≤ 16 ⌝ }
+    ensures { λ r. ⌜ r ≡ pageHolds (answered order y) ⌝ }
+{
+    let items = y.items;
+    let scope = y.scope;
+    let n = y.count as usize;
+    let place = place_in(scope);
+    if !items_hold(order, place, scope.reach, scope.snapshot as u64, &items, n) {
+        return false;
+    }
+    if 1 <= n {
+        return true;
+    }
+    y.last == 1
+}
+
+// Copies the first n numbers of a page behind the items that stand in the room.
+fn join(room: &mut [u64], at: usize, items: &[u64], n: usize)
+    requires { ⌜ (at + n ≤ length (now room)) × (n ≤ length (now items)) ⌝ }
+    ensures { λ _. ⌜ now (room .exit) ≡ paste (now (room .entry)) at (now (items .entry)) n ⌝ }
+{
+    let mut i = 0;
+    while i < n {
+        room[at + i] = items[i];
+        i += 1;
+    }
+}
+
+// Joins an answer's page to the items that stand in the room.
+fn join_page(room: &mut [u64], count: usize, y: Answer)
+    requires { ⌜ (count * 3 + y .count * 3 ≤ length (now room)) × (y .count ≤ 16) ⌝ }
+    ensures { λ _. ⌜ (now (room .exit) ≡ paste (now (room .entry)) (count * 3) (y .items) (y .count * 3)) × (47 < length (y .items)) ⌝ }
+{
+    let items = y.items;
+    let n = y.count as usize;
+    join(room, count * 3, &items, n * 3);
+}
+
+fn refused(n: u8, l: List) -> Taken
+    ensures { λ r. ⌜ r ≡ record { refusal = n; list = l } ⌝ }
+{
+    Taken {
+        refusal: n,
+        list: l,
+    }
+}
+
+// The list's fields once n items of an answer are joined to it.
+fn joined(l: List, y: Answer, n: usize) -> List
+    requires { ⌜ l .count + n < 18446744073709551616 ⌝ }
+    ensures { λ r. ⌜ r ≡ joinedFields l y n ⌝ }
+{
+    let probe = l.probe;
+    let scope = y.scope;
+    List {
+        table: l.table,
+        measure: l.measure,
+        d: l.d,
+        probe,
+        reach: l.reach,
+        started: true,
+        snapshot: scope.snapshot as u64,
+        count: l.count + n,
+        complete: y.last == 1,
+    }
+}
+
+// Takes an answer that was read into a sound list.
+pub fn take_answer(order: Order, l: List, room: &mut [u64], y: Answer) -> Taken
+    requires { ⌜ (soundHeld order (held l (now room)) ≡ true) × (y .count ≤ 16) ⌝ }
+    ensures { λ r. ⌜ TakenIs (held l (now (room .entry))) (taken (roomFor (held l (now (room .entry)))) (listing order (held l (now (room .entry)))) (answered order y)) r (now (room .exit)) ⌝ }
+{
+    if l.complete {
+        return refused(16, l);
+    }
+    if !to_present(l, room, y) {
+        return refused(13, l);
+    }
+    if !page_holds(order, y) {
+        return refused(14, l);
+    }
+    let n = y.count as usize;
+    if room.len() / 3 - l.count < n {
+        return refused(15, l);
+    }
+    join_page(room, l.count, y);
+    let list = joined(l, y, n);
+    Taken { refusal: 0, list }
+}
+
+// Takes an answer line into a sound list.
+pub fn take_line(l: List, room: &mut [u64], line: &[u8]) -> Taken
+    requires { ⌜ soundHeld Near (held l (now room)) ≡ true ⌝ }
+    ensures { λ r. ⌜ TakenIs (held l (now (room .entry))) (takingHeld lines Near (held l (now (room .entry))) (now (line .entry))) r (now (room .exit)) ⌝ }
+{
+    let read = lines::read_answer(line);
+    let n = read.refusal;
+    if n != 0 {
+        return refused(n, l);
+    }
+    let near = Order::Near;
+    let y = read.answer;
+    take_answer(near, l, room, y)
+}

@@ -1,0 +1,275 @@
+-- Adding claims to a good table: it stays good, its claims are the old ones with the new ones behind, and nothing else of the lent memory changes. Assumes nothing.
+use Prim.Native.Nat.{ℕ, zero, suc, _+_, _-_, _*_, _<_, _≤_, _^_}
+use mathlib.Core.Path.{_≡_, refl, sym, ap, _∙_}
+use mathlib.Core.List.{List, [], _∷_, _++_, append-assoc, append-nil}
+use native.Mathlib.Omega.{arith}
+use native.Mathlib.Numerals.{add-one}
+use native.Mathlib.Nat.{le-refl, mul-comm, suc-mul}
+use lib.IntN.{ℤ, pos}
+use lib.ListN.{length, getD, set, take, drop, length-append, length-drop, length-set, take-append-drop, List·getD-append}
+use lib.Seq.{length-take-le, take-append-le, drop-append-le, take-at, drop-at, take-all, take-take, getD-take, getD-drop, getD-set-same, getD-set-other, paste, length-paste}
+use Rattle.paper.specs.declared.points.Measure.{Measure}
+use Rattle.paper.specs.declared.tables.Table.{Table}
+use Rattle.paper.specs.Points.{measureOf, distance, Claim, point}
+use Rattle.paper.specs.Tree.{grown, entered, built, Store, store, apart, apartIn, claimsFrom, claimsIn}
+use Rattle.paper.specs.Runs.{counted, nextGrown, added, addedRun}
+use Rattle.tree.specs.Rooms.{Enterable, IsBuilt}
+use Rattle.tree.specs.Soundness.{Good, Roomy}
+use Rattle.tree.proofs.Agree.{stays-built, enter-long}
+use Rattle.tree.proofs.Same.{build-ext}
+use Rattle.tree.proofs.Places.{before-next}
+use Rattle.tree.proofs.Known.{good-few, good-tree, good-used}
+
+-- distances look at the d numbers of each point alone
+
+distance-ext : (m : Measure) (d : ℕ) (p p' q q' : List ℤ) → ((i : ℕ) → i < d → getD p i (pos 0) ≡ getD p' i (pos 0))
+    → ((i : ℕ) → i < d → getD q i (pos 0) ≡ getD q' i (pos 0)) → distance m d p q ≡ distance m d p' q'
+unfolding distance
+distance-ext m zero p p' q q' hp hq = refl
+distance-ext m (suc d) p p' q q' hp hq =
+    rw (distance-ext m d p p' q q' (λ i h. hp i (omega arith)) (λ i h. hq i (omega arith)), hp d (omega arith), hq d (omega arith))
+
+-- where the coordinates of the first n claims are the same, so are their distances
+pub apart-ext : (measure d n : ℕ) (l l' : List ℤ) → ((i : ℕ) → i < n * d → getD l i (pos 0) ≡ getD l' i (pos 0))
+    → (j k : ℕ) → j < n → k < n → apart measure d l j k ≡ apart measure d l' j k
+unfolding apart
+apart-ext measure d n l l' same j k hj hk =
+    distance-ext (measureOf measure) d (drop (j * d) l) (drop (j * d) l') (drop (k * d) l) (drop (k * d) l') (at j hj) (at k hk)
+  where
+    at : (x : ℕ) → x < n → (i : ℕ) → i < d → getD (drop (x * d) l) i (pos 0) ≡ getD (drop (x * d) l') i (pos 0)
+    at x hx i hi =
+        getD-drop (x * d) l i (pos 0)
+        ∙ same (x * d + i) (omega (arith, before-next d x n hx))
+        ∙ sym (getD-drop (x * d) l' i (pos 0))
+
+-- what a place put at `at` leaves of the coordinates before it, and what it makes of those there
+module _ (l : List ℤ) (at : ℕ) (p : List ℤ) (d : ℕ) (inside : at ≤ length l) where
+  len : length (take at l) ≡ at
+  len = length-take-le at l inside
+
+  pub put-before : (i : ℕ) → i < at → getD (paste l at p d) i (pos 0) ≡ getD l i (pos 0)
+  put-before i h =
+      List·getD-append (take at l ++ take d p) (drop (at + d) l) (pos 0) i (omega (arith, len, length-append (take at l) (take d p)))
+      ∙ List·getD-append (take at l) (take d p) (pos 0) i (omega (arith, len))
+      ∙ getD-take at l i (pos 0) h
+
+  front : (b : ℕ) (rest : List ℤ) → b + d ≤ at → take d (drop b (take at l ++ rest)) ≡ take d (drop b (take at l))
+  front b rest h =
+      ap (take d) (drop-append-le b (take at l) rest (omega (arith, len)))
+      ∙ take-append-le d (drop b (take at l)) rest (omega (arith, len, length-drop b (take at l)))
+
+  pub place-before : (b : ℕ) → b + d ≤ at → take d (drop b (paste l at p d)) ≡ take d (drop b l)
+  place-before b h =
+      ap (λ (x : List ℤ). take d (drop b x)) (append-assoc (take at l) (take d p) (drop (at + d) l))
+      ∙ front b (take d p ++ drop (at + d) l) h
+      ∙ sym (front b (drop at l) h)
+      ∙ ap (λ (x : List ℤ). take d (drop b x)) (take-append-drop at l)
+
+  pub place-new : d ≤ length p → take d (drop at (paste l at p d)) ≡ take d p
+  place-new h =
+      ap (λ (x : List ℤ). take d (drop at x)) (append-assoc (take at l) (take d p) (drop (at + d) l))
+      ∙ ap (take d) (drop-at (take at l) (take d p ++ drop (at + d) l) at len)
+      ∙ take-at (take d p) (drop (at + d) l) d (length-take-le d p h)
+
+-- the same, of claims and their places
+
+point-before : (l : List ℤ) (at : ℕ) (p : List ℤ) (d : ℕ) → at ≤ length l → (i : ℕ) → i * d + d ≤ at → point d (paste l at p d) i ≡ point d l i
+unfolding point
+point-before l at p d inside i h = place-before l at p d inside (i * d) h
+
+point-new : (l : List ℤ) (n : ℕ) (p : List ℤ) (d : ℕ) → n * d ≤ length l → d ≤ length p → point d (paste l (n * d) p d) n ≡ take d p
+unfolding point
+point-new l n p d inside h = place-new l (n * d) p d inside h
+
+claims-more : (d n : ℕ) (references : List ℕ) (coordinates : List ℤ)
+    → claimsFrom d (suc n) references coordinates ≡ claimsFrom d n references coordinates ++ (record { reference = getD references n 0; place = point d coordinates n } ∷ [])
+unfolding claimsFrom
+claims-more d n references coordinates = refl
+
+claim-eq : (a b : Claim) → a .reference ≡ b .reference → a .place ≡ b .place → a ≡ b
+claim-eq a b p q = λ i. record { reference = p i; place = q i }
+
+-- the first n claims are the same where their references and places are
+pub claims-ext : (d n : ℕ) (r r' : List ℕ) (l l' : List ℤ) → ((i : ℕ) → i < n → getD r i 0 ≡ getD r' i 0)
+    → ((i : ℕ) → i < n → point d l i ≡ point d l' i) → claimsFrom d n r l ≡ claimsFrom d n r' l'
+unfolding claimsFrom
+claims-ext d zero r r' l l' hr hp = refl
+claims-ext d (suc n) r r' l l' hr hp =
+    rw (claims-ext d n r r' l l' (λ i h. hr i (omega arith)) (λ i h. hp i (omega arith)), hr n (omega arith), hp n (omega arith))
+
+-- a run's place has d numbers
+pub point-length : (d : ℕ) (places : List ℤ) (i : ℕ) → i * d + d ≤ length places → length (point d places i) ≡ d
+unfolding point
+point-length d places i h = length-take-le d (drop (i * d) places) (omega (arith, length-drop (i * d) places))
+
+-- one claim more
+
+module _ (s : Store) (g : Good s) (more : s .table .count < s .table .capacity) where
+  -- the next claim's place is inside
+  pub good-end : s .table .count * s .table .d + s .table .d ≤ length (s .coordinates)
+  good-end = omega (arith, before-next (s .table .d) (s .table .count) (s .table .capacity) more, g .fit .lent .coordinates)
+
+  -- the next claim can be entered
+  pub good-ready : (l : List ℤ) → length l ≡ length (s .coordinates) → Enterable (s .rooms) (s .table .used) (s .table .d) l (s .table .count)
+  good-ready l e =
+      record {
+        linked = good-tree s g .linked;
+        room = omega (arith, good-used s g, g .fit .lent .rooms);
+        few = omega (arith, good-few s g);
+        located = record {
+          narrow = g .fit .lent .narrow;
+          inside = omega (arith, good-end, suc-mul (s .table .count) (s .table .d), ap (λ (n : ℕ). n * s .table .d) (add-one (s .table .count)));
+        };
+      }
+
+  module _ (r : ℕ) (p : List ℤ) (whole : s .table .d ≤ length p) where
+    -- entering a claim keeps a table good
+    pub added-good : Good (added s r p)
+    unfolding added IsBuilt
+    added-good =
+        let n : ℕ = s .table .count in
+        let d : ℕ = s .table .d in
+        let l : List ℤ = paste (s .coordinates) (n * d) p d in
+        let e : ℕ → ℕ → ℕ = apart (s .table .measure) d l in
+        let same : (j k : ℕ) → j < k → k < n → apartIn s j k ≡ e j k =
+        λ j k hj hk. apart-ext (s .table .measure) d n (s .coordinates) l (λ i hi. sym (put-before (s .coordinates) (n * d) p d (omega (arith, good-end)) i hi)) j k (omega arith) hk in
+        let room : n * 6 ≤ length (s .rooms) = omega (arith, g .fit .lent .rooms) in
+        let few : n < 2 ^ 64 - 1 = omega (arith, good-few s g) in
+        let is : built e n (s .rooms) ≡ grown (s .rooms) (s .table .used) = sym (build-ext (apartIn s) e n (s .rooms) room few same) ∙ g .built in
+        let long = enter-long e (s .table .used) n (s .rooms) (omega (arith, good-used s g, g .fit .lent .rooms)) (good-tree s g .linked) in
+        record {
+          fit = record {
+            range = g .fit .range;
+            some = g .fit .some;
+            references = rw (length-set (s .references) n r) (g .fit .references);
+            lent = record {
+              narrow = g .fit .lent .narrow;
+              most = g .fit .lent .most;
+              coordinates = rw (length-paste (s .coordinates) (n * d) p d good-end whole) (g .fit .lent .coordinates);
+              rooms = rw (long .0) (g .fit .lent .rooms);
+            };
+          };
+          count = omega arith;
+          built = rw (add-one n) (stays-built e n (s .table .used) (s .rooms) (omega (arith, g .fit .lent .rooms)) (omega (arith, good-few s g)) is);
+        }
+
+    -- its claims are those that it had, and the new one
+    pub added-claims : claimsIn (added s r p) ≡ claimsIn s ++ (record { reference = r; place = take (s .table .d) p } ∷ [])
+    unfolding added
+    added-claims =
+        let n : ℕ = s .table .count in
+        let d : ℕ = s .table .d in
+        let l : List ℤ = paste (s .coordinates) (n * d) p d in
+        let inside : n * d ≤ length (s .coordinates) = omega (arith, good-end) in
+        ap (λ (k : ℕ). claimsFrom d k (set (s .references) n r) l) (add-one n)
+        ∙ claims-more d n (set (s .references) n r) l
+        ∙ ap (λ (old : List Claim). old ++ (record { reference = getD (set (s .references) n r) n 0; place = point d l n } ∷ []))
+        (claims-ext d n (set (s .references) n r) (s .references) l (s .coordinates)
+        (λ i h. getD-set-other (s .references) n i r 0 (λ q. omega arith))
+        (λ i h. point-before (s .coordinates) (n * d) p d inside i (before-next d i n h)))
+        ∙ ap (λ (c : Claim). claimsIn s ++ (c ∷ []))
+        (claim-eq _ _ (getD-set-same (s .references) n r 0 (omega (arith, g .fit .references))) (point-new (s .coordinates) n p d inside whole))
+
+-- what adding keeps of the header
+pub record Kept (t u : Table) (more : ℕ) : Type 0 where
+  pub number : u .number ≡ t .number
+  pub measure : u .measure ≡ t .measure
+  pub d : u .d ≡ t .d
+  pub capacity : u .capacity ≡ t .capacity
+  pub count : u .count ≡ t .count + more
+
+pub added-kept : (s : Store) (r : ℕ) (p : List ℤ) → Kept (s .table) (added s r p .table) 1
+unfolding added
+added-kept s r p = record { number = refl; measure = refl; d = refl; capacity = refl; count = refl }
+
+-- the stores of `add` are `added`
+pub add-way : (s : Store) (r u : ℕ) (places l : List ℤ) (i : ℕ) (rooms : List ℕ)
+    → l ≡ paste (s .coordinates) (s .table .count * s .table .d) (drop (i * s .table .d) places) (s .table .d)
+    → rooms ≡ nextGrown s l .rooms → u ≡ nextGrown s l .used
+    → store (counted (s .table) u) (set (s .references) (s .table .count) r) l rooms ≡ added s r (point (s .table .d) places i)
+unfolding added point
+add-way s r u places l i rooms e f h =
+    let n : ℕ = s .table .count in
+    let d : ℕ = s .table .d in
+    let q : List ℤ = drop (i * d) places in
+    let e' : l ≡ paste (s .coordinates) (n * d) (take d q) d =
+    e ∙ ap (λ (x : List ℤ). take (n * d) (s .coordinates) ++ x ++ drop (n * d + d) (s .coordinates)) (sym (take-take d d q (le-refl d))) in
+    rw (f, h, ← e')
+
+-- a run
+
+-- a place of a run with d numbers for each claim
+pub in-run : (d i n : ℕ) (places : List ℤ) → length places ≡ d * n → i < n → i * d + d ≤ length places
+in-run d i n places e h = omega (arith, before-next d i n h, mul-comm d n)
+
+pub run-start : (given : List ℕ) (places : List ℤ) (s : Store) → s ≡ addedRun given places 0 s
+unfolding addedRun
+run-start given places s = refl
+
+pub run-next : (given : List ℕ) (places : List ℤ) (i : ℕ) (s now next : Store) → now ≡ addedRun given places i s → now .table .d ≡ s .table .d
+    → next ≡ added now (getD given i 0) (point (now .table .d) places i) → next ≡ addedRun given places (i + 1) s
+unfolding addedRun
+run-next given places i s now next e q f = rw (add-one i, ← e, ← q) f
+
+pub roomy-less : (s : Store) (m n : ℕ) → Roomy s m → n ≤ m → Roomy s n
+roomy-less s m n h le = record { good = h .good; free = omega (arith, h .free) }
+
+pub roomy-next : (s : Store) (r : ℕ) (p : List ℤ) (m : ℕ) → Roomy s (m + 1) → s .table .d ≤ length p → Roomy (added s r p) m
+roomy-next s r p m h whole =
+    let k = added-kept s r p in
+    record { good = added-good s (h .good) (omega (arith, h .free)) r p whole; free = omega (arith, h .free, k .count, k .capacity) }
+
+-- what is left after the first i claims of a run
+pub record Ran (s x : Store) (given : List ℕ) (places : List ℤ) (i more : ℕ) : Type 0 where
+  pub roomy : Roomy x more
+  pub kept : Kept (s .table) (x .table) i
+  pub claims : claimsIn x ≡ claimsIn s ++ claimsFrom (s .table .d) i given places
+
+ran-next : (s x : Store) (given : List ℕ) (places : List ℤ) (i more n : ℕ) → i < n → length places ≡ s .table .d * n → Ran s x given places i (more + 1)
+    → Ran s (added x (getD given i 0) (point (s .table .d) places i)) given places (suc i) more
+ran-next s x given places i more n hi whole b =
+    let d : ℕ = s .table .d in
+    let r : ℕ = getD given i 0 in
+    let p : List ℤ = point d places i in
+    let lp : length p ≡ d = point-length d places i (in-run d i n places whole hi) in
+    let wx : x .table .d ≤ length p = omega (arith, b .kept .d) in
+    let k = added-kept x r p in
+    let tp : take (x .table .d) p ≡ p = take-all (x .table .d) p (omega (arith, b .kept .d)) in
+    record {
+      roomy = roomy-next x r p more (b .roomy) wx;
+      kept = record {
+        number = k .number ∙ b .kept .number;
+        measure = k .measure ∙ b .kept .measure;
+        d = k .d ∙ b .kept .d;
+        capacity = k .capacity ∙ b .kept .capacity;
+        count = omega (arith, k .count, b .kept .count);
+      };
+      claims = added-claims x (b .roomy .good) (omega (arith, b .roomy .free)) r p wx
+          ∙ ap (λ (q : List ℤ). claimsIn x ++ (record { reference = r; place = q } ∷ [])) tp
+          ∙ ap (λ (old : List Claim). old ++ (record { reference = r; place = p } ∷ [])) (b .claims)
+          ∙ append-assoc (claimsIn s) (claimsFrom d i given places) (record { reference = r; place = p } ∷ [])
+          ∙ ap (λ (new : List Claim). claimsIn s ++ new) (sym (claims-more d i given places));
+    }
+
+module _ (s : Store) (given : List ℕ) (places : List ℤ) (n : ℕ) (h : Roomy s n) (whole : length places ≡ s .table .d * n) where
+  pub ran : (i more : ℕ) → i + more ≡ n → Ran s (addedRun given places i s) given places i more
+  unfolding addedRun claimsFrom
+  ran zero more e =
+      record {
+        roomy = roomy-less s n more h (omega arith);
+        kept = record { number = refl; measure = refl; d = refl; capacity = refl; count = omega arith };
+        claims = sym (append-nil (claimsIn s));
+      }
+  ran (suc i) more e = ran-next s (addedRun given places i s) given places i more n (omega arith) whole (ran i (more + 1) (omega arith))
+
+  -- a run keeps a table good
+  pub run-good : Good (addedRun given places n s)
+  run-good = ran n 0 (omega arith) .roomy .good
+
+  -- its claims are those that it had, and the run's
+  pub run-claims : claimsIn (addedRun given places n s) ≡ claimsIn s ++ claimsFrom (s .table .d) n given places
+  run-claims = ran n 0 (omega arith) .claims
+
+  -- its header is the same but for count and rooms in use
+  pub run-kept : Kept (s .table) (addedRun given places n s .table) n
+  run-kept = ran n 0 (omega arith) .kept

@@ -1,0 +1,212 @@
+-- What the tests of a table tell: a table that passes them is good, and the other way round. Assumes nothing.
+use Prim.Native.Nat.{ℕ, _+_, _*_, _<_, _≤_}
+use mathlib.Core.Path.{_≡_, refl, sym, ap, _∙_}
+use mathlib.Core.Bool.{Bool, true, false, _&&_}
+use mathlib.Core.List.{List}
+use native.Mathlib.Omega.{arith}
+use native.Mathlib.Nat.{mul-le-mul, mul-le-mul-right}
+use native.Mathlib.Numerals.{add-one}
+use lib.IntN.{ℤ}
+use lib.ListN.{length, getD, replicate, length-replicate}
+use lib.Dec.{leb, eqb}
+use borrow.Author.Tests.{leb-true, eqb-true, le-leb, lt-leb, eq-eqb, ne-eqb}
+use Rattle.paper.specs.declared.tables.Table.{Table}
+use Rattle.paper.specs.Tree.{Grown, grown, entered, built, Store, apart, apartIn, inRange, fits, sameFront, afresh, sound}
+use Rattle.tree.specs.Rooms.{Neartree, Located, Enterable, IsBuilt}
+use Rattle.tree.specs.Soundness.{InRange, Lent, Fit, Good}
+use Rattle.tree.proofs.Agree.{Built, build, build-alike, Alike, same-list, grown-eq}
+use Rattle.tree.proofs.Front.{both-first, both-second, front-at, front-all, front-ext, agree-at}
+
+-- range and lent memory
+
+pub range-is : (measure d : ℕ) → inRange measure d ≡ true → InRange measure d
+unfolding inRange
+range-is measure d h =
+    let a = both-first (leb 1 measure && leb measure 3) (leb 1 d && leb d 8) h in
+    let b = both-second (leb 1 measure && leb measure 3) (leb 1 d && leb d 8) h in
+    record {
+      first = leb-true 1 measure (both-first (leb 1 measure) (leb measure 3) a);
+      last = leb-true measure 3 (both-second (leb 1 measure) (leb measure 3) a);
+      wide = leb-true 1 d (both-first (leb 1 d) (leb d 8) b);
+      narrow = leb-true d 8 (both-second (leb 1 d) (leb d 8) b);
+    }
+
+pub is-range : (measure d : ℕ) → InRange measure d → inRange measure d ≡ true
+unfolding inRange
+is-range measure d h =
+    rw (le-leb 1 measure (h .first), le-leb measure 3 (h .last), le-leb 1 d (h .wide), le-leb d 8 (h .narrow))
+
+-- a capacity in range, times a d in range, is small
+pub few-places : (c d : ℕ) → c ≤ 4096 → d ≤ 8 → c * d ≤ 32768
+few-places c d hc hd = mul-le-mul hc hd
+
+module _ (s : Store) where
+  c : ℕ
+  c = s .table .capacity
+
+  pub fits-fit : fits s ≡ true → Fit s
+  unfolding fits c
+  fits-fit h =
+      let r : Bool = inRange (s .table .measure) (s .table .d) in
+      let n : Bool = leb 1 c && leb c 4096 in
+      let m : Bool = leb c (length (s .references)) in
+      let p : Bool = leb (c * s .table .d) (length (s .coordinates)) in
+      let q : Bool = leb (c * 6) (length (s .rooms)) in
+      let h1 = both-second r (n && (m && (p && q))) h in
+      let h2 = both-second n (m && (p && q)) h1 in
+      let h3 = both-second m (p && q) h2 in
+      let hn = both-first n (m && (p && q)) h1 in
+      let range = range-is (s .table .measure) (s .table .d) (both-first r (n && (m && (p && q))) h) in
+      record {
+        range = range;
+        some = leb-true 1 c (both-first (leb 1 c) (leb c 4096) hn);
+        references = leb-true c (length (s .references)) (both-first m (p && q) h2);
+        lent = record {
+          narrow = range .narrow;
+          most = leb-true c 4096 (both-second (leb 1 c) (leb c 4096) hn);
+          coordinates = leb-true (c * s .table .d) (length (s .coordinates)) (both-first p q h3);
+          rooms = leb-true (c * 6) (length (s .rooms)) (both-second p q h3);
+        };
+      }
+
+  pub fit-fits : Fit s → fits s ≡ true
+  unfolding fits c
+  fit-fits f =
+      rw (
+        is-range (s .table .measure) (s .table .d) (f .range),
+        le-leb 1 c (f .some),
+        le-leb c 4096 (f .lent .most),
+        le-leb c (length (s .references)) (f .references),
+        le-leb (c * s .table .d) (length (s .coordinates)) (f .lent .coordinates),
+        le-leb (c * 6) (length (s .rooms)) (f .lent .rooms),
+      )
+
+-- the places of a table's first n claims are in the lent memory
+pub lent-located : (t : Table) (places : List ℤ) (numbers n : ℕ) → Lent t (length places) numbers → n ≤ t .capacity → Located (t .d) n places
+lent-located t places numbers n l h = record { narrow = l .narrow; inside = omega (arith, mul-le-mul-right (t .d) h, l .coordinates) }
+
+-- rebuilding
+
+module _ (measure d : ℕ) (coordinates : List ℤ) (rooms₀ rooms : List ℕ) (k used : ℕ) (is : grown rooms used ≡ built (apart measure d coordinates) k rooms₀) where
+  -- after k claims the next can be entered
+  pub rebuild-ready : (n : ℕ) → n * 6 ≤ length rooms₀ → n ≤ 4096 → Located d n coordinates → k < n → Enterable rooms used d coordinates k
+  rebuild-ready n room few l hk =
+      let b : Built (apart measure d coordinates) k rooms₀ (grown rooms used) = rw is (build (apart measure d coordinates) k rooms₀ (omega arith) (omega arith)) in
+      let le : k + 1 ≤ n = omega arith in
+      record {
+        linked = b .sound .linked;
+        room = omega (arith, b .long, b .few);
+        few = omega arith;
+        located = record { narrow = l .narrow; inside = omega (arith, mul-le-mul-right d le, l .inside) };
+      }
+
+  pub rebuild-next : (rooms' : List ℕ) (r : ℕ) → rooms' ≡ entered (apart measure d coordinates) used k rooms .rooms
+      → r ≡ entered (apart measure d coordinates) used k rooms .used → grown rooms' r ≡ built (apart measure d coordinates) (k + 1) rooms₀
+  unfolding built
+  rebuild-next rooms' r p q =
+      let e : ℕ → ℕ → ℕ = apart measure d coordinates in
+      grown-eq (grown rooms' r) (entered e used k rooms) p q
+      ∙ ap (λ (x : Grown). entered e (x .used) k (x .rooms)) is
+      ∙ ap (λ (m : ℕ). built e m rooms₀) (sym (add-one k))
+
+  -- what rebuilding leaves of the memory
+  pub rebuild-few : k * 6 ≤ length rooms₀ → k ≤ 4096 → (used ≤ k) × (length rooms ≡ length rooms₀)
+  rebuild-few room few =
+      let b : Built (apart measure d coordinates) k rooms₀ (grown rooms used) = rw is (build (apart measure d coordinates) k rooms₀ room (omega arith)) in
+      (b .few, b .long)
+
+pub rebuild-start : (e : ℕ → ℕ → ℕ) (rooms : List ℕ) → grown rooms 0 ≡ built e 0 rooms
+unfolding built
+rebuild-start e rooms = refl
+
+-- testing
+
+-- memory of any contents gives what empty rooms give
+alike-afresh : (e : ℕ → ℕ → ℕ) (rooms : List ℕ) (n : ℕ) → n * 6 ≤ length rooms → n ≤ 4096 → Alike (afresh e n) (built e n rooms)
+unfolding afresh
+alike-afresh e rooms n room few =
+    let l = length-replicate {A = ℕ} (n * 6) 0 in
+    build-alike e n (replicate (n * 6) 0) rooms (omega arith) (omega arith) (omega arith)
+
+module _ (s : Store) where
+  pub sound-over : s .table .capacity < s .table .count → false ≡ sound s
+  unfolding sound
+  sound-over h = rw (lt-leb (s .table .count) (s .table .capacity) h)
+
+  module _ (scratch rooms : List ℕ) (u : ℕ) (hc : s .table .count ≤ s .table .capacity) (most : s .table .capacity ≤ 4096)
+      (room : s .table .count * 6 ≤ length scratch) (is : grown rooms u ≡ built (apartIn s) (s .table .count) scratch) where
+    alike : Alike (afresh (apartIn s) (s .table .count)) (grown rooms u)
+    alike = rw is (alike-afresh (apartIn s) scratch (s .table .count) room (omega arith))
+
+    pub sound-other : (u ≡ s .table .used → ⊥) → false ≡ sound s
+    unfolding sound
+    sound-other ne =
+        rw (
+          le-leb (s .table .count) (s .table .capacity) hc,
+          ne-eqb (afresh (apartIn s) (s .table .count) .used) (s .table .used) (λ p. ne (sym (alike .used) ∙ p)),
+        )
+
+    pub sound-last : u ≡ s .table .used → sameFront (u * 6) rooms (s .rooms) ≡ sound s
+    unfolding sound
+    sound-last e =
+        let n : ℕ = s .table .used * 6 in
+        let again : List ℕ = afresh (apartIn s) (s .table .count) .rooms in
+        let f : sameFront n again (s .rooms) ≡ sameFront n rooms (s .rooms) =
+        front-ext n again rooms (s .rooms) (agree-at (s .table .used) again rooms (λ m g hm hg. alike .agree .same m g (omega (arith, alike .used)) hg)) in
+        rw (le-leb (s .table .count) (s .table .capacity) hc, eq-eqb (afresh (apartIn s) (s .table .count) .used) (s .table .used) (alike .used ∙ e), f, e)
+
+-- a table that passes the tests is good
+
+pub sound-good : (s : Store) → Fit s → sound s ≡ true → Good s
+unfolding sound IsBuilt
+sound-good s f hs =
+    let t : Table = s .table in
+    let n : ℕ = t .count in
+    let e : ℕ → ℕ → ℕ = apartIn s in
+    let bc : Bool = leb n (t .capacity) in
+    let bu : Bool = eqb (afresh e n .used) (t .used) in
+    let bf : Bool = sameFront (t .used * 6) (afresh e n .rooms) (s .rooms) in
+    let hc : n ≤ t .capacity = leb-true n (t .capacity) (both-first bc (bu && bf) hs) in
+    let rest = both-second bc (bu && bf) hs in
+    let hu : afresh e n .used ≡ t .used = eqb-true (afresh e n .used) (t .used) (both-first bu bf rest) in
+    let same : (i : ℕ) → i < t .used * 6 → getD (afresh e n .rooms) i 0 ≡ getD (s .rooms) i 0 =
+    front-at (t .used * 6) (afresh e n .rooms) (s .rooms) (both-second bu bf rest) in
+    let room : n * 6 ≤ length (s .rooms) = omega (arith, f .lent .rooms) in
+    let few : n ≤ 4096 = omega (arith, f .lent .most) in
+    let h = alike-afresh e (s .rooms) n room few in
+    let b = build e n (s .rooms) room (omega arith) in
+    let x : Grown = built e n (s .rooms) in
+    let xu : x .used ≡ t .used = sym (h .used) ∙ hu in
+    let eq : x .rooms ≡ s .rooms = same-list (x .rooms) (s .rooms) (t .used) (b .long)
+    (record { long = omega (arith, b .long); same = λ m g hm hg. sym (same (m * 6 + g) (omega arith)) ∙ h .agree .same m g (omega (arith, hu)) hg })
+    (λ m g hm hg. b .behind m g (omega (arith, xu)) hg) in
+    record { fit = f; count = hc; built = grown-eq x (grown (s .rooms) (t .used)) eq xu }
+
+-- and the other way round
+module _ (s : Store) (g : Good s) where
+  room : s .table .count * 6 ≤ length (s .rooms)
+  room = omega (arith, g .count, g .fit .lent .rooms)
+
+  pub good-few : s .table .count ≤ 4096
+  good-few = omega (arith, g .count, g .fit .lent .most)
+
+  pub good-sound : sound s ≡ true
+  unfolding sound IsBuilt
+  good-sound =
+      let n : ℕ = s .table .count in
+      let e : ℕ → ℕ → ℕ = apartIn s in
+      let h : Alike (afresh e n) (grown (s .rooms) (s .table .used)) = rw (g .built) at (alike-afresh e (s .rooms) n room good-few) in
+      rw (le-leb n (s .table .capacity) (g .count), eq-eqb (afresh e n .used) (s .table .used) (h .used))
+      (front-all (s .table .used * 6) (afresh e n .rooms) (s .rooms)
+      (agree-at (s .table .used) (afresh e n .rooms) (s .rooms) (λ m f hm hf. h .agree .same m f (omega (arith, h .used)) hf)))
+
+  pub good-built : Built (apartIn s) (s .table .count) (s .rooms) (grown (s .rooms) (s .table .used))
+  unfolding IsBuilt
+  good-built = rw (g .built) at (build (apartIn s) (s .table .count) (s .rooms) room (omega (arith, good-few)))
+
+  -- what a walk needs
+  pub good-tree : Neartree (s .rooms) (apartIn s) (s .table .used) (s .table .count)
+  good-tree = good-built .sound
+
+  pub good-used : s .table .used ≤ s .table .count
+  good-used = good-built .few

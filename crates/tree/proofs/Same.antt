@@ -1,0 +1,76 @@
+-- Entering looks at no distance but those between claims that are entered: two distances that agree there build alike. Assumes nothing.
+use Prim.Native.Nat.{ℕ, zero, suc, _+_, _-_, _*_, _<_, _≤_, _^_}
+use mathlib.Core.Path.{_≡_, refl, ap, _∙_}
+use mathlib.Core.List.{List}
+use native.Mathlib.Omega.{arith}
+use lib.ListN.{length}
+use lib.Dec.{lit<}
+use Rattle.paper.specs.Tree.{Grown, fieldAt, claimAt, nearSide, raise, placed, entered, built}
+use Rattle.tree.specs.Rooms.{Linked}
+use Rattle.tree.proofs.Turns.{still-linked, side-small, placed-stop, placed-new, placed-down}
+use Rattle.tree.proofs.Agree.{build}
+
+module _ (e e' : ℕ → ℕ → ℕ) (used k m : ℕ) (a : List ℕ) (hm : m < used) (lk : Linked a used k) (no1 : fieldAt a m 1 ≡ 0 → ⊥) (same : (j : ℕ) → j < k → e j k ≡ e' j k) where
+  at-side : (s : ℕ) → s < 2 → e (claimAt a m s) k ≡ e' (claimAt a m s) k
+  unfolding Linked
+  at-side zero hs = same (claimAt a m 0) (omega (arith, lk m hm .left, lk m hm .stored 0 (lit< tt)))
+  at-side (suc zero) hs = same (claimAt a m 1) (omega (arith, lk m hm .stored 1 (lit< tt)))
+  at-side (suc (suc s)) hs = absurd (omega arith)
+
+  near-ext : nearSide e a m k ≡ nearSide e' a m k
+  unfolding nearSide
+  near-ext = rw (at-side 0 (lit< tt), at-side 1 (lit< tt))
+
+  raise-ext : (s : ℕ) → s < 2 → raise e a m s k ≡ raise e' a m s k
+  unfolding raise
+  raise-ext s hs = rw (at-side s hs)
+
+place-ext : (f : ℕ) (e e' : ℕ → ℕ → ℕ) (used k m : ℕ) (a : List ℕ) → m < used → used ≤ m + f → Linked a used k → ((j : ℕ) → j < k → e j k ≡ e' j k)
+    → placed f e used k m a ≡ placed f e' used k m a
+unfolding Linked
+place-ext zero e e' used k m a hm en lk same = absurd (omega arith)
+place-ext (suc f) e e' used k m a hm en lk same =
+    right (fieldAt a m 1) refl
+    (λ w hw up. place-ext f e e' used k w (raise e a m (nearSide e a m k) k) hw up (still-linked e a m k (nearSide e a m k) used k (side-small e a m k) lk) same)
+  where
+    s : ℕ
+    s = nearSide e a m k
+
+    hs : s < 2
+    hs = side-small e a m k
+
+    below : (x : ℕ) → fieldAt a m (4 + s) ≡ x → (fieldAt a m 1 ≡ 0 → ⊥)
+        → ((w : ℕ) → w < used → used ≤ w + f → placed f e used k w (raise e a m s k) ≡ placed f e' used k w (raise e a m s k))
+        → placed (suc f) e used k m a ≡ placed (suc f) e' used k m a
+    below zero p no1 deep =
+        let near : s ≡ nearSide e' a m k = near-ext e e' used k m a hm lk no1 same in
+        let lift : raise e a m s k ≡ raise e' a m s k = raise-ext e e' used k m a hm lk no1 same s hs in
+        rw (placed-new f e used k m a no1 p, placed-new f e' used k m a no1 (rw (← near) p), ← near, lift)
+    below (suc w) p no1 deep =
+        let near : s ≡ nearSide e' a m k = near-ext e e' used k m a hm lk no1 same in
+        let lift : raise e a m s k ≡ raise e' a m s k = raise-ext e e' used k m a hm lk no1 same s hs in
+        let v : fieldAt a m (4 + s) - 1 ≡ w = omega arith in
+        let no4 : fieldAt a m (4 + s) ≡ 0 → ⊥ = λ z. omega arith in
+        rw (placed-down f e used k m a no1 no4, placed-down f e' used k m a no1 (rw (← near) no4), ← near, v, ← lift)
+        (deep w (omega (arith, lk m hm .leads s hs)) (omega (arith, lk m hm .rises s hs no4)))
+
+    right : (x : ℕ) → fieldAt a m 1 ≡ x
+        → ((w : ℕ) → w < used → used ≤ w + f → placed f e used k w (raise e a m s k) ≡ placed f e' used k w (raise e a m s k))
+        → placed (suc f) e used k m a ≡ placed (suc f) e' used k m a
+    right zero p deep = rw (placed-stop f e used k m a p, placed-stop f e' used k m a p)
+    right (suc x) p deep = below (fieldAt a m (4 + s)) refl (λ z. omega arith) deep
+
+pub enter-ext : (e e' : ℕ → ℕ → ℕ) (used k : ℕ) (a : List ℕ) → Linked a used k → ((j : ℕ) → j < k → e j k ≡ e' j k) → entered e used k a ≡ entered e' used k a
+unfolding entered
+enter-ext e e' zero k a lk same = refl
+enter-ext e e' (suc u) k a lk same = place-ext (suc u) e e' (suc u) k 0 a (omega arith) (omega arith) lk same
+
+pub build-ext : (e e' : ℕ → ℕ → ℕ) (n : ℕ) (a : List ℕ) → n * 6 ≤ length a → n < 2 ^ 64 - 1
+    → ((j k : ℕ) → j < k → k < n → e j k ≡ e' j k) → built e n a ≡ built e' n a
+unfolding built
+build-ext e e' zero a room few same = refl
+build-ext e e' (suc n) a room few same =
+    let h = build-ext e e' n a (omega arith) (omega arith) (λ j k hj hk. same j k hj (omega arith)) in
+    let b = build e n a (omega arith) (omega arith) in
+    enter-ext e e' (built e n a .used) n (built e n a .rooms) (b .sound .linked) (λ j hj. same j n hj (omega arith))
+    ∙ ap (λ (x : Grown). entered e' (x .used) n (x .rooms)) h

@@ -1,0 +1,38 @@
+-- What the layers above may rely on of a table: records of what the tests of a table tell. Definitions only.
+use Prim.Native.Nat.{ℕ, _+_, _*_, _≤_}
+use lib.ListN.{length}
+use Rattle.paper.specs.declared.tables.Table.{Table}
+use Rattle.paper.specs.Tree.{Store, apartIn}
+use Rattle.tree.specs.Rooms.{IsBuilt}
+
+-- a measure and a d that there are
+pub record InRange (measure d : ℕ) : Type 0 where
+  pub first : 1 ≤ measure
+  pub last : measure ≤ 3
+  pub wide : 1 ≤ d
+  pub narrow : d ≤ 8
+
+-- the lent memory holds what a table's rooms and its claims' places need: so many coordinates, and so many numbers of rooms
+pub record Lent (t : Table) (places numbers : ℕ) : Type 0 where
+  pub narrow : t .d ≤ 8
+  pub most : t .capacity ≤ 4096
+  pub coordinates : t .capacity * t .d ≤ places
+  pub rooms : t .capacity * 6 ≤ numbers
+
+-- a table in range with enough lent memory
+pub record Fit (s : Store) : Type 0 where
+  pub range : InRange (s .table .measure) (s .table .d)
+  pub some : 1 ≤ s .table .capacity
+  pub references : s .table .capacity ≤ length (s .references)
+  pub lent : Lent (s .table) (length (s .coordinates)) (length (s .rooms))
+
+-- and sound
+pub record Good (s : Store) : Type 0 where
+  pub fit : Fit s
+  pub count : s .table .count ≤ s .table .capacity
+  pub built : IsBuilt (apartIn s) (s .table .count) (s .rooms) (s .table .used)
+
+-- and there is room for so many claims more
+pub record Roomy (s : Store) (more : ℕ) : Type 0 where
+  pub good : Good s
+  pub free : s .table .count + more ≤ s .table .capacity

@@ -1,0 +1,97 @@
+// Entering one claim: document 01's three steps, from the root.
+ghost use mathlib.Core.Path.{_≡_};
+ghost use Prim.Native.Nat.{_+_, _<_, max};
+ghost use Rattle.paper.specs.Tree.{fieldAt, put, claimAt, nearSide, entered, apart};
+ghost use Rattle.tree.specs.Rooms.{Inside, HasClaim, Located, Enterable};
+use super::rooms::field;
+use super::rooms::make;
+use super::rooms::store;
+
+// How far claims j and k are apart.
+pub fn between(measure: u8, d: usize, coordinates: &[i32], j: u64, k: u64) -> u64
+    requires { ⌜ (j < k) × Located d (k + 1) (now coordinates) ⌝ }
+    ensures { λ r. ⌜ r ≡ apart measure d (now (coordinates .entry)) j k ⌝ }
+{
+    let at = j as usize * d;
+    let bt = k as usize * d;
+    measure::distance(measure, d, coordinates, at, coordinates, bt)
+}
+
+// The side of a room that is nearer to a claim, and how far that side's claim is from it.
+pub struct NearSide {
+    pub side: usize,
+    pub distance: u64,
+}
+
+// The side of room m that claim k goes below: the left one of two as near.
+fn nearer(rooms: &[u64], measure: u8, d: usize, coordinates: &[i32], m: usize, k: u64) -> NearSide
+    requires { ⌜ (HasClaim (now rooms) k m 0 × HasClaim (now rooms) k m 1) × Located d (k + 1) (now coordinates) ⌝ }
+    ensures { λ r. ⌜ (r .side ≡ nearSide (apart measure d (now (coordinates .entry))) (now (rooms .entry)) m k)
+        × (r .distance ≡ apart measure d (now (coordinates .entry)) (claimAt (now (rooms .entry)) m (r .side)) k) ⌝ }
+{
+    let left = field(rooms, m, 0);
+    let right = field(rooms, m, 1);
+    let to_left = between(measure, d, coordinates, left - 1, k);
+    let to_right = between(measure, d, coordinates, right - 1, k);
+    if to_left <= to_right {
+        return NearSide {
+            side: 0,
+            distance: to_left,
+        };
+    }
+    NearSide {
+        side: 1,
+        distance: to_right,
+    }
+}
+
+fn larger(a: u64, b: u64) -> u64
+    ensures { λ r. ⌜ r ≡ max a b ⌝ }
+{
+    if a < b { b } else { a }
+}
+
+// Has the far distance of side s of room m reach as far as `distance`.
+fn widen(rooms: &mut [u64], m: usize, s: usize, distance: u64)
+    requires { ⌜ (s < 2) × Inside (now rooms) m ⌝ }
+    ensures { λ _. ⌜ now (rooms .exit) ≡ put (now (rooms .entry)) m (2 + s) (max (fieldAt (now (rooms .entry)) m (2 + s)) distance) ⌝ }
+{
+    let far = field(rooms, m, 2 + s);
+    store(rooms, m, 2 + s, larger(far, distance));
+}
+
+// Enters claim k, and gives the number of rooms then in use.
+pub fn enter(
+    rooms: &mut [u64],
+    measure: u8,
+    d: usize,
+    coordinates: &[i32],
+    used: usize,
+    k: u64,
+) -> usize
+    requires { ⌜ Enterable (now rooms) used d (now coordinates) k ⌝ }
+    ensures rooms { λ _. ⌜ now (rooms .exit) ≡ entered (apart measure d (now (coordinates .entry))) used k (now (rooms .entry)) .rooms ⌝ }
+    ensures used { λ r. ⌜ r ≡ entered (apart measure d (now (coordinates .entry))) used k (now (rooms .entry)) .used ⌝ }
+{
+    if used == 0 {
+        make(rooms, 0, k);
+        return 1;
+    }
+    let mut m = 0;
+    loop {
+        if field(rooms, m, 1) == 0 {
+            store(rooms, m, 1, k + 1);
+            return used;
+        }
+        let near = nearer(rooms, measure, d, coordinates, m, k);
+        let s = near.side;
+        let below = field(rooms, m, 4 + s);
+        widen(rooms, m, s, near.distance);
+        if below == 0 {
+            store(rooms, m, 4 + s, used as u64 + 1);
+            make(rooms, used, k);
+            return used + 1;
+        }
+        m = (below - 1) as usize;
+    }
+}

@@ -1,0 +1,101 @@
+// Knowing a table: its range and lent memory, and whether its rooms in use hold what entering its claims gives.
+ghost use mathlib.Core.Path.{_≡_};
+ghost use Prim.Native.Nat.{ℕ, _*_, _≤_};
+ghost use mathlib.Core.List.{List};
+ghost use lib.ListN.{length};
+ghost use Rattle.paper.specs.Tree.{grown, built, apart, store, inRange, fits, sameFront, sound};
+ghost use Rattle.tree.specs.Rooms.{Located};
+ghost use Rattle.tree.specs.Soundness.{Lent};
+use super::entering::enter;
+use paper::tables::Table;
+
+// Whether measure and d are in range.
+pub fn is_in_range(measure: u8, d: usize) -> bool
+    ensures { λ r. ⌜ r ≡ inRange measure d ⌝ }
+{
+    if measure < 1 {
+        return false;
+    }
+    if 3 < measure {
+        return false;
+    }
+    if d < 1 {
+        return false;
+    }
+    if 8 < d {
+        return false;
+    }
+    true
+}
+
+// Whether the table is in range, and the lent memory holds what it needs.
+pub fn is_fit(t: Table, references: &[u32], coordinates: &[i32], rooms: &[u64]) -> bool
+    ensures { λ r. ⌜ r ≡ fits (store t (now (references .entry)) (now (coordinates .entry)) (now (rooms .entry))) ⌝ }
+{
+    if !is_in_range(t.measure, t.d) {
+        return false;
+    }
+    let c = t.capacity;
+    if c < 1 {
+        return false;
+    }
+    if 4096 < c {
+        return false;
+    }
+    if references.len() < c {
+        return false;
+    }
+    if coordinates.len() < c * t.d {
+        return false;
+    }
+    if rooms.len() < c * 6 {
+        return false;
+    }
+    true
+}
+
+// Enters claims 0 to n - 1 one by one, and gives the number of rooms then in use.
+fn rebuild(rooms: &mut [u64], measure: u8, d: usize, coordinates: &[i32], n: usize) -> usize
+    requires { ⌜ ((n * 6 ≤ length (now rooms)) × (n ≤ 4096)) × Located d n (now coordinates) ⌝ }
+    ensures { λ r. ⌜ grown (now (rooms .exit)) r ≡ built (apart measure d (now (coordinates .entry))) n (now (rooms .entry)) ⌝ }
+{
+    let mut used = 0;
+    let mut k = 0;
+    while k < n {
+        used = enter(rooms, measure, d, coordinates, used, k as u64);
+        k += 1;
+    }
+    used
+}
+
+// Whether the first w numbers of the two are the same.
+fn same_front(a: &[u64], b: &[u64], w: usize) -> bool
+    requires { ⌜ (w ≤ length (now a)) × (w ≤ length (now b)) ⌝ }
+    ensures { λ r. ⌜ r ≡ sameFront w (now (a .entry)) (now (b .entry)) ⌝ }
+{
+    let mut i = 0;
+    while i < w {
+        if a[i] != b[i] {
+            return false;
+        }
+        i += 1;
+    }
+    true
+}
+
+// Whether the table is sound. Its claims are entered again, into rooms of its own, and the rooms in use are compared.
+pub fn is_sound(t: Table, coordinates: &[i32], rooms: &[u64]) -> bool
+    requires { ⌜ Lent t (length (now coordinates)) (length (now rooms)) ⌝ }
+    ensures { λ r. ⌜ ((references : List ℕ) → r ≡ sound (store t references (now (coordinates .entry)) (now (rooms .entry)))) ⌝ }
+{
+    let n = t.count;
+    if t.capacity < n {
+        return false;
+    }
+    let mut scratch = [0u64; 24576];
+    let used = rebuild(&mut scratch, t.measure, t.d, coordinates, n);
+    if used != t.used {
+        return false;
+    }
+    same_front(&scratch, rooms, used * 6)
+}

@@ -1,0 +1,191 @@
+-- One law for each way through the questions. Assumes nothing.
+use Prim.Native.Nat.{ℕ, zero, suc, _+_, _-_, _*_, _/_, _<_, _≤_, _^_}
+use mathlib.Core.Path.{_≡_, refl, sym, ap, subst, _∙_}
+use mathlib.Core.Bool.{Bool, true, false, cond, _&&_}
+use mathlib.Core.List.{List, [], _∷_, _++_}
+use native.Mathlib.Omega.{arith}
+use native.Mathlib.Nat.{le-refl, sub-zero}
+use lib.Dec.{ltb, leb, eqb}
+use lib.IntN.{ℤ}
+use lib.ListN.{length, getD, take, drop}
+use lib.Seq.{take-all, take-at}
+use borrow.Author.Tests.{lt-ltb, le-ltb, eq-eqb, ne-eqb}
+use Rattle.paper.specs.declared.orders.Found.{Found as Answer}
+use Rattle.paper.specs.declared.orders.Found.the-variants.{Nothing, Item as AnItem}
+use Rattle.paper.specs.declared.orders.Mark.{Mark}
+use Rattle.paper.specs.declared.orders.Order.{Order}
+use Rattle.paper.specs.declared.orders.Order.the-variants.{Near, Far}
+use Rattle.paper.specs.declared.orders.Paged.{Paged}
+use Rattle.paper.specs.declared.orders.Place.{Place}
+use Rattle.paper.specs.declared.orders.Place.the-variants.{Start, After}
+use Rattle.paper.specs.declared.points.Measure.{Measure}
+use Rattle.paper.specs.declared.tables.Table.{Table}
+use Rattle.paper.specs.Points.{measureOf, greatestOf, Claim}
+use Rattle.paper.specs.Orders.{Item, Query, before, startMark, itemOf, listed, follows, rest, snapshotOf, following, pageOf, told, found, firstOf, nearestOf, farthestOf, markHolds, flat, fronted}
+use Rattle.paper.specs.Tree.{Store}
+use Rattle.tree.specs.Soundness.{Good}
+use Rattle.tree.proofs.Known.{lent-located, good-tree}
+use Rattle.keep.specs.declared.Asked.{Asked}
+use Rattle.keep.specs.Kept.{Roomy}
+use Rattle.keep.specs.Skips.{admitted}
+use Rattle.walk.specs.Walking.{refOf, distOf, distBy, InSight, Lent, PageAsk, AskFilled}
+use Rattle.walk.specs.Asking.{queryOf, claimsOf, askedOf, Measurable, Answerable, Pageable, Markable, PageIs}
+use Rattle.walk.proofs.Ways.{claim-inside}
+use Rattle.walk.proofs.Orders.{rest-start}
+use Rattle.walk.proofs.Bridge.{claims-length, item-is, filled-page}
+
+-- the question as the walk asks it
+module _ (t : Table) (order : Order) (reach : ℕ) (place : Place) (size : ℕ) where
+  pub asked-start : place ≡ Start
+      → record { order = order; measure = t .measure; d = t .d; claims = t .count; used = t .used; reach = reach; snapshot = t .count; after = false; mark = startMark; size = size }
+      ≡ askedOf t order reach place size
+  unfolding askedOf
+  asked-start p = rw p
+
+  pub asked-after : (n : ℕ) (m : Mark) → place ≡ After n m
+      → record { order = order; measure = t .measure; d = t .d; claims = t .count; used = t .used; reach = reach; snapshot = n; after = true; mark = m; size = size }
+      ≡ askedOf t order reach place size
+  unfolding askedOf
+  asked-after n m p = rw p
+
+-- the page
+module _ (t : Table) (references : List ℕ) (coordinates : List ℤ) (rooms : List ℕ) (probe : List ℤ) (asks : Answerable t references coordinates rooms probe)
+    (order : Order) (reach : ℕ) where
+  ready : (place : Place) (size : ℕ) (o : List ℕ) → Pageable t place size o → PageAsk rooms references coordinates probe (askedOf t order reach place size) o
+  unfolding askedOf
+  ready Start size o h =
+      record {
+        tree = asks .tree;
+        lent = record { located = asks .measurable .located; named = asks .named; aimed = asks .measurable .aimed };
+        roomy = record { some = h .some; most = h .most; few = omega arith; long = h .long };
+      }
+  ready (After n m) size o h =
+      record {
+        tree = asks .tree;
+        lent = record { located = asks .measurable .located; named = asks .named; aimed = asks .measurable .aimed };
+        roomy = record { some = h .some; most = h .most; few = omega arith; long = h .long };
+      }
+
+  done : (place : Place) (size : ℕ) (o o' : List ℕ) (r : ℕ) → Pageable t place size o
+      → AskFilled (askedOf t order reach place size) references (distBy (askedOf t order reach place size) coordinates probe) o o' r
+      → PageIs (queryOf t order probe reach) (claimsOf t references coordinates) place size o o' (record { count = r; last = ltb r size })
+  unfolding askedOf admitted follows
+  done Start size o o' r h f =
+      filled-page t order reach references coordinates probe Start (omega (arith, asks .tree .few)) (h .stored) _ (λ k. refl) size o o' r f
+  done (After n m) size o o' r h f =
+      filled-page t order reach references coordinates probe (After n m) (omega (arith, asks .tree .few)) (h .stored) _ (λ k. refl) size o o' r f
+
+  module _ (place : Place) (size : ℕ) (ask : Asked) (is : ask ≡ askedOf t order reach place size) (o : List ℕ) (h : Pageable t place size o) where
+    pub page-ready : PageAsk rooms references coordinates probe ask o
+    page-ready = subst (λ (a : Asked). PageAsk rooms references coordinates probe a o) (sym is) (ready place size o h)
+
+    pub page-done : (o' : List ℕ) (r : ℕ) → AskFilled ask references (distBy ask coordinates probe) o o' r
+        → PageIs (queryOf t order probe reach) (claimsOf t references coordinates) place size o o' (record { count = r; last = ltb r size })
+    page-done o' r f = done place size o o' r h (subst (λ (a : Asked). AskFilled a references (distBy a coordinates probe) o o' r) is f)
+
+-- the first of the order: a page of one
+module _ (t : Table) (order : Order) (probe : List ℤ) (reach : ℕ) (references : List ℕ) (coordinates : List ℤ) where
+  abbrev L : List Item
+  L = listed (queryOf t order probe reach) (claimsOf t references coordinates) (t .count)
+
+  pub start-page : (size : ℕ) → pageOf (queryOf t order probe reach) (claimsOf t references coordinates) Start size ≡ take size L
+  unfolding pageOf following
+  start-page size =
+      rw (claims-length (t .d) (t .count) references coordinates, rest-start order L)
+
+  module _ (o o' : List ℕ) (r : Paged) (h : PageIs (queryOf t order probe reach) (claimsOf t references coordinates) Start 1 o o' r) where
+    pub first-none : r .count ≡ 0 → told Nothing ≡ firstOf L
+    unfolding told firstOf
+    first-none z = go L (sym z ∙ h .count ∙ ap length (start-page 1))
+      where
+        go : (l : List Item) → 0 ≡ length (take 1 l) → told Nothing ≡ firstOf l
+        go [] e = refl
+        go (a ∷ l) e = absurd (omega arith)
+
+    pub first-some : (r .count ≡ 0 → ⊥) → told (AnItem (getD o' 0 0) (getD o' 1 0) (getD o' 2 0)) ≡ firstOf L
+    unfolding told firstOf fronted flat
+    first-some some = go L (h .count ∙ ap length (start-page 1)) (h .room ∙ ap (λ (l : List Item). fronted l o) (start-page 1))
+      where
+        go : (l : List Item) → r .count ≡ length (take 1 l) → o' ≡ fronted (take 1 l) o → told (AnItem (getD o' 0 0) (getD o' 1 0) (getD o' 2 0)) ≡ firstOf l
+        go [] e f = absurd (some e)
+        go (a ∷ l) e f = rw f
+
+pub nearest-is : (t : Table) (probe : List ℤ) (reach : ℕ) (references : List ℕ) (coordinates : List ℤ) (r : Answer)
+    → told r ≡ firstOf (listed (queryOf t Near probe reach) (claimsOf t references coordinates) (t .count))
+    → told r ≡ nearestOf (queryOf t Near probe reach) (claimsOf t references coordinates)
+unfolding nearestOf
+nearest-is t probe reach references coordinates r h = rw (claims-length (t .d) (t .count) references coordinates) h
+
+pub farthest-is : (t : Table) (probe : List ℤ) (references : List ℕ) (coordinates : List ℤ) (m : Measure) (greatest : ℕ) (r : Answer)
+    → m ≡ measureOf (t .measure) → greatest ≡ greatestOf m (t .d)
+    → told r ≡ firstOf (listed (queryOf t Far probe greatest) (claimsOf t references coordinates) (t .count))
+    → told r ≡ farthestOf (queryOf t Far probe (greatestOf (measureOf (t .measure)) (t .d))) (claimsOf t references coordinates)
+unfolding farthestOf
+farthest-is t probe references coordinates m greatest r pm pg h = rw (claims-length (t .d) (t .count) references coordinates, ← pm, ← pg) h
+
+-- whether the mark holds
+module _ (t : Table) (coordinates probe : List ℤ) (reach : ℕ) (place : Place) where
+  abbrev Holds : Bool → Type 0
+  Holds b = (order : Order) (references : List ℕ) → b ≡ markHolds (queryOf t order probe reach) (claimsOf t references coordinates) place
+
+  pub mark-start : place ≡ Start → Holds true
+  unfolding markHolds
+  mark-start p order references = rw p
+
+  module _ (n : ℕ) (m : Mark) (is : place ≡ After n m) (h : Markable t coordinates probe place) where
+    stored : n ≤ t .count
+    stored = subst (λ (p : Place). snapshotOf p (t .count) ≤ t .count) is (h .stored)
+
+    pub mark-sight : m .number < n → InSight (t .d) (m .number) coordinates probe
+    mark-sight l =
+        record {
+          narrow = h .measurable .located .narrow;
+          inside = claim-inside (t .d) (t .count) (m .number) coordinates (h .measurable .located) (omega (arith, stored));
+          aimed = h .measurable .aimed;
+        }
+
+    pub mark-late : n ≤ m .number → Holds false
+    unfolding markHolds
+    mark-late l order references = rw (is, le-ltb (m .number) n l)
+
+    module _ (x : ℕ) (measured : x ≡ distOf (t .measure) (t .d) coordinates probe (m .number)) (l : m .number < n) where
+      far-is : (order : Order) (references : List ℕ) → itemOf (queryOf t order probe reach) (claimsOf t references coordinates) (m .number) .distance ≡ x
+      far-is order references = ap (λ (a : Item). a .distance) (item-is t order reach references coordinates probe (m .number) (omega (arith, stored))) ∙ sym measured
+
+      pub mark-off : (x ≡ m .distance → ⊥) → Holds false
+      unfolding markHolds
+      mark-off ne order references = rw (is, lt-ltb (m .number) n l, far-is order references, ne-eqb (m .distance) x (λ e. ne (sym e)))
+
+      pub mark-within : x ≡ m .distance → Holds (leb (m .distance) reach)
+      unfolding markHolds
+      mark-within e order references = rw (is, lt-ltb (m .number) n l, far-is order references, eq-eqb (m .distance) x (sym e))
+
+-- the filled front
+pub front-part : (count n : ℕ) (room : List ℕ) → n ≡ 3 * count → take (n - 0) (drop 0 room) ≡ take (3 * count) room
+front-part count n room e = rw (sub-zero, e)
+
+pub front-whole : (count : ℕ) (room : List ℕ) → length room / 3 < count → room ≡ take (3 * count) room
+front-whole count room h = sym (take-all (3 * count) room (omega arith))
+
+-- what the front of the room shows after a page: the page's items
+flat-length : (l : List Item) → length (flat l) ≡ 3 * length l
+unfolding flat
+flat-length [] = refl
+flat-length (a ∷ l) = let h = flat-length l in omega arith
+
+pub page-front : (q : Query) (cs : List Claim) (place : Place) (size : ℕ) (o o' : List ℕ) (r : Paged) → PageIs q cs place size o o' r
+    → take (3 * r .count) o' ≡ flat (pageOf q cs place size)
+unfolding fronted
+page-front q cs place size o o' r h =
+    let l : List Item = pageOf q cs place size in
+    let e : length (flat (pageOf q cs place size)) ≡ 3 * r .count = flat-length (pageOf q cs place size) ∙ ap (λ (n : ℕ). 3 * n) (sym (h .count)) in
+    ap (take (3 * r .count)) (h .room) ∙ take-at (flat (pageOf q cs place size)) (drop (3 * length (pageOf q cs place size)) o) (3 * r .count) e
+
+-- a sound table can be asked
+pub good-answers : (s : Store) (probe : List ℤ) → Good s → s .table .d ≤ length probe → Answerable (s .table) (s .references) (s .coordinates) (s .rooms) probe
+good-answers s probe g h =
+    record {
+      tree = good-tree s g;
+      measurable = record { located = lent-located (s .table) (s .coordinates) (length (s .rooms)) (s .table .count) (g .fit .lent) (g .count); aimed = h };
+      named = omega (arith, g .count, g .fit .references);
+    }

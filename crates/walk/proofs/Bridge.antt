@@ -1,0 +1,198 @@
+-- From the walk's claim numbers to the paper's items. Assumes nothing.
+use Prim.Native.Nat.{ℕ, zero, suc, _+_, _*_, _<_, _≤_, _^_}
+use mathlib.Core.Path.{_≡_, refl, sym, ap, subst, _∙_}
+use mathlib.Core.Logic.{_⊎_, ⊎-elim}
+use mathlib.Core.Bool.{Bool, true, false, cond, _&&_}
+use mathlib.Core.List.{List, [], _∷_, _++_, map}
+use native.Mathlib.Omega.{arith}
+use native.Mathlib.Nat.{le-refl, eq-or-lt-of-le}
+use lib.Dec.{ltb, leb, eqb}
+use lib.IntN.{ℤ, pos}
+use lib.ListN.{length, getD, take, drop, length-append, length-map, List·getD-append}
+use lib.Seq.{getD-take, getD-at}
+use borrow.Author.Tests.{lt-ltb, le-ltb, ne-eqb}
+use Rattle.paper.specs.declared.orders.Order.{Order}
+use Rattle.paper.specs.declared.orders.Place.{Place}
+use Rattle.paper.specs.declared.orders.Place.the-variants.{Start, After}
+use Rattle.paper.specs.declared.points.Measure.{Measure}
+use Rattle.paper.specs.declared.tables.Table.{Table}
+use Rattle.paper.specs.Points.{measureOf, distance, Claim, noClaim, point}
+use Rattle.paper.specs.Orders.{Item, Query, rank, before, earlier, itemOf, listed, follows, rest, snapshotOf, following, pageOf, lastOf, flat, fronted}
+use Rattle.paper.specs.Orders.{insert as put}
+use Rattle.paper.specs.Tree.{claimsFrom}
+use Rattle.keep.specs.Page.{ranks, sooner, insert, sortedOf, firstSorted, items, Filled}
+use Rattle.keep.specs.Kept.{key, Rising, none, more}
+use Rattle.keep.proofs.Keeping.{no-way, sooner-true, sooner-false, key-sooner, key-differs, scan-rising}
+use Rattle.keep.proofs.Placing.{before-ranks}
+use Rattle.walk.specs.Walking.{refOf, distOf}
+use Rattle.walk.specs.Asking.{queryOf, claimsOf, PageIs}
+use Rattle.walk.proofs.Orders.{rest-insert}
+
+-- claim k as an item, where its reference is `ref k` and it is `dist k` away
+abbrev pub itemAt : (ℕ → ℕ) → (ℕ → ℕ) → ℕ → Item
+itemAt ref dist k = record { number = k; reference = ref k; distance = dist k }
+
+-- of two claims, one comes first
+sooner-turned : (rank : ℕ → ℕ) (j k : ℕ) (b : Bool) → j < 2 ^ 64 → k < 2 ^ 64 → (j ≡ k → ⊥) → sooner rank j k ≡ b → cond b (sooner rank k j ≡ false) (sooner rank k j ≡ true)
+sooner-turned rank j k true hj hk ne p = go (sooner rank k j) refl
+  where
+    go : (u : Bool) → sooner rank k j ≡ u → u ≡ false
+    go true q = absurd (omega (arith, sooner-true rank j k hj hk p, sooner-true rank k j hk hj q))
+    go false q = refl
+sooner-turned rank j k false hj hk ne p =
+    key-sooner rank k j hk hj (omega (arith, sooner-false rank j k hj hk p, key-differs rank j k hj hk ne))
+
+module _ (o : Order) (ref dist : ℕ → ℕ) where
+  -- a claim behind all of l, put in its place among the numbers and among the items
+  put-numbers : (ok : ℕ → Bool) (k s lo : ℕ) (l : List ℕ) → k < 2 ^ 64 → Rising (ranks o dist) ok k s lo l
+      → put o (itemAt ref dist k) (map (itemAt ref dist) l) ≡ map (itemAt ref dist) (insert (ranks o dist) k l)
+  unfolding put insert
+  put-numbers ok k s lo [] hk none = refl
+  put-numbers ok k (suc s) lo (x ∷ l) hk (more a b c d) =
+      go (sooner (ranks o dist) x k) refl
+      (sooner-turned (ranks o dist) x k (sooner (ranks o dist) x k) (omega arith) hk (λ e. omega arith) refl)
+      (put-numbers ok k s (key (ranks o dist) x + 1) l hk d)
+    where
+      go : (u : Bool) → sooner (ranks o dist) x k ≡ u → cond u (sooner (ranks o dist) k x ≡ false) (sooner (ranks o dist) k x ≡ true)
+          → put o (itemAt ref dist k) (map (itemAt ref dist) l) ≡ map (itemAt ref dist) (insert (ranks o dist) k l)
+          → cond (earlier o (itemAt ref dist k) (itemAt ref dist x)) (itemAt ref dist k ∷ itemAt ref dist x ∷ map (itemAt ref dist) l) (itemAt ref dist x ∷ put o (itemAt ref dist k) (map (itemAt ref dist) l))
+          ≡ map (itemAt ref dist) (cond u (x ∷ insert (ranks o dist) k l) (cond (eqb x k) (x ∷ l) (k ∷ x ∷ l)))
+      go true p q ih = rw (before-ranks o (dist k) k (dist x) x, q, ih)
+      go false p q ih = rw (before-ranks o (dist k) k (dist x) x, q, ne-eqb x k (λ e. omega arith))
+
+-- admitted by the query: within reach, and after the place
+abbrev okIn : Query → Place → (ℕ → ℕ) → (ℕ → ℕ) → ℕ → Bool
+okIn q p ref dist k = leb (dist k) (q .reach) && follows (q .order) p (itemAt ref dist k)
+
+-- what follows the place in the paper's list, by number
+module _ (q : Query) (cs : List Claim) (p : Place) (ref dist : ℕ → ℕ) (n : ℕ) (small : n < 2 ^ 64) (agree : (k : ℕ) → k < n → itemOf q cs k ≡ itemAt ref dist k) where
+  abbrev Sorted : ℕ → List ℕ
+  Sorted s = sortedOf (ranks (q .order) dist) (okIn q p ref dist) s
+
+  listed-rest : (s : ℕ) → s ≤ n → rest (q .order) p (listed q cs s) ≡ map (itemAt ref dist) (Sorted s)
+  unfolding listed rest sortedOf
+  listed-rest zero h = refl
+  listed-rest (suc k) h =
+      subst (λ (a : Item). rest (q .order) p (cond (leb (a .distance) (q .reach)) (put (q .order) a (listed q cs k)) (listed q cs k)) ≡ map (itemAt ref dist) (cond (okIn q p ref dist k) (insert (ranks (q .order) dist) k (Sorted k)) (Sorted k)))
+      (sym (agree k h)) (go (leb (dist k) (q .reach)) (follows (q .order) p (itemAt ref dist k)) refl refl (listed-rest k (omega arith)))
+    where
+      go : (u v : Bool) → leb (dist k) (q .reach) ≡ u → follows (q .order) p (itemAt ref dist k) ≡ v
+          → rest (q .order) p (listed q cs k) ≡ map (itemAt ref dist) (Sorted k)
+          → rest (q .order) p (cond u (put (q .order) (itemAt ref dist k) (listed q cs k)) (listed q cs k)) ≡ map (itemAt ref dist) (cond (u && v) (insert (ranks (q .order) dist) k (Sorted k)) (Sorted k))
+      go true true a b ih =
+          rest-insert (q .order) p (itemAt ref dist k) (listed q cs k)
+          ∙ rw (b, ih) (put-numbers (q .order) ref dist (okIn q p ref dist) k k zero (Sorted k) (omega arith) (scan-rising (ranks (q .order) dist) (okIn q p ref dist) k k (le-refl k) (omega arith)))
+      go true false a b ih = rest-insert (q .order) p (itemAt ref dist k) (listed q cs k) ∙ rw b ih
+      go false v a b ih = ih
+
+-- filters that agree, and one that lets nothing pass from s on
+sorted-alike : (rank : ℕ → ℕ) (f g : ℕ → Bool) (n : ℕ) → ((k : ℕ) → k < n → f k ≡ g k) → sortedOf rank f n ≡ sortedOf rank g n
+unfolding sortedOf
+sorted-alike rank f g zero h = refl
+sorted-alike rank f g (suc n) h = rw (h n (omega arith), sorted-alike rank f g n (λ k l. h k (omega arith)))
+
+sorted-stops : (rank : ℕ → ℕ) (g : ℕ → Bool) (s n : ℕ) → s ≤ n → ((k : ℕ) → s ≤ k → g k ≡ false) → sortedOf rank g s ≡ sortedOf rank g n
+unfolding sortedOf
+sorted-stops rank g s zero h stop = let e : s ≡ 0 = omega arith in rw e
+sorted-stops rank g s (suc n) h stop =
+    ⊎-elim (λ e. rw e) (λ l. let le : s ≤ n = omega arith in rw (stop n le) (sorted-stops rank g s n le stop)) (eq-or-lt-of-le h)
+
+sorted-front : (rank : ℕ → ℕ) (f g : ℕ → Bool) (s n : ℕ) → s ≤ n → ((k : ℕ) → k < s → f k ≡ g k) → ((k : ℕ) → s ≤ k → g k ≡ false) → sortedOf rank f s ≡ sortedOf rank g n
+sorted-front rank f g s n h same stop = sorted-alike rank f g s same ∙ sorted-stops rank g s n h stop
+
+-- lists of items
+take-items : (f : ℕ → Item) (n : ℕ) (l : List ℕ) → take n (map f l) ≡ map f (take n l)
+take-items f zero l = refl
+take-items f (suc n) [] = refl
+take-items f (suc n) (x ∷ l) = ap (λ (r : List Item). f x ∷ r) (take-items f n l)
+
+pub flat-items : (ref dist : ℕ → ℕ) (l : List ℕ) → flat (map (itemAt ref dist) l) ≡ items ref dist l
+unfolding flat items
+flat-items ref dist [] = refl
+flat-items ref dist (k ∷ l) = rw (flat-items ref dist l)
+
+-- the claims of the lent memory
+pub claims-length : (d n : ℕ) (references : List ℕ) (coordinates : List ℤ) → length (claimsFrom d n references coordinates) ≡ n
+unfolding claimsFrom
+claims-length d zero references coordinates = refl
+claims-length d (suc n) references coordinates =
+    length-append (claimsFrom d n references coordinates) _ ∙ (let h = claims-length d n references coordinates in omega arith)
+
+pub claims-at : (d n : ℕ) (references : List ℕ) (coordinates : List ℤ) (k : ℕ) → k < n
+    → getD (claimsFrom d n references coordinates) k noClaim ≡ record { reference = getD references k 0; place = point d coordinates k }
+unfolding claimsFrom
+claims-at d zero references coordinates k h = absurd (omega arith)
+claims-at d (suc n) references coordinates k h =
+    ⊎-elim
+    (λ e. let z : k ≡ n = omega arith in rw z (getD-at (claimsFrom d n references coordinates) _ [] noClaim n (claims-length d n references coordinates)))
+    (λ l.
+        let l' : k < n = omega arith in
+        List·getD-append (claimsFrom d n references coordinates) _ noClaim k (rw (claims-length d n references coordinates) l')
+        ∙ claims-at d n references coordinates k l')
+    (eq-or-lt-of-le h)
+
+-- a measure looks at no more than the first d coordinates
+distance-front : (m : Measure) (d e : ℕ) (p q : List ℤ) → d ≤ e → distance m d (take e p) q ≡ distance m d p q
+unfolding distance
+distance-front m zero e p q h = refl
+distance-front m (suc d) e p q h = rw (distance-front m d e p q (omega arith), getD-take e p d (pos 0) h)
+
+module _ (t : Table) (order : Order) (reach : ℕ) (references : List ℕ) (coordinates probe : List ℤ) where
+  -- claim k, measured
+  pub item-is : (k : ℕ) → k < t .count
+      → itemOf (queryOf t order probe reach) (claimsOf t references coordinates) k ≡ itemAt (refOf references) (distOf (t .measure) (t .d) coordinates probe) k
+  unfolding itemOf distOf point
+  item-is k h =
+      ap
+      (λ (c : Claim). record { number = k; reference = c .reference; distance = distance (measureOf (t .measure)) (t .d) (c .place) probe })
+      (claims-at (t .d) (t .count) references coordinates k h)
+      ∙ ap
+      (λ (x : ℕ). record { number = k; reference = getD references k 0; distance = x })
+      (distance-front (measureOf (t .measure)) (t .d) (t .d) (drop (k * t .d) coordinates) probe (le-refl (t .d)))
+
+  module _ (place : Place) (small : t .count < 2 ^ 64) (stored : snapshotOf place (t .count) ≤ t .count) (ok : ℕ → Bool)
+      (oks : (k : ℕ) → ok k ≡ (ltb k (snapshotOf place (t .count)) && okIn (queryOf t order probe reach) place (refOf references) (distOf (t .measure) (t .d) coordinates probe) k)) where
+    abbrev Q : Query
+    Q = queryOf t order probe reach
+
+    abbrev Cs : List Claim
+    Cs = claimsOf t references coordinates
+
+    abbrev Ref : ℕ → ℕ
+    Ref = refOf references
+
+    abbrev Dist : ℕ → ℕ
+    Dist = distOf (t .measure) (t .d) coordinates probe
+
+    following-numbers : following Q Cs place ≡ map (itemAt Ref Dist) (sortedOf (ranks order Dist) ok (t .count))
+    unfolding following
+    following-numbers =
+        let e : snapshotOf place (length Cs) ≡ snapshotOf place (t .count) = ap (snapshotOf place) (claims-length (t .d) (t .count) references coordinates) in
+        rw e
+        (listed-rest Q Cs place Ref Dist (t .count) small item-is (snapshotOf place (t .count)) stored
+        ∙ ap (map (itemAt Ref Dist))
+        (sorted-front (ranks order Dist) (okIn Q place Ref Dist) ok (snapshotOf place (t .count)) (t .count) stored
+        (λ k h. sym (oks k ∙ rw (lt-ltb k (snapshotOf place (t .count)) h)))
+        (λ k h. oks k ∙ rw (le-ltb k (snapshotOf place (t .count)) h))))
+
+    module _ (size : ℕ) where
+      abbrev First : List ℕ
+      First = firstSorted (ranks order Dist) ok (t .count) size
+
+      page-numbers : pageOf Q Cs place size ≡ map (itemAt Ref Dist) First
+      unfolding pageOf firstSorted
+      page-numbers = ap (take size) following-numbers ∙ take-items (itemAt Ref Dist) size _
+
+      -- what the walk fills in is the page
+      pub filled-page : (o o' : List ℕ) (r : ℕ) → Filled order Ref Dist ok (t .count) size o o' r → PageIs Q Cs place size o o' (record { count = r; last = ltb r size })
+      unfolding fronted lastOf pageOf
+      filled-page o o' r h =
+          let e = page-numbers in
+          let len : length (map (itemAt Ref Dist) First) ≡ length First = length-map First (itemAt Ref Dist) in
+          let w : 3 * length (map (itemAt Ref Dist) First) ≡ length First * 3 = omega arith in
+          let n : r ≡ length (take size (following Q Cs place)) = h .counts ∙ sym len ∙ sym (ap length e) in
+          record {
+            room = h .room ∙ sym (ap (λ (l : List Item). flat l ++ drop (3 * length l) o) e ∙ rw (flat-items Ref Dist First, w));
+            count = n;
+            last = ap (λ (x : ℕ). ltb x size) n;
+          }

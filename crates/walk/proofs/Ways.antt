@@ -1,0 +1,205 @@
+-- One law for each way through the walk, in the words of what the code reads. Assumes nothing.
+use Prim.Native.Nat.{ℕ, zero, suc, _+_, _-_, _*_, _<_, _≤_, _^_}
+use mathlib.Core.Path.{_≡_, refl, sym, ap, _∙_}
+use mathlib.Core.Logic.{_⊎_, inl, inr, ⊎-elim}
+use mathlib.Core.Bool.{Bool, true, false}
+use mathlib.Core.List.{List, [], _∷_, _++_}
+use native.Mathlib.Omega.{arith}
+use native.Mathlib.Nat.{le-refl, le-trans, mul-le-mul-right}
+use lib.IntN.{ℤ}
+use lib.ListN.{length, take}
+use lib.Seq.{take-nil}
+use Rattle.paper.specs.declared.orders.Order.the-variants.{Near}
+use Rattle.paper.specs.Orders.{rank}
+use Rattle.paper.specs.Tree.{fieldAt}
+use Rattle.tree.specs.Rooms.{RoomOk, Linked, Under, here, deeper, Holds, Searchable, Located, Neartree}
+use Rattle.keep.specs.declared.Asked.{Asked}
+use Rattle.keep.specs.Page.{ranks, items, sortedOf, firstSorted, Filled}
+use Rattle.keep.specs.Kept.{Rising, none, Roomy, Holding, Walked, KeepIs}
+use Rattle.keep.specs.Skips.{admitted, capOf, boundOf, beyondOf, passedOf}
+use Rattle.keep.proofs.Keeping.{all-are-first}
+use Rattle.keep.proofs.Walks.{walked-still, walked-then, walked-fewer, step-taken, step-passed, beyond-wanted}
+use Rattle.walk.specs.Walking.{refOf, distBy, InSight, apartBy, okBy, rankBy, Metric, Below, AskWalked, Stepped, Lent, NodeAsk, SideAsk, PageAsk, AskFilled}
+use Rattle.walk.proofs.Skipping.{metric, rank-there, rank-back, rank-between, beyond-skips, passed-skips, ask-capped}
+
+-- the step of a claim that was measured
+module _ (ask : Asked) (references : List ℕ) (k x : ℕ) (o : List ℕ) (count : ℕ) where
+  pub consider-kept : (t : Bool) (y : ℕ) (o' : List ℕ) (r : ℕ) → k < ask .claims → t ≡ admitted ask x k → t ≡ true → y ≡ refOf references k
+      → KeepIs (ask .order) (ask .size) o count k y x o' r → Stepped ask references k x o count o' r
+  consider-kept t y o' r hk is yes' py p =
+      record {
+        few = p .few;
+        walked = λ dist px.
+            step-taken (ask .order) (refOf references) dist (okBy ask dist) (ask .claims) (ask .size) k y x o count o' r hk
+            (ap (λ (z : ℕ). admitted ask z k) (sym px) ∙ sym is ∙ yes') py px p;
+      }
+
+  pub consider-left : (t : Bool) → count ≤ ask .size → t ≡ admitted ask x k → t ≡ false → Stepped ask references k x o count o count
+  consider-left t few is no' =
+      record {
+        few = few;
+        walked = λ dist px.
+            step-passed (ask .order) (refOf references) dist (okBy ask dist) (ask .claims) (ask .size) k o count few
+            (ap (λ (z : ℕ). admitted ask z k) (sym px) ∙ sym is ∙ no');
+      }
+
+module _ (rooms : List ℕ) (e : ℕ → ℕ → ℕ) where
+  parts : (m s k j : ℕ) → k ≡ fieldAt rooms m s - 1 → Under rooms e m s j → (j ≡ k) ⊎ Below rooms e m s k j
+  parts m s k j p (here q) = inl (omega arith)
+  parts m s k j p (deeper l x w z q near side closer leads hz u) =
+      let y : l ≡ k = omega arith in
+      let v : x ≡ fieldAt rooms m (1 - s) - 1 = omega arith in
+      inr
+      (record {
+        near = rw (← y) near;
+        beside = λ z. omega arith;
+        closer = rw (← y, ← v) closer;
+        room = w;
+        leads = leads;
+        holds = record { side = z; which = hz; under = u };
+      })
+
+  not-free : (m s j : ℕ) → Under rooms e m s j → fieldAt rooms m s ≡ 0 → ⊥
+  not-free m s j (here p) z = omega arith
+  not-free m s j (deeper k x w y p q f g r h u) z = omega arith
+
+  two-sides-at : (m j s : ℕ) → s < 2 → Under rooms e m s j → Under rooms e m 0 j ⊎ Under rooms e m 1 j
+  two-sides-at m j zero h u = inl u
+  two-sides-at m j (suc zero) h u = inr u
+  two-sides-at m j (suc (suc s)) h u = absurd (omega arith)
+
+  two-sides : (m j : ℕ) → Holds rooms e m j → Under rooms e m 0 j ⊎ Under rooms e m 1 j
+  two-sides m j h = two-sides-at m j (h .side) (h .which) (h .under)
+
+-- below a side
+module _ (ask : Asked) (references rooms : List ℕ) (e : ℕ → ℕ → ℕ) (dist : ℕ → ℕ) (m s : ℕ) (o : List ℕ) (count below : ℕ)
+    (read : below ≡ fieldAt rooms m (4 + s)) (roomy : Roomy (ask .size) o count) where
+  abbrev Went : List ℕ → ℕ → Type 0
+  Went o' r = AskWalked ask references dist (Below rooms e m s (fieldAt rooms m s - 1)) o count o' r
+
+  pub side-none : below ≡ 0 → Went o count
+  side-none z = walked-still _ _ _ _ _ _ _ o count (roomy .few) (λ base l g j c y. absurd (omega (arith, c .leads)))
+
+  pub side-passed : (x far : ℕ) → Metric e dist → rankBy ask dist (fieldAt rooms m s - 1) ≤ x → far ≡ fieldAt rooms m (2 + s) → passedOf ask x far ≡ true → Went o count
+  side-passed x far metric px pf test =
+      walked-still _ _ _ _ _ _ _ o count (roomy .few)
+      (λ base l g j c y. absurd (passed-skips ask x far (dist j) j test
+      (omega (arith, rank-back ask e dist metric (fieldAt rooms m s - 1) j, c .near)) y))
+
+  pub side-beyond : (x y far bound : ℕ) → Metric e dist → x ≤ rankBy ask dist (fieldAt rooms m s - 1) → rankBy ask dist (fieldAt rooms m (1 - s) - 1) ≤ y
+      → far ≡ fieldAt rooms m (2 + s) → bound ≡ boundOf ask o count → beyondOf (ask .order) bound x y s far ≡ true → Went o count
+  unfolding boundOf
+  side-beyond x y far bound metric px py pf pb test =
+      walked-still _ _ _ _ _ _ _ o count (roomy .few)
+      (λ base l g j c z. beyond-wanted (ask .order) (refOf references) dist (okBy ask dist) (ask .claims) (ask .size) (capOf (ask .order) (ask .reach)) base o count l j
+      (roomy .some) (ask-capped ask (dist j) j z) g
+      (rw (← pb) (beyond-skips (ask .order) bound x y s far (e (fieldAt rooms m s - 1) j) (e (fieldAt rooms m (1 - s) - 1) j) (rankBy ask dist j) test
+      (le-trans px (rank-there ask e dist metric (fieldAt rooms m s - 1) j)) (rw pf (c .near)) (c .closer)
+      (λ near. omega (arith, rank-between ask e dist metric (fieldAt rooms m (1 - s) - 1) j near)))))
+
+  pub side-down : (o' : List ℕ) (r : ℕ) → (below ≡ 0 → ⊥) → AskWalked ask references dist (Holds rooms e (below - 1)) o count o' r → Went o' r
+  side-down o' r some h =
+      walked-fewer _ _ _ _ _ _ _ (Holds rooms e (below - 1)) o count o' r
+      (λ j c. let z : c .room ≡ below - 1 = omega (arith, c .leads) in rw (← z) (c .holds)) h
+
+-- a room, after its left claim
+module _ (ask : Asked) (references rooms : List ℕ) (e : ℕ → ℕ → ℕ) (dist : ℕ → ℕ) (m : ℕ) (o : List ℕ) (count l : ℕ) (left : l ≡ fieldAt rooms m 0) (right : ℕ)
+    (read : right ≡ fieldAt rooms m 1) (x : ℕ) (measured : x ≡ dist (l - 1)) (o₁ : List ℕ) (c₁ : ℕ) (w₁ : Stepped ask references (l - 1) x o count o₁ c₁) where
+  abbrev All : List ℕ → ℕ → Type 0
+  All o' r = AskWalked ask references dist (Holds rooms e m) o count o' r
+
+  pub node-one : right ≡ 0 → All o₁ c₁
+  node-one z =
+      walked-fewer _ _ _ _ _ _ _ _ o count o₁ c₁
+      (λ j h. ⊎-elim (λ u. ⊎-elim (λ q. q ∙ ap (λ (t : ℕ). t - 1) (sym left)) (λ q. absurd (q .beside (sym read ∙ z))) (parts rooms e m 0 _ j refl u))
+      (λ u. absurd (not-free rooms e m 1 j u (sym read ∙ z))) (two-sides rooms e m j h)) (w₁ .walked dist measured)
+
+  module _ (x₂ : ℕ) (measured₂ : x₂ ≡ dist (right - 1)) (o₂ : List ℕ) (c₂ : ℕ) (w₂ : Stepped ask references (right - 1) x₂ o₁ c₁ o₂ c₂)
+      (o₃ : List ℕ) (c₃ : ℕ) (o₄ : List ℕ) (r : ℕ) where
+    abbrev Side : ℕ → ℕ → Type 0
+    Side s j = Below rooms e m s (fieldAt rooms m s - 1) j
+
+    node-two : (C C' : ℕ → Type 0) → ((j : ℕ) → Side 0 j ⊎ Side 1 j → C j ⊎ C' j) → AskWalked ask references dist C o₂ c₂ o₃ c₃ → AskWalked ask references dist C' o₃ c₃ o₄ r → All o₄ r
+    node-two C C' order w₃ w₄ =
+        walked-then _ _ _ _ _ _ _ (λ j. (j ≡ l - 1) ⊎ (j ≡ right - 1)) (λ j. Side 0 j ⊎ Side 1 j) o count o₂ c₂ o₄ r
+        (walked-then _ _ _ _ _ _ _ _ _ o count o₁ c₁ o₂ c₂ (w₁ .walked dist measured) (w₂ .walked dist measured₂) (λ j c. c))
+        (walked-then _ _ _ _ _ _ _ C C' o₂ c₂ o₃ c₃ o₄ r w₃ w₄ order)
+        (λ j h. ⊎-elim
+        (λ u. ⊎-elim (λ q. inl (inl (q ∙ ap (λ (t : ℕ). t - 1) (sym left)))) (λ q. inr (inl q)) (parts rooms e m 0 (fieldAt rooms m 0 - 1) j refl u))
+        (λ u. ⊎-elim (λ q. inl (inr (q ∙ ap (λ (t : ℕ). t - 1) (sym read)))) (λ q. inr (inr q)) (parts rooms e m 1 (fieldAt rooms m 1 - 1) j refl u))
+        (two-sides rooms e m j h))
+
+    pub node-left-first : AskWalked ask references dist (Side 0) o₂ c₂ o₃ c₃ → AskWalked ask references dist (Side 1) o₃ c₃ o₄ r → All o₄ r
+    node-left-first = node-two (Side 0) (Side 1) (λ j c. c)
+
+    pub node-right-first : AskWalked ask references dist (Side 1) o₂ c₂ o₃ c₃ → AskWalked ask references dist (Side 0) o₃ c₃ o₄ r → All o₄ r
+    node-right-first = node-two (Side 1) (Side 0) (λ j c. ⊎-elim (λ q. inr q) (λ q. inl q) c)
+
+-- what the links give
+pub stored-here : (rooms : List ℕ) (used n m s x : ℕ) → Searchable rooms used n m → s < 2 → x ≡ fieldAt rooms m s → (x ≡ 0 → ⊥) → x - 1 < n
+unfolding Linked
+stored-here rooms used n m s x h hs read some = omega (arith, h .linked m (h .inUse) .stored s hs)
+
+pub left-here : (rooms : List ℕ) (used n m x : ℕ) → Searchable rooms used n m → x ≡ fieldAt rooms m 0 → 0 < x
+unfolding Linked
+left-here rooms used n m x h read = omega (arith, h .linked m (h .inUse) .left)
+
+pub rises-here : (rooms : List ℕ) (used n m s x : ℕ) → Searchable rooms used n m → s < 2 → x ≡ fieldAt rooms m (4 + s) → (x ≡ 0 → ⊥) → m < x - 1
+unfolding Linked
+rises-here rooms used n m s x h hs read some = omega (arith, h .linked m (h .inUse) .rises s hs (λ q. some (read ∙ q)))
+
+pub next-here : (rooms : List ℕ) (used n m s x : ℕ) → Searchable rooms used n m → s < 2 → x ≡ fieldAt rooms m (4 + s) → (x ≡ 0 → ⊥) → Searchable rooms used n (x - 1)
+unfolding Linked
+next-here rooms used n m s x h hs read some =
+    record { linked = h .linked; room = h .room; inUse = omega (arith, h .linked m (h .inUse) .leads s hs) }
+
+pub roomy-again : (size : ℕ) (o o' : List ℕ) (count r : ℕ) → Roomy size o count → length o' ≡ length o → r ≤ size → Roomy size o' r
+roomy-again size o o' count r h e few = record { some = h .some; most = h .most; few = few; long = omega (arith, h .long) }
+
+-- claim k has its d coordinates in the lent memory
+pub claim-inside : (d n k : ℕ) (coordinates : List ℤ) → Located d n coordinates → k < n → k * d + d ≤ length coordinates
+claim-inside d n k coordinates h hk = let p : suc k * d ≤ n * d = mul-le-mul-right d hk in omega (arith, h .inside)
+
+pub in-sight : (ask : Asked) (references : List ℕ) (coordinates probe : List ℤ) (k : ℕ) → Lent ask references coordinates probe → k < ask .claims → InSight (ask .d) k coordinates probe
+in-sight ask references coordinates probe k h hk =
+    record { narrow = h .located .narrow; inside = claim-inside (ask .d) (ask .claims) k coordinates (h .located) hk; aimed = h .aimed }
+
+pub side-ready : (rooms references : List ℕ) (coordinates probe : List ℤ) (ask : Asked) (m s a xd x b yd y : ℕ) (o₀ : List ℕ) (c₀ : ℕ) (o : List ℕ) (count : ℕ)
+    → NodeAsk rooms references coordinates probe ask m o₀ c₀ → s < 2
+    → a ≡ fieldAt rooms m s → xd ≡ distBy ask coordinates probe (a - 1) → x ≡ rank (ask .order) xd
+    → b ≡ fieldAt rooms m (1 - s) → yd ≡ distBy ask coordinates probe (b - 1) → y ≡ rank (ask .order) yd
+    → length o ≡ length o₀ → count ≤ ask .size → SideAsk rooms references coordinates probe ask m s x y o count
+side-ready rooms references coordinates probe ask m s a xd x b yd y o₀ c₀ o count h hs read px rx read' py ry len few =
+    record {
+      which = hs;
+      walk = h .walk;
+      lent = h .lent;
+      least = rw (← read, ← px, ← rx) (le-refl x);
+      most = rw (← read, ← px, ← rx) (le-refl x);
+      beside = rw (← read', ← py, ← ry) (le-refl y);
+      roomy = roomy-again (ask .size) o₀ o c₀ count (h .roomy) len few;
+    }
+
+pub node-ready : (rooms references : List ℕ) (coordinates probe : List ℤ) (ask : Asked) (m s x y : ℕ) (o : List ℕ) (count below : ℕ)
+    → SideAsk rooms references coordinates probe ask m s x y o count → below ≡ fieldAt rooms m (4 + s) → (below ≡ 0 → ⊥)
+    → NodeAsk rooms references coordinates probe ask (below - 1) o count
+node-ready rooms references coordinates probe ask m s x y o count below h read some =
+    record { walk = next-here rooms (ask .used) (ask .claims) m s below (h .walk) (h .which) read some; lent = h .lent; roomy = h .roomy }
+
+-- the page
+module _ (rooms references : List ℕ) (coordinates probe : List ℤ) (ask : Asked) (o : List ℕ) (asks : PageAsk rooms references coordinates probe ask o) where
+  pub page-none : ask .used ≡ 0 → AskFilled ask references (distBy ask coordinates probe) o o 0
+  unfolding firstSorted sortedOf items
+  page-none z =
+      let none' : ask .claims ≡ 0 = asks .tree .empty z in
+      let e : take {A = ℕ} (ask .size) [] ≡ [] = take-nil (ask .size) in
+      record { room = rw (none', e); counts = rw (none', e) }
+
+  pub page-all : (o' : List ℕ) (r : ℕ) → AskWalked ask references (distBy ask coordinates probe) (Holds rooms (apartBy ask coordinates) 0) o 0 o' r
+      → AskFilled ask references (distBy ask coordinates probe) o o' r
+  unfolding items
+  page-all o' r w =
+      let small : ask .claims < 2 ^ 64 = omega (arith, asks .tree .few) in
+      let t = w .took o [] (record { front = refl; counts = refl; rising = none; long = asks .roomy .long; small = small }) in
+      let e = all-are-first (rankBy ask (distBy ask coordinates probe)) (okBy ask (distBy ask coordinates probe)) (ask .claims) (ask .size) (Holds rooms (apartBy ask coordinates) 0) (t .kept) small (asks .tree .all) (t .is) in
+      record { room = rw (← e) (t .holds .front); counts = rw (← e) (t .holds .counts) }

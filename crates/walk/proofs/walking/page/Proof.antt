@@ -1,0 +1,20 @@
+-- `walk::walking::page` meets its contract. Assumes nothing.
+use Rattle.walk.proofs.Ways.{page-none, page-all}
+use borrow.Author.Needs.{needs}
+use Rattle.walk.proofs.walking.page.Statement.{statement}
+use Rattle.walk.proofs.walking.page.Tie as tie
+
+returns : tie.Need-returns
+returns c = let a = c .before .before .before .before .args in page-none (a .rooms .now) (a .references .now) (a .coordinates .now) (a .probe .now) (a .ask) _ (c .before .before .before .before .pre) (c .if1 .taken)
+
+node-requires : tie.Need-node-requires
+node-requires c κs = search needs
+
+same-length : tie.Need-same-length
+same-length c = search needs
+
+returns-2 : tie.Need-returns-2
+returns-2 c = let a = c .before .before .before .before .before .before .before .before .args in page-all (a .rooms .now) (a .references .now) (a .coordinates .now) (a .probe .now) (a .ask) _ (c .before .before .before .before .before .before .before .before .pre) _ _ (c .before .before .node .ensures)
+
+pub page-spec : {M : Type 1} → statement M
+page-spec = tie.close (tie.spec returns node-requires same-length returns-2)

@@ -1,0 +1,105 @@
+-- What the walk of a room and of a side ask and give. Definitions only.
+use Prim.Native.Nat.{ℕ, _+_, _-_, _*_, _<_, _≤_}
+use mathlib.Core.Path.{_≡_}
+use mathlib.Core.Bool.{Bool}
+use mathlib.Core.List.{List}
+use lib.IntN.{ℤ}
+use lib.ListN.{length, getD, drop}
+use Rattle.paper.specs.Points.{measureOf, distance}
+use Rattle.paper.specs.Tree.{fieldAt, apart}
+use Rattle.tree.specs.Rooms.{Holds, Searchable, Neartree, Located}
+use Rattle.keep.specs.declared.Asked.{Asked}
+use Rattle.keep.specs.Page.{ranks, Filled}
+use Rattle.keep.specs.Kept.{Roomy, Walked}
+use Rattle.keep.specs.Skips.{admitted}
+
+-- the reference of claim k
+abbrev pub refOf : List ℕ → ℕ → ℕ
+refOf references k = getD references k 0
+
+-- how far claim k is from the probe
+unfoldable pub distOf : ℕ → ℕ → List ℤ → List ℤ → ℕ → ℕ
+distOf measure d coordinates probe k = distance (measureOf measure) d (drop (k * d) coordinates) probe
+
+abbrev pub distBy : Asked → List ℤ → List ℤ → ℕ → ℕ
+distBy ask coordinates probe = distOf (ask .measure) (ask .d) coordinates probe
+
+-- claim k can be measured: the lent memory has its d coordinates, and the probe's
+pub record InSight (d k : ℕ) (coordinates probe : List ℤ) : Type 0 where
+  pub narrow : d ≤ 8
+  pub inside : k * d + d ≤ length coordinates
+  pub aimed : d ≤ length probe
+
+-- how far claims j and k are apart
+abbrev pub apartBy : Asked → List ℤ → ℕ → ℕ → ℕ
+apartBy ask coordinates = apart (ask .measure) (ask .d) coordinates
+
+-- whether claim k is admitted, where it is `dist k` away
+abbrev pub okBy : Asked → (ℕ → ℕ) → ℕ → Bool
+okBy ask dist k = admitted ask (dist k) k
+
+-- its rank
+abbrev pub rankBy : Asked → (ℕ → ℕ) → ℕ → ℕ
+rankBy ask dist = ranks (ask .order) dist
+
+-- all that the walk uses of the measure: claim k is `dist k` from the probe and `e k j` from claim j
+pub record Metric (e : ℕ → ℕ → ℕ) (dist : ℕ → ℕ) : Type 0 where
+  pub there : (k j : ℕ) → dist k ≤ e k j + dist j
+  pub back : (k j : ℕ) → dist j ≤ e k j + dist k
+  pub between : (k j : ℕ) → e k j ≤ dist k + dist j
+
+-- a claim below side s of room m, where k is the side's claim
+pub record Below (rooms : List ℕ) (e : ℕ → ℕ → ℕ) (m s k j : ℕ) : Type 0 where
+  pub near : e k j ≤ fieldAt rooms m (2 + s)
+  pub beside : fieldAt rooms m (1 - s) ≡ 0 → ⊥
+  pub closer : e k j + s ≤ e (fieldAt rooms m (1 - s) - 1) j
+  pub room : ℕ
+  pub leads : fieldAt rooms m (4 + s) ≡ room + 1
+  pub holds : Holds rooms e room j
+
+-- what the question's walk over the claims of C does
+abbrev pub AskWalked : Asked → List ℕ → (ℕ → ℕ) → (ℕ → Type 0) → List ℕ → ℕ → List ℕ → ℕ → Type 0
+AskWalked ask references dist C o count o' r = Walked (ask .order) (refOf references) dist (okBy ask dist) (ask .claims) (ask .size) C o count o' r
+
+-- the step of claim k, at distance x
+pub record Stepped (ask : Asked) (references : List ℕ) (k x : ℕ) (o : List ℕ) (count : ℕ) (o' : List ℕ) (r : ℕ) : Type 0 where
+  pub few : r ≤ ask .size
+  pub walked : (dist : ℕ → ℕ) → x ≡ dist k → AskWalked ask references dist (λ j. j ≡ k) o count o' r
+
+-- the lent memory has what the question reads of it
+pub record Lent (ask : Asked) (references : List ℕ) (coordinates probe : List ℤ) : Type 0 where
+  pub located : Located (ask .d) (ask .claims) coordinates
+  pub named : ask .claims ≤ length references
+  pub aimed : ask .d ≤ length probe
+
+-- what the step of claim k asks
+pub record StepAsk (ask : Asked) (references : List ℕ) (k : ℕ) (o : List ℕ) (count : ℕ) : Type 0 where
+  pub stored : k < ask .claims
+  pub named : ask .claims ≤ length references
+  pub roomy : Roomy (ask .size) o count
+
+-- what the walk of room m asks
+pub record NodeAsk (rooms references : List ℕ) (coordinates probe : List ℤ) (ask : Asked) (m : ℕ) (o : List ℕ) (count : ℕ) : Type 0 where
+  pub walk : Searchable rooms (ask .used) (ask .claims) m
+  pub lent : Lent ask references coordinates probe
+  pub roomy : Roomy (ask .size) o count
+
+-- what the walk below side s asks: the side's claim is at rank x, the other side's at rank y or before
+pub record SideAsk (rooms references : List ℕ) (coordinates probe : List ℤ) (ask : Asked) (m s x y : ℕ) (o : List ℕ) (count : ℕ) : Type 0 where
+  pub which : s < 2
+  pub walk : Searchable rooms (ask .used) (ask .claims) m
+  pub lent : Lent ask references coordinates probe
+  pub least : x ≤ rankBy ask (distBy ask coordinates probe) (fieldAt rooms m s - 1)
+  pub most : rankBy ask (distBy ask coordinates probe) (fieldAt rooms m s - 1) ≤ x
+  pub beside : rankBy ask (distBy ask coordinates probe) (fieldAt rooms m (1 - s) - 1) ≤ y
+  pub roomy : Roomy (ask .size) o count
+
+-- what a page asks
+pub record PageAsk (rooms references : List ℕ) (coordinates probe : List ℤ) (ask : Asked) (o : List ℕ) : Type 0 where
+  pub tree : Neartree rooms (apartBy ask coordinates) (ask .used) (ask .claims)
+  pub lent : Lent ask references coordinates probe
+  pub roomy : Roomy (ask .size) o 0
+
+-- the first so many admitted claims stand at the front of the room
+abbrev pub AskFilled : Asked → List ℕ → (ℕ → ℕ) → List ℕ → List ℕ → ℕ → Type 0
+AskFilled ask references dist o o' r = Filled (ask .order) (refOf references) dist (okBy ask dist) (ask .claims) (ask .size) o o' r

@@ -1,0 +1,162 @@
+// Nearest, farthest and page of a sound table, by the definitions of the paper.
+ghost use mathlib.Core.Path.{_≡_};
+ghost use Prim.Native.Nat.{ℕ, _*_};
+ghost use mathlib.Core.List.{List};
+ghost use lib.ListN.{take};
+ghost use Rattle.paper.specs.declared.orders.Order.{Order};
+ghost use Rattle.paper.specs.declared.orders.Order.the-variants.{Near, Far};
+ghost use Rattle.paper.specs.Points.{measureOf, greatestOf};
+ghost use Rattle.paper.specs.Orders.{told, listed, firstOf, nearestOf, farthestOf, markHolds};
+ghost use Rattle.walk.specs.Asking.{queryOf, claimsOf, askedOf, Answerable, Pageable, Markable, PageIs};
+use keep::Asked;
+use paper::orders::Found;
+use paper::orders::Mark;
+use paper::orders::Order;
+use paper::orders::Paged;
+use paper::orders::Place;
+use paper::points::Measure;
+use paper::tables::Table;
+use super::walking::from_probe;
+use super::walking::page;
+
+// The question as the walk asks it. From the start, the snapshot is the present count and no mark applies.
+fn asked(t: Table, order: Order, reach: u64, place: Place, size: usize) -> Asked
+    ensures { λ r. ⌜ r ≡ askedOf t order reach place size ⌝ }
+{
+    match place {
+        Place::Start => Asked {
+            order,
+            measure: t.measure,
+            d: t.d,
+            claims: t.count,
+            used: t.used,
+            reach,
+            snapshot: t.count as u64,
+            after: false,
+            mark: Mark::START,
+            size,
+        },
+        Place::After(snapshot, mark) => Asked {
+            order,
+            measure: t.measure,
+            d: t.d,
+            claims: t.count,
+            used: t.used,
+            reach,
+            snapshot,
+            after: true,
+            mark,
+            size,
+        },
+    }
+}
+
+// The first page-size claims after the place, in order, at the front of the room, three numbers each: number, reference, distance.
+pub fn page_of(
+    t: Table,
+    references: &[u32],
+    coordinates: &[i32],
+    rooms: &[u64],
+    order: Order,
+    probe: &[i32],
+    reach: u64,
+    place: Place,
+    size: usize,
+    room: &mut [u64],
+) -> Paged
+    requires { ⌜ Answerable t (now references) (now coordinates) (now rooms) (now probe) ⌝ }
+    requires { ⌜ Pageable t place size (now room) ⌝ }
+    ensures { λ r. ⌜ PageIs (queryOf t order (now (probe .entry)) reach) (claimsOf t (now (references .entry)) (now (coordinates .entry))) place size (now (room .entry)) (now (room .exit)) r ⌝ }
+{
+    let ask = asked(t, order, reach, place, size);
+    let count = page(rooms, references, coordinates, probe, ask, room);
+    Paged {
+        count,
+        last: count < size,
+    }
+}
+
+// The filled front of a room, as a part of it.
+pub fn front<'a>(room: &'a [u64], count: usize) -> &'a [u64]
+    ensures { λ r. ⌜ now r ≡ take (3 * count) (now (room .entry)) ⌝ }
+{
+    if count <= room.len() / 3 {
+        let n = 3 * count;
+        return &room[0..n];
+    }
+    room
+}
+
+// The first claim within reach, in the order: a page of one.
+fn first(
+    t: Table,
+    references: &[u32],
+    coordinates: &[i32],
+    rooms: &[u64],
+    order: Order,
+    probe: &[i32],
+    reach: u64,
+) -> Found
+    requires { ⌜ Answerable t (now references) (now coordinates) (now rooms) (now probe) ⌝ }
+    ensures { λ r. ⌜ told r ≡ firstOf (listed (queryOf t order (now (probe .entry)) reach) (claimsOf t (now (references .entry)) (now (coordinates .entry))) (t .count)) ⌝ }
+{
+    let mut room = [0u64; 3];
+    let start = Place::Start;
+    let paged = page_of(t, references, coordinates, rooms, order, probe, reach, start, 1, &mut room);
+    let count = paged.count;
+    if count == 0 {
+        return Found::Nothing;
+    }
+    Found::Item(room[0], room[1], room[2])
+}
+
+// The first claim in near order, within reach.
+pub fn nearest(
+    t: Table,
+    references: &[u32],
+    coordinates: &[i32],
+    rooms: &[u64],
+    probe: &[i32],
+    reach: u64,
+) -> Found
+    requires { ⌜ Answerable t (now references) (now coordinates) (now rooms) (now probe) ⌝ }
+    ensures { λ r. ⌜ told r ≡ nearestOf (queryOf t Near (now (probe .entry)) reach) (claimsOf t (now (references .entry)) (now (coordinates .entry))) ⌝ }
+{
+    let near = Order::Near;
+    first(t, references, coordinates, rooms, near, probe, reach)
+}
+
+// The claim at the largest distance, the smallest number of several. No claim is beyond the measure's greatest distance.
+pub fn farthest(
+    t: Table,
+    references: &[u32],
+    coordinates: &[i32],
+    rooms: &[u64],
+    probe: &[i32],
+) -> Found
+    requires { ⌜ Answerable t (now references) (now coordinates) (now rooms) (now probe) ⌝ }
+    ensures { λ r. ⌜ told r ≡ farthestOf (queryOf t Far (now (probe .entry)) (greatestOf (measureOf (t .measure)) (t .d))) (claimsOf t (now (references .entry)) (now (coordinates .entry))) ⌝ }
+{
+    let far = Order::Far;
+    let greatest = Measure::numbered(t.measure).greatest(t.d as u64);
+    first(t, references, coordinates, rooms, far, probe, greatest)
+}
+
+// Whether a place's mark is a claim of its snapshot, at that claim's distance, within reach.
+pub fn mark_holds(t: Table, coordinates: &[i32], probe: &[i32], reach: u64, place: Place) -> bool
+    requires { ⌜ Markable t (now coordinates) (now probe) place ⌝ }
+    ensures { λ r. ⌜ ((order : Order) (references : List ℕ) → r ≡ markHolds (queryOf t order (now (probe .entry)) reach) (claimsOf t references (now (coordinates .entry))) place) ⌝ }
+{
+    let Place::After(snapshot, mark) = place else {
+        return true;
+    };
+    let k = mark.number;
+    let x = mark.distance;
+    if snapshot <= k {
+        return false;
+    }
+    if from_probe(t.measure, t.d, coordinates, probe, k) != x {
+        return false;
+    }
+    x <= reach
+}
