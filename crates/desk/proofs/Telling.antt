@@ -1,12 +1,12 @@
 -- A page of a sound table fits an answer's line, and what is written of it is the line that the paper says. Assumes nothing.
-use Prim.Native.Nat.{ℕ, zero, suc, _+_, _-_, _*_, _≤_, _<_}
-use mathlib.Core.Path.{_≡_, refl, sym, ap, _∙_}
-use mathlib.Core.Bool.{Bool, true, false, cond, _&&_, _||_}
-use mathlib.Core.List.{List, [], _∷_, _++_}
+use Prim.Native.Nat.{ℕ, zero, suc, _-_, _*_, _≤_, _<_}
+use mathlib.Core.Path.{_≡_, refl, ap}
+use mathlib.Core.Bool.{Bool, true, false, cond}
+use mathlib.Core.List.{List, [], _∷_}
 use native.Mathlib.Omega.{arith}
-use lib.Dec.{ltb, leb, eqb}
+use lib.Dec.{leb}
 use lib.IntN.{ℤ}
-use lib.ListN.{length, getD, take, drop, length-take}
+use lib.ListN.{length, getD, take, length-take}
 use lib.Seq.{take-at}
 use borrow.Author.Tests.{eq-eqb, ne-eqb, le-leb, lt-ltb, leb-true}
 use Rattle.paper.specs.declared.lines.Scope.{Scope}
@@ -15,21 +15,21 @@ use Rattle.paper.specs.declared.orders.Order.{Order}
 use Rattle.paper.specs.declared.orders.Paged.{Paged}
 use Rattle.paper.specs.declared.orders.Place.{Place}
 use Rattle.paper.specs.declared.orders.Place.the-variants.{Start, After}
-use Rattle.paper.specs.Points.{Claim, noClaim}
-use Rattle.paper.specs.Orders.{Item, Query, snapshotOf, earlier, insert, itemOf, listed, follows, rest, following, pageOf, lastOf, flat, fronted}
-use Rattle.paper.specs.Tree.{Store, claimsIn, apartIn}
-use Rattle.paper.specs.Outcomes.{Outcome, gives}
+use Rattle.paper.specs.Points.{Claim}
+use Rattle.paper.specs.Orders.{Item, Query, snapshotOf, earlier, insert, itemOf, listed, follows, rest, following, pageOf, flat, fronted}
+use Rattle.paper.specs.Tree.{Store, claimsIn}
+use Rattle.paper.specs.Outcomes.{gives}
 use Rattle.paper.specs.Frames.{lineOf, written}
 use Rattle.paper.specs.Fields.{ranged, scopeOk, numbersOk, referencesOk}
 use Rattle.paper.specs.Lines.{Writes, wrote, room, answerFrame, answerRanges, answerFits}
-use Rattle.paper.specs.Ends.{Ask, Answer, answerOf, tableOf}
+use Rattle.paper.specs.Ends.{answerOf, tableOf}
 use Rattle.paper.specs.Codec.{placeIn, scopeOf, answerLine, wroteOf, roomAfter}
-use Rattle.paper.proofs.Tests.{and-first, and-second, and-both}
+use Rattle.paper.proofs.Tests.{and-first, and-both}
 use Rattle.tree.specs.Soundness.{InRange, Good}
 use Rattle.tree.proofs.Known.{lent-located, good-few, good-tree}
 use Rattle.walk.specs.Asking.{queryOf, Measurable, Answerable, Pageable, Markable, PageIs}
 use Rattle.walk.proofs.Bridge.{claims-length, claims-at}
-use Rattle.desk.specs.Desk.{Says, Open, Asking, Paging, askFor, flagged, pageLine}
+use Rattle.desk.specs.Desk.{Says, Paging, askFor, flagged, pageLine}
 
 -- ---- items that an answer can tell
 

@@ -12,24 +12,24 @@ use Rattle.paper.specs.declared.lines.Ask as lines-Ask
 use Rattle.paper.specs.declared.lines.AskRead.{AskRead}
 use Rattle.paper.specs.declared.lines.Scope.{Scope}
 use Rattle.paper.specs.declared.lines.Wrote.{Wrote}
-use Rattle.paper.specs.declared.lines.Wrote.the-variants.{Line, Refused}
+use Rattle.paper.specs.declared.lines.Wrote.the-variants.{Refused}
 use Rattle.paper.specs.declared.orders.Order.the-variants.{Near}
 use Rattle.paper.specs.declared.orders.Place.{Place}
-use Rattle.paper.specs.Orders.{Query, snapshotOf, snapshotHolds, markHolds}
+use Rattle.paper.specs.Orders.{snapshotOf, snapshotHolds, markHolds}
 use Rattle.paper.specs.Tree.{Store, claimsIn}
 use Rattle.paper.specs.Outcomes.{Outcome, refused, gives, must, onto}
 use Rattle.paper.specs.Frames.{num, frameOf, sound}
 use Rattle.paper.specs.Fields.{scopeIn, scopeOk}
 use Rattle.paper.specs.Lines.{behind, askRanges, askOk, askAt, anAsk, noAsk, askOf, reading}
-use Rattle.paper.specs.Ends.{Ask, Answer, tableOf, matches, answerOf, answerTo, served}
+use Rattle.paper.specs.Ends.{Ask, tableOf, matches, answerOf, answerTo, served}
 use Rattle.paper.specs.Ends as Ends
 use Rattle.paper.specs.Codec.{placeIn, asked, answerLine, readAsk, lines, wroteOf, roomAfter}
 use Rattle.paper.specs.Program.{replyTo}
-use Rattle.paper.proofs.Tests.{and-first, and-second, never}
+use Rattle.paper.proofs.Tests.{and-first, and-second}
 use Rattle.lines.proofs.Tests.{is-ask}
 use Rattle.walk.specs.Asking.{queryOf}
 use Rattle.walk.proofs.Bridge.{claims-length}
-use Rattle.desk.specs.Desk.{Says, Given, Open, Answering, Asking, Paging, askFor, pageLine, pageReply}
+use Rattle.desk.specs.Desk.{Says, Given, Answering, Asking, askFor, pageLine, pageReply}
 use Rattle.desk.proofs.Telling.{place-start, place-after}
 
 says-refused : (o : Outcome (List ℕ)) (n : ℕ) (before : List ℕ) → o ≡ refused n → Says o before (Refused n) before

@@ -82,7 +82,16 @@ pub fn answer_ask(
     let probe = ask.probe;
     let scope = ask.scope;
     let d = ask.d as usize;
-    answer_here(t, references, coordinates, rooms, &probe[..d], scope, ask.size, out)
+    answer_here(
+        t,
+        references,
+        coordinates,
+        rooms,
+        &probe[..d],
+        scope,
+        ask.size,
+        out,
+    )
 }
 
 // Answers an ask line.

@@ -1,7 +1,7 @@
 -- One law for each way through the leaves. Assumes nothing.
 use Prim.Native.Nat.{ℕ, _+_, _-_, _*_, _<_, _≤_}
 use mathlib.Core.Path.{_≡_, refl, sym}
-use mathlib.Core.Bool.{Bool, true, false}
+use mathlib.Core.Bool.{Bool, true, false, cond}
 use native.Mathlib.Omega.{arith}
 use lib.Dec.{ltb, leb}
 use lib.ListN.{getD}
@@ -12,6 +12,11 @@ use Rattle.paper.specs.declared.orders.Order.the-variants.{Near, Far}
 use Rattle.paper.specs.Orders.{rank, before}
 use Rattle.keep.specs.declared.Asked.{Asked}
 use Rattle.keep.specs.Skips.{admitted, capOf, boundOf, halfOf, beyondOf, passedOf}
+
+-- a test by what it tells
+tells : (a b : ℕ) (u : Bool) → cond u (a < b) (b ≤ a) → u ≡ ltb a b
+tells a b true h = sym (lt-ltb a b h)
+tells a b false h = sym (le-ltb a b h)
 
 -- what comes after what
 module _ (o : Order) (x k y j a b : ℕ) (pa : a ≡ rank o x) (pb : b ≡ rank o y) where
@@ -73,18 +78,18 @@ module _ (o : Order) (bound x y s : ℕ) where
       go true q = sym (lt-ltb (y + 2 * bound) (x + s) (omega (arith, leb-true bound (x - y - bound) q)))
       go false q = sym (le-ltb (y + 2 * bound) (x + s) (omega (arith, leb-false bound (x - y - bound) q)))
 
-  pub beyond-near : (far : ℕ) (u : Bool) → u ≡ ltb (bound + far) x → u ≡ true → true ≡ beyondOf o bound x y s far
+  pub beyond-near : (far : ℕ) (u : Bool) → cond u (bound + far < x) (x ≤ bound + far) → u ≡ true → true ≡ beyondOf o bound x y s far
   unfolding beyondOf
-  beyond-near far u p q = rw (← p, q)
+  beyond-near far u p q = rw (← tells (bound + far) x u p, q)
 
-  pub beyond-half : (far : ℕ) (u r : Bool) → u ≡ ltb (bound + far) x → u ≡ false → r ≡ halfOf o bound x y s → r ≡ beyondOf o bound x y s far
+  pub beyond-half : (far : ℕ) (u r : Bool) → cond u (bound + far < x) (x ≤ bound + far) → u ≡ false → r ≡ halfOf o bound x y s → r ≡ beyondOf o bound x y s far
   unfolding beyondOf
-  beyond-half far u r p q h = rw (← p, q) h
+  beyond-half far u r p q h = rw (← tells (bound + far) x u p, q) h
 
 module _ (ask : Asked) where
-  pub passed-mark : (x far m : ℕ) (r : Bool) → ask .after ≡ true → m ≡ rank (ask .order) (ask .mark .distance) → r ≡ ltb (x + far) m → r ≡ passedOf ask x far
+  pub passed-mark : (x far m : ℕ) (r : Bool) → ask .after ≡ true → m ≡ rank (ask .order) (ask .mark .distance) → cond r (x + far < m) (m ≤ x + far) → r ≡ passedOf ask x far
   unfolding passedOf
-  passed-mark x far m r a p q = rw (a, ← p) q
+  passed-mark x far m r a p q = rw (a, ← p) (tells (x + far) m r q)
 
   pub passed-none : (x far : ℕ) → ask .after ≡ false → false ≡ passedOf ask x far
   unfolding passedOf

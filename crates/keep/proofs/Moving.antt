@@ -1,10 +1,10 @@
 -- Numbers moved up by three, and three put in their place. Assumes nothing.
-use Prim.Native.Nat.{ℕ, zero, suc, _+_, _-_, _*_, _<_, _≤_}
+use Prim.Native.Nat.{ℕ, suc, _+_, _-_, _<_, _≤_}
 use mathlib.Core.Path.{_≡_, refl, sym, ap, _∙_, subst}
-use mathlib.Core.List.{List, [], _∷_, _++_, append-assoc, append-nil}
+use mathlib.Core.List.{List, [], _∷_, _++_, append-assoc}
 use native.Mathlib.Omega.{arith}
 use lib.ListN.{length, take, drop, getD, set, length-append, length-set, length-drop, length-take, take-append-drop}
-use lib.Seq.{take-set-le, drop-set-add, set-split, drop-at, take-at, set-at, take-suc, getD-drop, drop-append-add, take-append-add, drop-drop}
+use lib.Seq.{take-set-le, drop-set-add, set-split, drop-at, take-at, set-at, take-suc, getD-drop, take-append-add}
 use Rattle.keep.specs.Kept.{shifted, written}
 
 pub record Shifting (a e : ℕ) (o₀ o : List ℕ) (i : ℕ) : Type 0 where

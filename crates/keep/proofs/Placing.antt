@@ -2,19 +2,19 @@
 use Prim.Native.Nat.{ℕ, zero, suc, _+_, _-_, _*_, _<_, _≤_, _^_}
 use mathlib.Core.Path.{_≡_, refl, sym, ap, _∙_, subst}
 use mathlib.Core.Logic.{_⊎_, inl, inr, ⊎-elim}
-use mathlib.Core.List.{List, [], _∷_, _++_, append-assoc, append-nil}
+use mathlib.Core.List.{List, [], _∷_, _++_, append-assoc}
 use mathlib.Core.Bool.{Bool, true, false, _&&_}
 use native.Mathlib.Omega.{arith}
-use native.Mathlib.Nat.{le-refl, le-trans, eq-or-lt-of-le}
+use native.Mathlib.Nat.{le-refl, eq-or-lt-of-le}
 use lib.Dec.{ltb, eqb}
-use lib.ListN.{length, take, drop, getD, set, length-append, length-set, length-drop, length-take, take-append-drop, List·getD-append}
-use lib.Seq.{take-all, take-at, drop-at, drop-drop, take-append-add, take-length, drop-length}
+use lib.ListN.{length, take, drop, getD, length-append, length-drop, length-take, take-append-drop}
+use lib.Seq.{take-all, take-at, drop-drop, take-append-add, take-length, drop-length}
 use borrow.Author.Tests.{eq-eqb, ne-eqb, eqb-true, lt-ltb, ltb-true}
 use Rattle.paper.specs.declared.orders.Order.{Order}
 use Rattle.paper.specs.Orders.{rank, before}
 use Rattle.keep.specs.Page.{ranks, ahead, sooner, insert, items, filled}
 use Rattle.keep.specs.Kept.{key, Rising, none, more, Holding, Roomy, PlaceIs, shifted, written, heldAt, KeepIs}
-use Rattle.keep.proofs.Keeping.{no-way, sooner-true, sooner-false, key-sooner, rising-at, rising-few, rising-take, insert-rising}
+use Rattle.keep.proofs.Keeping.{no-way, sooner-true, key-sooner, rising-at, rising-few, rising-take, insert-rising}
 use Rattle.keep.proofs.Moving.{moved-in}
 
 -- the loop of `place`

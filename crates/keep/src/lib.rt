@@ -3,7 +3,7 @@
 ghost use mathlib.Core.Path.{_≡_};
 ghost use Prim.Native.Nat.{_+_, _*_, _<_, _≤_};
 ghost use lib.ListN.{length};
-ghost use lib.Dec.{ltb};
+ghost use mathlib.Core.Bool.{cond};
 ghost use Rattle.paper.specs.Orders.{before};
 ghost use Rattle.paper.specs.Orders.{rank as Orders·rank};
 ghost use Rattle.keep.specs.Kept.{Roomy, PlaceIs, shifted, written, heldAt, KeepIs};
@@ -75,7 +75,7 @@ pub fn admits(ask: Asked, x: u64, k: u64) -> bool
 
 // Whether no claim within `far` of one at rank x can be at rank `bound` or before.
 pub fn too_far(bound: u64, x: u64, far: u64) -> bool
-    ensures { λ r. ⌜ r ≡ ltb (bound + far) x ⌝ }
+    ensures { λ r. ⌜ cond r (bound + far < x) (x ≤ bound + far) ⌝ }
 {
     if x <= far {
         return false;

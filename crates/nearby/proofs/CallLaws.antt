@@ -203,14 +203,18 @@ module _ (s : Store) (probe : List ℤ) (reach : ℕ) (place : Place) (size : �
         let p₇ = number-0 (leb (snapshotOf place (length (claimsIn s))) (length (claimsIn s))) 6 _ (p₆ .1) in
         let p₈ = number-0 (markHolds (tableQuery s Near probe reach) (claimsIn s) place) 7 _ (p₇ .1) in
         let p₁₂ = number-0 (leb (size * 3) (length room)) 11 _ (p₈ .1) in
-        let cl = claims-length (s .table .d) (s .table .count) (s .references) (s .coordinates) in
-        (p₁ .0, p₂ .0, eqb-true (length probe) (s .table .d) (p₅ .0), leb-true 1 size (and-first (leb 1 size) (leb size 16) (p₆ .0)),
-        leb-true size 16 (and-second (leb 1 size) (leb size 16) (p₆ .0)),
-        (rw cl at (leb-true (snapshotOf place (length (claimsIn s))) (length (claimsIn s)) (p₇ .0))),
-        leb-true (size * 3) (length room) (p₁₂ .0),
-        must-go (fits s) 1 _ (p₁ .0) ∙ must-go (sound s) 2 _ (p₂ .0) ∙ must-go (eqb (length probe) (s .table .d)) 5 _ (p₅ .0)
-        ∙ must-go (sizeHolds size) 6 _ (p₆ .0) ∙ must-go (leb (snapshotOf place (length (claimsIn s))) (length (claimsIn s))) 7 _ (p₇ .0)
-        ∙ must-go (markHolds (tableQuery s Near probe reach) (claimsIn s) place) 8 _ (p₈ .0) ∙ must-go (leb (size * 3) (length room)) 12 _ (p₁₂ .0))
+        let cl = claims-length (s .table .d) (s .table .count) (s .references) (s .coordinates) in (
+          p₁ .0,
+          p₂ .0,
+          eqb-true (length probe) (s .table .d) (p₅ .0),
+          leb-true 1 size (and-first (leb 1 size) (leb size 16) (p₆ .0)),
+          leb-true size 16 (and-second (leb 1 size) (leb size 16) (p₆ .0)),
+          (rw cl at (leb-true (snapshotOf place (length (claimsIn s))) (length (claimsIn s)) (p₇ .0))),
+          leb-true (size * 3) (length room) (p₁₂ .0),
+          must-go (fits s) 1 _ (p₁ .0) ∙ must-go (sound s) 2 _ (p₂ .0) ∙ must-go (eqb (length probe) (s .table .d)) 5 _ (p₅ .0)
+              ∙ must-go (sizeHolds size) 6 _ (p₆ .0) ∙ must-go (leb (snapshotOf place (length (claimsIn s))) (length (claimsIn s))) 7 _ (p₇ .0)
+              ∙ must-go (markHolds (tableQuery s Near probe reach) (claimsIn s) place) 8 _ (p₈ .0) ∙ must-go (leb (size * 3) (length room)) 12 _ (p₁₂ .0),
+        )
 
     pub page-answerable : Answerable (s .table) (s .references) (s .coordinates) (s .rooms) probe
     page-answerable = good-answerable s (sound-good s (fits-fit s (parts .0)) (parts .1)) probe (parts .2)

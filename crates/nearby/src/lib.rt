@@ -1,10 +1,17 @@
 // The public calls. Each checks its own input in the order that document 01 gives for it, refuses under its number and then
 // leaves all lent memory as it was, and otherwise gives what its definition in paper/specs says.
+mod bare;
 mod lists;
 mod office;
 mod questions;
 mod tables;
 
+pub use bare::read_answer_line;
+pub use bare::read_ask_line;
+pub use bare::read_claim_line;
+pub use bare::write_answer_line;
+pub use bare::write_ask_line;
+pub use bare::write_claim_line;
 pub use lists::open_list;
 pub use lists::take;
 pub use lists::write_ask;

@@ -128,12 +128,33 @@ pub fn page(
 ) -> Page
     ensures { λ r. ⌜ PagePromise (pageCall (store t (now (references .entry)) (now (coordinates .entry)) (now (rooms .entry))) Near (now (probe .entry)) reach place size (length (now (room .entry)))) r (now (room .entry)) (now (room .exit)) ⌝ }
 {
-    let why = page_refusal(t, references, coordinates, rooms, probe, reach, place, size, room.len());
+    let why = page_refusal(
+        t,
+        references,
+        coordinates,
+        rooms,
+        probe,
+        reach,
+        place,
+        size,
+        room.len(),
+    );
     if why != 0 {
         return Page::Refused(why);
     }
     let near = Order::Near;
-    let paged = walk::questions::page_of(t, references, coordinates, rooms, near, probe, reach, place, size, room);
+    let paged = walk::questions::page_of(
+        t,
+        references,
+        coordinates,
+        rooms,
+        near,
+        probe,
+        reach,
+        place,
+        size,
+        room,
+    );
     Page::Filled(paged)
 }
 

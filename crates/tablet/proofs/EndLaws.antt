@@ -54,7 +54,7 @@ module _ (s : Held) (sound : soundHeld Near s ≡ true) where
         must-go (unusedZero (s .list .d) (s .list .probe)) 2 _ held-go
         ∙ must-go (soundIn (roomFor s) (listing Near s)) 2 _ in-go
         ∙ ap (λ r. onto r (λ y. taken (roomFor s) (listing Near s) y))
-            (answer-by-refusal line ∙ sym (ap (λ (u : AnswerRead). must (eqb (u .refusal) 0) (u .refusal) (gives (answered Near (u .answer)))) xe))
+        (answer-by-refusal line ∙ sym (ap (λ (u : AnswerRead). must (eqb (u .refusal) 0) (u .refusal) (gives (answered Near (u .answer)))) xe))
 
     pub take-unread : (x .refusal ≡ 0 → ⊥) → takingHeld lines Near s line ≡ refused (x .refusal)
     take-unread h = reads ∙ ap (λ r. onto r (λ y. taken (roomFor s) (listing Near s) y)) (must-stop (eqb (x .refusal) 0) (x .refusal) _ (ne-eqb (x .refusal) 0 h))
@@ -134,9 +134,10 @@ module _ (l : lists.List) (mem : List ℕ) (size : ℕ) (asks : Asks l mem) (one
         → (r ≡ Line (length (askLine (presentAsk (listing Near (held l mem)) size))))
         × (left ≡ askLine (presentAsk (listing Near (held l mem)) size) ++ drop (length (askLine (presentAsk (listing Near (held l mem)) size))) out)
     unfolding wrote room written
-    ask-written r left w =
-        (w .answer ∙ rw (fits-all, le-leb 123 (length out) long, line-is),
-        w .after ∙ rw (fits-all, le-leb 123 (length out) long, line-is))
+    ask-written r left w = (
+      w .answer ∙ rw (fits-all, le-leb 123 (length out) long, line-is),
+      w .after ∙ rw (fits-all, le-leb 123 (length out) long, line-is),
+    )
 
 -- the order of refusals: 2, 16, 6, 12
 module _ (l : lists.List) (mem : List ℕ) (size : ℕ) (out : List ℕ) (sound : soundHeld Near (held l mem) ≡ true) where

@@ -62,14 +62,28 @@ module _ (o : Order) (p : Place) (reach snapshot : ℕ) (room : List ℕ) (i cou
         way-next h r e =
             let n : (i + 1) * 3 ≡ i * 3 + 3 = omega arith in
             let q : i * 3 + 3 + 2 ≡ i * 3 + 5 = omega arith in
-            rw (items-open room i count hi, le-leb (getD room (i * 3 + 2) 0) reach hr, lt-ltb (getD room (i * 3) 0) snapshot hs, ← fe, not-false f hf,
-            items-open room (i + 1) count h, n, q) e
+            rw (
+              items-open room i count hi,
+              le-leb (getD room (i * 3 + 2) 0) reach hr,
+              lt-ltb (getD room (i * 3) 0) snapshot hs,
+              ← fe,
+              not-false f hf,
+              items-open room (i + 1) count h,
+              n,
+              q,
+            ) e
 
         pub way-last : count ≤ i + 1 → true ≡ itemHolds o p reach snapshot suffix
         unfolding itemHolds
         way-last h =
-            rw (items-open room i count hi, le-leb (getD room (i * 3 + 2) 0) reach hr, lt-ltb (getD room (i * 3) 0) snapshot hs, ← fe, not-false f hf,
-            items-none room (i + 1) count h)
+            rw (
+              items-open room i count hi,
+              le-leb (getD room (i * 3 + 2) 0) reach hr,
+              lt-ltb (getD room (i * 3) 0) snapshot hs,
+              ← fe,
+              not-false f hf,
+              items-none room (i + 1) count h,
+            )
 
 -- the loop, from the last item on
 module _ (o : Order) (p : Place) (reach snapshot : ℕ) (room : List ℕ) (count : ℕ) where

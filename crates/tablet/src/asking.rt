@@ -66,5 +66,13 @@ fn put_ask(l: List, room: &[u64], size: usize, out: &mut [u8]) -> Wrote
     let p = present(l, room);
     let probe = l.probe;
     let d = l.d;
-    lines::write_ask(l.table, l.measure, d as u8, &probe[0..d], p, size as u8, out)
+    lines::write_ask(
+        l.table,
+        l.measure,
+        d as u8,
+        &probe[0..d],
+        p,
+        size as u8,
+        out,
+    )
 }

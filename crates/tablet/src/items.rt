@@ -75,7 +75,10 @@ pub fn items_hold(
     let mut i = count;
     while 0 < i {
         i -= 1;
-        ok = both(item_holds(order, place, reach, snapshot, room, i, count), ok);
+        ok = both(
+            item_holds(order, place, reach, snapshot, room, i, count),
+            ok,
+        );
     }
     ok
 }

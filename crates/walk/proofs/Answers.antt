@@ -1,11 +1,11 @@
 -- One law for each way through the questions. Assumes nothing.
-use Prim.Native.Nat.{ℕ, zero, suc, _+_, _-_, _*_, _/_, _<_, _≤_, _^_}
+use Prim.Native.Nat.{ℕ, _-_, _*_, _/_, _<_, _≤_}
 use mathlib.Core.Path.{_≡_, refl, sym, ap, subst, _∙_}
-use mathlib.Core.Bool.{Bool, true, false, cond, _&&_}
-use mathlib.Core.List.{List, [], _∷_, _++_}
+use mathlib.Core.Bool.{Bool, true, false}
+use mathlib.Core.List.{List, [], _∷_}
 use native.Mathlib.Omega.{arith}
-use native.Mathlib.Nat.{le-refl, sub-zero}
-use lib.Dec.{ltb, leb, eqb}
+use native.Mathlib.Nat.{sub-zero}
+use lib.Dec.{ltb, leb}
 use lib.IntN.{ℤ}
 use lib.ListN.{length, getD, take, drop}
 use lib.Seq.{take-all, take-at}
@@ -21,15 +21,14 @@ use Rattle.paper.specs.declared.orders.Place.the-variants.{Start, After}
 use Rattle.paper.specs.declared.points.Measure.{Measure}
 use Rattle.paper.specs.declared.tables.Table.{Table}
 use Rattle.paper.specs.Points.{measureOf, greatestOf, Claim}
-use Rattle.paper.specs.Orders.{Item, Query, before, startMark, itemOf, listed, follows, rest, snapshotOf, following, pageOf, told, found, firstOf, nearestOf, farthestOf, markHolds, flat, fronted}
+use Rattle.paper.specs.Orders.{Item, Query, startMark, itemOf, listed, follows, snapshotOf, following, pageOf, told, firstOf, nearestOf, farthestOf, markHolds, flat, fronted}
 use Rattle.paper.specs.Tree.{Store}
 use Rattle.tree.specs.Soundness.{Good}
 use Rattle.tree.proofs.Known.{lent-located, good-tree}
 use Rattle.keep.specs.declared.Asked.{Asked}
-use Rattle.keep.specs.Kept.{Roomy}
 use Rattle.keep.specs.Skips.{admitted}
-use Rattle.walk.specs.Walking.{refOf, distOf, distBy, InSight, Lent, PageAsk, AskFilled}
-use Rattle.walk.specs.Asking.{queryOf, claimsOf, askedOf, Measurable, Answerable, Pageable, Markable, PageIs}
+use Rattle.walk.specs.Walking.{distOf, distBy, InSight, PageAsk, AskFilled}
+use Rattle.walk.specs.Asking.{queryOf, claimsOf, askedOf, Answerable, Pageable, Markable, PageIs}
 use Rattle.walk.proofs.Ways.{claim-inside}
 use Rattle.walk.proofs.Orders.{rest-start}
 use Rattle.walk.proofs.Bridge.{claims-length, item-is, filled-page}

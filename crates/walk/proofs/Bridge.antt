@@ -1,7 +1,7 @@
 -- From the walk's claim numbers to the paper's items. Assumes nothing.
 use Prim.Native.Nat.{ℕ, zero, suc, _+_, _*_, _<_, _≤_, _^_}
 use mathlib.Core.Path.{_≡_, refl, sym, ap, subst, _∙_}
-use mathlib.Core.Logic.{_⊎_, ⊎-elim}
+use mathlib.Core.Logic.{⊎-elim}
 use mathlib.Core.Bool.{Bool, true, false, cond, _&&_}
 use mathlib.Core.List.{List, [], _∷_, _++_, map}
 use native.Mathlib.Omega.{arith}
@@ -13,16 +13,15 @@ use lib.Seq.{getD-take, getD-at}
 use borrow.Author.Tests.{lt-ltb, le-ltb, ne-eqb}
 use Rattle.paper.specs.declared.orders.Order.{Order}
 use Rattle.paper.specs.declared.orders.Place.{Place}
-use Rattle.paper.specs.declared.orders.Place.the-variants.{Start, After}
 use Rattle.paper.specs.declared.points.Measure.{Measure}
 use Rattle.paper.specs.declared.tables.Table.{Table}
 use Rattle.paper.specs.Points.{measureOf, distance, Claim, noClaim, point}
-use Rattle.paper.specs.Orders.{Item, Query, rank, before, earlier, itemOf, listed, follows, rest, snapshotOf, following, pageOf, lastOf, flat, fronted}
+use Rattle.paper.specs.Orders.{Item, Query, rank, earlier, itemOf, listed, follows, rest, snapshotOf, following, pageOf, lastOf, flat, fronted}
 use Rattle.paper.specs.Orders.{insert as put}
 use Rattle.paper.specs.Tree.{claimsFrom}
 use Rattle.keep.specs.Page.{ranks, sooner, insert, sortedOf, firstSorted, items, Filled}
 use Rattle.keep.specs.Kept.{key, Rising, none, more}
-use Rattle.keep.proofs.Keeping.{no-way, sooner-true, sooner-false, key-sooner, key-differs, scan-rising}
+use Rattle.keep.proofs.Keeping.{sooner-true, sooner-false, key-sooner, key-differs, scan-rising}
 use Rattle.keep.proofs.Placing.{before-ranks}
 use Rattle.walk.specs.Walking.{refOf, distOf}
 use Rattle.walk.specs.Asking.{queryOf, claimsOf, PageIs}
@@ -126,9 +125,9 @@ claims-at d (suc n) references coordinates k h =
     ⊎-elim
     (λ e. let z : k ≡ n = omega arith in rw z (getD-at (claimsFrom d n references coordinates) _ [] noClaim n (claims-length d n references coordinates)))
     (λ l.
-        let l' : k < n = omega arith in
-        List·getD-append (claimsFrom d n references coordinates) _ noClaim k (rw (claims-length d n references coordinates) l')
-        ∙ claims-at d n references coordinates k l')
+    let l' : k < n = omega arith in
+    List·getD-append (claimsFrom d n references coordinates) _ noClaim k (rw (claims-length d n references coordinates) l')
+    ∙ claims-at d n references coordinates k l')
     (eq-or-lt-of-le h)
 
 -- a measure looks at no more than the first d coordinates

@@ -2,20 +2,18 @@
 -- farthest are the first of their order. Assumes nothing.
 use Prim.Native.Nat.{ℕ, zero, suc, _+_, _*_, _<_, _≤_, min}
 use mathlib.Core.Path.{_≡_, refl, sym, ap, _∙_}
-use mathlib.Core.Logic.{_⊎_, inl, inr, ⊎-elim}
-use mathlib.Core.Bool.{Bool, true, false, cond, _&&_}
-use mathlib.Core.List.{List, [], _∷_, _++_, List·Memᴰ, List·Memᴰ·head, List·Memᴰ·tail}
+use mathlib.Core.Logic.{⊎-elim}
+use mathlib.Core.Bool.{true, false}
+use mathlib.Core.List.{List, [], _∷_, _++_, List·Memᴰ}
 use native.Mathlib.Omega.{arith}
-use lib.Dec.{ltb, leb, eqb}
 use lib.ListN.{length, take, drop, getD, length-take}
 use lib.Seq.{take-add, take-all, take-length, getD-take}
 use borrow.Author.Tests.{ltb-true, ltb-false, lt-ltb, le-leb, eq-eqb}
 use Rattle.paper.specs.declared.orders.Mark.{Mark}
-use Rattle.paper.specs.declared.orders.Order.{Order}
 use Rattle.paper.specs.declared.orders.Place.{Place}
 use Rattle.paper.specs.declared.orders.Place.the-variants.{Start, After}
-use Rattle.paper.specs.Points.{measureOf, distance, greatestOf, Claim, noClaim}
-use Rattle.paper.specs.Orders.{Item, noItem, Query, itemOf, listed, rest, following, pageOf, lastOf, Found, nothing, found, firstOf, nearestOf, farQuery, farthestOf, markHolds}
+use Rattle.paper.specs.Points.{measureOf, distance, Claim, noClaim}
+use Rattle.paper.specs.Orders.{Item, noItem, Query, itemOf, listed, following, pageOf, lastOf, nothing, firstOf, nearestOf, farQuery, farthestOf, markHolds}
 use Rattle.measure.proofs.Laws.{In32, distance-most}
 use Rattle.walk.proofs.Lists.{le-or-more, All, all-getD}
 use Rattle.walk.proofs.Orders.{rest-start, rest-next, placeAt, IsOf, listed-are, listed-rising, listed-has, listed-grown}

@@ -4,22 +4,20 @@ use mathlib.Core.Path.{_≡_, refl, sym}
 use mathlib.Core.Bool.{Bool, true, false, cond, _&&_, _||_}
 use mathlib.Core.List.{List}
 use native.Mathlib.Omega.{arith}
-use native.Mathlib.Nat.{le-refl}
 use lib.Dec.{ltb, leb, eqb}
 use lib.IntN.{ℤ}
-use lib.ListN.{drop}
-use borrow.Author.Tests.{ltb-true, ltb-false, leb-true, eqb-true}
+use borrow.Author.Tests.{ltb-true, leb-true, eqb-true}
 use Rattle.paper.specs.declared.orders.Order.{Order}
 use Rattle.paper.specs.declared.orders.Order.the-variants.{Near, Far}
 use Rattle.paper.specs.declared.points.Measure.{Measure}
-use Rattle.paper.specs.Points.{measureOf, distance}
+use Rattle.paper.specs.Points.{distance}
 use Rattle.paper.specs.Orders.{rank, before}
 use Rattle.paper.specs.Tree.{apart}
 use Rattle.measure.proofs.Laws.{distance-sym, distance-triangle}
 use Rattle.keep.specs.declared.Asked.{Asked}
 use Rattle.keep.specs.Skips.{admitted, capOf, halfOf, beyondOf, passedOf}
 use Rattle.keep.proofs.Keeping.{no-way}
-use Rattle.walk.specs.Walking.{distOf, distBy, apartBy, okBy, rankBy, Metric}
+use Rattle.walk.specs.Walking.{distOf, distBy, apartBy, rankBy, Metric}
 
 -- the triangle inequality with symmetry, the three ways round
 module _ (m : Measure) (d : ℕ) (p q r : List ℤ) where

@@ -3,19 +3,18 @@ use Prim.Native.Nat.{ℕ, zero, suc, _+_, _-_, _*_, _<_, _≤_, _^_}
 use mathlib.Core.Path.{_≡_, refl, sym, ap, _∙_}
 use mathlib.Core.Logic.{_⊎_, inl, inr, ⊎-elim}
 use mathlib.Core.Bool.{Bool, true, false}
-use mathlib.Core.List.{List, [], _∷_, _++_}
+use mathlib.Core.List.{List, []}
 use native.Mathlib.Omega.{arith}
 use native.Mathlib.Nat.{le-refl, le-trans, mul-le-mul-right}
 use lib.IntN.{ℤ}
 use lib.ListN.{length, take}
 use lib.Seq.{take-nil}
-use Rattle.paper.specs.declared.orders.Order.the-variants.{Near}
 use Rattle.paper.specs.Orders.{rank}
 use Rattle.paper.specs.Tree.{fieldAt}
-use Rattle.tree.specs.Rooms.{RoomOk, Linked, Under, here, deeper, Holds, Searchable, Located, Neartree}
+use Rattle.tree.specs.Rooms.{Linked, Under, here, deeper, Holds, Searchable, Located}
 use Rattle.keep.specs.declared.Asked.{Asked}
-use Rattle.keep.specs.Page.{ranks, items, sortedOf, firstSorted, Filled}
-use Rattle.keep.specs.Kept.{Rising, none, Roomy, Holding, Walked, KeepIs}
+use Rattle.keep.specs.Page.{items, sortedOf, firstSorted}
+use Rattle.keep.specs.Kept.{none, Roomy, KeepIs}
 use Rattle.keep.specs.Skips.{admitted, capOf, boundOf, beyondOf, passedOf}
 use Rattle.keep.proofs.Keeping.{all-are-first}
 use Rattle.keep.proofs.Walks.{walked-still, walked-then, walked-fewer, step-taken, step-passed, beyond-wanted}

@@ -8,6 +8,8 @@ ghost use Rattle.paper.specs.declared.orders.Order.the-variants.{Near, Far};
 ghost use Rattle.paper.specs.Points.{measureOf, greatestOf};
 ghost use Rattle.paper.specs.Orders.{told, listed, firstOf, nearestOf, farthestOf, markHolds};
 ghost use Rattle.walk.specs.Asking.{queryOf, claimsOf, askedOf, Answerable, Pageable, Markable, PageIs};
+use super::walking::from_probe;
+use super::walking::page;
 use keep::Asked;
 use paper::orders::Found;
 use paper::orders::Mark;
@@ -16,8 +18,6 @@ use paper::orders::Paged;
 use paper::orders::Place;
 use paper::points::Measure;
 use paper::tables::Table;
-use super::walking::from_probe;
-use super::walking::page;
 
 // The question as the walk asks it. From the start, the snapshot is the present count and no mark applies.
 fn asked(t: Table, order: Order, reach: u64, place: Place, size: usize) -> Asked
@@ -102,7 +102,18 @@ fn first(
 {
     let mut room = [0u64; 3];
     let start = Place::Start;
-    let paged = page_of(t, references, coordinates, rooms, order, probe, reach, start, 1, &mut room);
+    let paged = page_of(
+        t,
+        references,
+        coordinates,
+        rooms,
+        order,
+        probe,
+        reach,
+        start,
+        1,
+        &mut room,
+    );
     let count = paged.count;
     if count == 0 {
         return Found::Nothing;

@@ -14,28 +14,21 @@ fn wide(x: u32) -> u64
 }
 
 // How far claim k is from the probe.
-pub fn from_probe(measure: u8, d: usize, coordinates: &[i32], probe: &[i32], k: u64) -> u64
-    requires { ⌜ InSight d k (now coordinates) (now probe) ⌝ }
-    ensures { λ r. ⌜ r ≡ distOf measure d (now (coordinates .entry)) (now (probe .entry)) k ⌝ }
+pub fn from_probe(measure: u8, d: usize, points: &[i32], probe: &[i32], k: u64) -> u64
+    requires { ⌜ InSight d k (now points) (now probe) ⌝ }
+    ensures { λ r. ⌜ r ≡ distOf measure d (now (points .entry)) (now (probe .entry)) k ⌝ }
 {
-    measure::distance(measure, d, coordinates, k as usize * d, probe, 0)
+    measure::distance(measure, d, points, k as usize * d, probe, 0)
 }
 
 // The step of claim k, at distance x.
-fn consider(
-    references: &[u32],
-    ask: Asked,
-    k: u64,
-    x: u64,
-    room: &mut [u64],
-    count: usize,
-) -> usize
-    requires { ⌜ StepAsk ask (now references) k (now room) count ⌝ }
-    ensures { λ r. ⌜ Stepped ask (now (references .entry)) k x (now (room .entry)) count (now (room .exit)) r ⌝ }
+fn consider(refs: &[u32], ask: Asked, k: u64, x: u64, room: &mut [u64], count: usize) -> usize
+    requires { ⌜ StepAsk ask (now refs) k (now room) count ⌝ }
+    ensures { λ r. ⌜ Stepped ask (now (refs .entry)) k x (now (room .entry)) count (now (room .exit)) r ⌝ }
 {
     if keep::admits(ask, x, k) {
         let order = ask.order;
-        return keep::keep(order, ask.size, room, count, k, wide(references[k as usize]), x);
+        return keep::keep(order, ask.size, room, count, k, wide(refs[k as usize]), x);
     }
     count
 }
@@ -43,43 +36,43 @@ fn consider(
 // The claims on and below the two sides of room m, the nearer side first.
 fn node(
     rooms: &[u64],
-    references: &[u32],
-    coordinates: &[i32],
+    refs: &[u32],
+    points: &[i32],
     probe: &[i32],
     ask: Asked,
     m: usize,
     room: &mut [u64],
     count: usize,
 ) -> usize
-    requires { ⌜ NodeAsk (now rooms) (now references) (now coordinates) (now probe) ask m (now room) count ⌝ }
-    ensures { λ r. ⌜ AskWalked ask (now (references .entry)) (distBy ask (now (coordinates .entry)) (now (probe .entry))) (Holds (now (rooms .entry)) (apartBy ask (now (coordinates .entry))) m) (now (room .entry)) count (now (room .exit)) r ⌝ }
+    requires { ⌜ NodeAsk (now rooms) (now refs) (now points) (now probe) ask m (now room) count ⌝ }
+    ensures { λ r. ⌜ AskWalked ask (now (refs .entry)) (distBy ask (now (points .entry)) (now (probe .entry))) (Holds (now (rooms .entry)) (apartBy ask (now (points .entry))) m) (now (room .entry)) count (now (room .exit)) r ⌝ }
 {
     let order = ask.order;
     let kl = field(rooms, m, 0) - 1;
-    let xl = from_probe(ask.measure, ask.d, coordinates, probe, kl);
-    let one = consider(references, ask, kl, xl, room, count);
+    let xl = from_probe(ask.measure, ask.d, points, probe, kl);
+    let one = consider(refs, ask, kl, xl, room, count);
     let right = field(rooms, m, 1);
     if right == 0 {
         return one;
     }
     let kr = right - 1;
-    let xr = from_probe(ask.measure, ask.d, coordinates, probe, kr);
-    let two = consider(references, ask, kr, xr, room, one);
+    let xr = from_probe(ask.measure, ask.d, points, probe, kr);
+    let two = consider(refs, ask, kr, xr, room, one);
     let rl = keep::rank(order, xl);
     let rr = keep::rank(order, xr);
     if rr < rl {
-        let three = side(rooms, references, coordinates, probe, ask, m, 1, rr, rl, room, two);
-        return side(rooms, references, coordinates, probe, ask, m, 0, rl, rr, room, three);
+        let three = side(rooms, refs, points, probe, ask, m, 1, rr, rl, room, two);
+        return side(rooms, refs, points, probe, ask, m, 0, rl, rr, room, three);
     }
-    let three = side(rooms, references, coordinates, probe, ask, m, 0, rl, rr, room, two);
-    side(rooms, references, coordinates, probe, ask, m, 1, rr, rl, room, three)
+    let three = side(rooms, refs, points, probe, ask, m, 0, rl, rr, room, two);
+    side(rooms, refs, points, probe, ask, m, 1, rr, rl, room, three)
 }
 
 // The claims below side s of room m, whose claim is at rank x; the other side's is at rank y.
 fn side(
     rooms: &[u64],
-    references: &[u32],
-    coordinates: &[i32],
+    refs: &[u32],
+    points: &[i32],
     probe: &[i32],
     ask: Asked,
     m: usize,
@@ -89,8 +82,8 @@ fn side(
     room: &mut [u64],
     count: usize,
 ) -> usize
-    requires { ⌜ SideAsk (now rooms) (now references) (now coordinates) (now probe) ask m s x y (now room) count ⌝ }
-    ensures { λ r. ⌜ AskWalked ask (now (references .entry)) (distBy ask (now (coordinates .entry)) (now (probe .entry))) (Below (now (rooms .entry)) (apartBy ask (now (coordinates .entry))) m s (fieldAt (now (rooms .entry)) m s - 1)) (now (room .entry)) count (now (room .exit)) r ⌝ }
+    requires { ⌜ SideAsk (now rooms) (now refs) (now points) (now probe) ask m s x y (now room) count ⌝ }
+    ensures { λ r. ⌜ AskWalked ask (now (refs .entry)) (distBy ask (now (points .entry)) (now (probe .entry))) (Below (now (rooms .entry)) (apartBy ask (now (points .entry))) m s (fieldAt (now (rooms .entry)) m s - 1)) (now (room .entry)) count (now (room .exit)) r ⌝ }
 {
     let below = field(rooms, m, 4 + s);
     if below == 0 {
@@ -105,24 +98,25 @@ fn side(
     if keep::beyond(order, bound, x, y, s, far) {
         return count;
     }
-    node(rooms, references, coordinates, probe, ask, (below - 1) as usize, room, count)
+    let next = (below - 1) as usize;
+    node(rooms, refs, points, probe, ask, next, room, count)
 }
 
 // Puts the first `size` admitted claims, in order, at the front of the room, three numbers a claim, and gives how many they are.
 pub fn page(
     rooms: &[u64],
-    references: &[u32],
-    coordinates: &[i32],
+    refs: &[u32],
+    points: &[i32],
     probe: &[i32],
     ask: Asked,
     room: &mut [u64],
 ) -> usize
-    requires { ⌜ PageAsk (now rooms) (now references) (now coordinates) (now probe) ask (now room) ⌝ }
-    ensures { λ r. ⌜ AskFilled ask (now (references .entry)) (distBy ask (now (coordinates .entry)) (now (probe .entry))) (now (room .entry)) (now (room .exit)) r ⌝ }
+    requires { ⌜ PageAsk (now rooms) (now refs) (now points) (now probe) ask (now room) ⌝ }
+    ensures { λ r. ⌜ AskFilled ask (now (refs .entry)) (distBy ask (now (points .entry)) (now (probe .entry))) (now (room .entry)) (now (room .exit)) r ⌝ }
 {
     let used = ask.used;
     if used == 0 {
         return 0;
     }
-    node(rooms, references, coordinates, probe, ask, 0, room, 0)
+    node(rooms, refs, points, probe, ask, 0, room, 0)
 }

@@ -1,6 +1,6 @@
 -- `desk::pages::tell_page` meets its contract: the page fits a line, and its line is written. Assumes nothing.
 use Prim.Native.Nat.{_≤_}
-use mathlib.Core.Path.{_≡_, refl, sym, _∙_}
+use mathlib.Core.Path.{refl, sym}
 use native.Mathlib.Omega.{arith}
 use lib.Dec.{lit≤}
 use lib.ListN.{length}
@@ -20,9 +20,10 @@ slice-aggregate-page-of c = search needs
 page-of-requires : tie.Need-page-of-requires
 page-of-requires c κs =
     let a = c .before .before .before .before .before .args in
-    let s = store (a .t) (a .references .now) (a .coordinates .now) (a .rooms .now) in
-    (answerable s (a .probe .now) (c .before .before .before .before .before .pre .asking .isOpen .good) (c .before .before .before .before .before .pre .asking .aimed),
-    pageable s (a .probe .now) (a .p) (a .size) (length (a .out .now)) (c .before .before .before .before .before .pre) _ _ (c .before .place-in .ensures) (lit≤ tt))
+    let s = store (a .t) (a .references .now) (a .coordinates .now) (a .rooms .now) in (
+      answerable s (a .probe .now) (c .before .before .before .before .before .pre .asking .isOpen .good) (c .before .before .before .before .before .pre .asking .aimed),
+      pageable s (a .probe .now) (a .p) (a .size) (length (a .out .now)) (c .before .before .before .before .before .pre) _ _ (c .before .place-in .ensures) (lit≤ tt),
+    )
 
 cast-answer-scope : tie.Need-cast-answer-scope
 cast-answer-scope c = search needs

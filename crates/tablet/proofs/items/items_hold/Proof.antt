@@ -34,10 +34,11 @@ loop-again : tie.Need-loop-again Inv-loop μ-loop
 loop-again c =
     let l = c .before .before .before .loop in
     let g = c .before .before .before .before .before .args in
-    let e : l .i - 1 + 1 ≡ l .i = omega arith in
-    (omega arith,
-    pass-more (g .order) (g .place) (g .reach) (g .snapshot) (g .room .now) (g .count) (l .i - 1) (c .before .item-holds .result) (l .ok) (c .both .result) (omega arith)
-    (c .before .item-holds .ensures) (rw e (l .inv .1)) (c .both .ensures))
+    let e : l .i - 1 + 1 ≡ l .i = omega arith in (
+      omega arith,
+      pass-more (g .order) (g .place) (g .reach) (g .snapshot) (g .room .now) (g .count) (l .i - 1) (c .before .item-holds .result) (l .ok) (c .both .result) (omega arith)
+          (c .before .item-holds .ensures) (rw e (l .inv .1)) (c .both .ensures),
+    )
 
 returns : tie.Need-returns Inv-loop μ-loop
 returns c = pass-end _ _ _ _ _ _ _ _ (omega arith) (c .before .loop .inv .1)

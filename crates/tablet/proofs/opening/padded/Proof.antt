@@ -41,10 +41,11 @@ loop-less c = omega arith
 loop-again : tie.Need-loop-again Inv-loop μ-loop
 loop-again c =
     let l = c .before .before .loop in
-    let p = c .before .before .before .args .probe .now in
-    (omega arith,
-    ap (λ (z : ℤ). set (l .places) (l .i) z) (toZ-ofZ (record { sfits = c .places .given }))
-    ∙ ap (λ (q : List ℤ). set q (l .i) (getD p (l .i) (pos 0))) (l .inv .1) ∙ one-more p (l .i) (omega arith) (omega arith))
+    let p = c .before .before .before .args .probe .now in (
+      omega arith,
+      ap (λ (z : ℤ). set (l .places) (l .i) z) (toZ-ofZ (record { sfits = c .places .given }))
+          ∙ ap (λ (q : List ℤ). set q (l .i) (getD p (l .i) (pos 0))) (l .inv .1) ∙ one-more p (l .i) (omega arith) (omega arith),
+    )
 
 returns : tie.Need-returns Inv-loop μ-loop
 returns c =

@@ -47,12 +47,13 @@ loop-less c = omega arith
 loop-again : tie.Need-loop-again Inv-loop μ-loop
 loop-again c =
     let l = c .before .before .before .before .before .loop in
-    let g = c .before .before .before .before .before .before .args in
-    (omega arith,
-    same-more (g .p .now) (g .q .now) (l .i) (c .before .same .result) (l .ok) (c .both .result) (l .inv .1)
-    (c .before .same .ensures
-    ∙ same-args {x = getD (g .p .now) (l .i) (pos 0)} {y = getD (g .q .now) (l .i) (pos 0)} sameZ (record { sfits = c .before .before .before .same-arg .given }) (record { sfits = c .before .before .same-arg2 .given }))
-    (c .both .ensures))
+    let g = c .before .before .before .before .before .before .args in (
+      omega arith,
+      same-more (g .p .now) (g .q .now) (l .i) (c .before .same .result) (l .ok) (c .both .result) (l .inv .1)
+          (c .before .same .ensures
+          ∙ same-args {x = getD (g .p .now) (l .i) (pos 0)} {y = getD (g .q .now) (l .i) (pos 0)} sameZ (record { sfits = c .before .before .before .same-arg .given }) (record { sfits = c .before .before .same-arg2 .given }))
+          (c .both .ensures),
+    )
 
 returns : tie.Need-returns Inv-loop μ-loop
 returns c = let e : c .before .loop .i ≡ c .before .before .args .d = omega arith in rw e at (c .before .loop .inv .1)

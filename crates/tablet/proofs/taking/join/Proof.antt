@@ -42,12 +42,13 @@ loop-less c = omega arith
 loop-again : tie.Need-loop-again Inv-loop μ-loop
 loop-again c =
     let l = c .before .before .loop in
-    let g = c .before .before .before .args in
-    (omega arith,
-    length-set (l .room) (g .at + l .i) (getD (g .items .now) (l .i) 0) ∙ l .inv .1,
-    ap (λ (r : List ℕ). set r (g .at + l .i) (getD (g .items .now) (l .i) 0)) (l .inv .2)
-    ∙ paste-suc (g .room .now) (g .at) (g .items .now) (l .i) 0 (omega arith) (omega arith)
-    ∙ ap (paste (g .room .now) (g .at) (g .items .now)) (sym (add-one (l .i))))
+    let g = c .before .before .before .args in (
+      omega arith,
+      length-set (l .room) (g .at + l .i) (getD (g .items .now) (l .i) 0) ∙ l .inv .1,
+      ap (λ (r : List ℕ). set r (g .at + l .i) (getD (g .items .now) (l .i) 0)) (l .inv .2)
+          ∙ paste-suc (g .room .now) (g .at) (g .items .now) (l .i) 0 (omega arith) (omega arith)
+          ∙ ap (paste (g .room .now) (g .at) (g .items .now)) (sym (add-one (l .i))),
+    )
 
 same-length : tie.Need-same-length Inv-loop μ-loop
 same-length c = c .before .loop .inv .1

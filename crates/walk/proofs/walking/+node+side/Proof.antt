@@ -45,14 +45,32 @@ abbrev side-below : ℕ → In 5 side-kinds.ps
 side-below t = and 5 side-kinds.ps (falls 5 side-kinds.ps _<_ μ-side t) side.Pre
 
 abbrev node-calls : ℕ → node-lts.Claims
-node-calls t =
-    (field-reads.Asked, field-reads.Learnt, from-probe-reads.Asked, from-probe-reads.Learnt, consider-reads.Asked, consider-reads.Learnt,
-     rank-reads.Asked, rank-reads.Learnt, side-below t, side.Post)
+node-calls t = (
+  field-reads.Asked,
+  field-reads.Learnt,
+  from-probe-reads.Asked,
+  from-probe-reads.Learnt,
+  consider-reads.Asked,
+  consider-reads.Learnt,
+  rank-reads.Asked,
+  rank-reads.Learnt,
+  side-below t,
+  side.Post,
+)
 
 abbrev side-calls : ℕ → side-lts.Claims
-side-calls t =
-    (field-reads.Asked, field-reads.Learnt, passed-reads.Asked, passed-reads.Learnt, wanted-reads.Asked, wanted-reads.Learnt,
-     beyond-reads.Asked, beyond-reads.Learnt, node-below t, node.Post)
+side-calls t = (
+  field-reads.Asked,
+  field-reads.Learnt,
+  passed-reads.Asked,
+  passed-reads.Learnt,
+  wanted-reads.Asked,
+  wanted-reads.Learnt,
+  beyond-reads.Asked,
+  beyond-reads.Learnt,
+  node-below t,
+  node.Post,
+)
 
 node-field-requires : (t : ℕ) → node-lts.Need-field-requires (node-calls t) (node-at t) node.Post
 node-field-requires t c κs = let p = c .before .before .before .pre .1 .walk in omega arith
@@ -73,7 +91,7 @@ node-same-length : (t : ℕ) → node-lts.Need-same-length (node-calls t) (node-
 node-same-length t c = c .before .before .before .before .consider .kept .1 .1 .1 .1 .0
 
 node-returns : (t : ℕ) → node-lts.Need-returns (node-calls t) (node-at t) node.Post
-node-returns t c = let a = c .before .before .before .before .before .before .before .before .before .before .before .args in node-one (a .ask) (a .references .now) (a .rooms .now) (apartBy (a .ask) (a .coordinates .now)) (distBy (a .ask) (a .coordinates .now) (a .probe .now)) _ _ _ _ (c .before .before .before .before .before .before .before .field .ensures) _ (c .before .field2 .ensures) _ (c .before .before .before .before .before .before .from-probe .ensures) _ _ (c .before .before .before .before .consider .ensures) (c .if1 .taken)
+node-returns t c = let a = c .before .before .before .before .before .before .before .before .before .before .before .args in node-one (a .ask) (a .refs .now) (a .rooms .now) (apartBy (a .ask) (a .points .now)) (distBy (a .ask) (a .points .now) (a .probe .now)) _ _ _ _ (c .before .before .before .before .before .before .before .field .ensures) _ (c .before .field2 .ensures) _ (c .before .before .before .before .before .before .from-probe .ensures) _ _ (c .before .before .before .before .consider .ensures) (c .if1 .taken)
 
 node-sub-kr : (t : ℕ) → node-lts.Need-sub-kr (node-calls t) (node-at t) node.Post
 node-sub-kr t c = let h = c .if1 .left in omega arith
@@ -100,7 +118,7 @@ node-same-length-2 : (t : ℕ) → node-lts.Need-same-length-2 (node-calls t) (n
 node-same-length-2 t c = c .before .before .side2 .kept .1 .1 .1 .1 .1 .1 .1 .1 .1 .0 ∙ c .before .before .before .before .before .before .side .kept .1 .1 .1 .1 .1 .1 .1 .1 .1 .0 ∙ c .before .before .before .before .before .before .before .before .before .before .before .before .before .consider2 .kept .1 .1 .1 .1 .0 ∙ c .before .before .before .before .before .before .before .before .before .before .before .before .before .before .before .before .before .before .before .before .consider .kept .1 .1 .1 .1 .0
 
 node-returns-2 : (t : ℕ) → node-lts.Need-returns-2 (node-calls t) (node-at t) node.Post
-node-returns-2 t c = let a = c .before .before .before .before .before .before .before .before .before .before .before .before .before .before .before .before .before .before .before .before .before .before .before .before .before .before .before .args in node-right-first (a .ask) (a .references .now) (a .rooms .now) (apartBy (a .ask) (a .coordinates .now)) (distBy (a .ask) (a .coordinates .now) (a .probe .now)) _ _ _ _ (c .before .before .before .before .before .before .before .before .before .before .before .before .before .before .before .before .before .before .before .before .before .before .before .field .ensures) _ (c .before .before .before .before .before .before .before .before .before .before .before .before .before .before .before .before .before .field2 .ensures) _ (c .before .before .before .before .before .before .before .before .before .before .before .before .before .before .before .before .before .before .before .before .before .before .from-probe .ensures) _ _ (c .before .before .before .before .before .before .before .before .before .before .before .before .before .before .before .before .before .before .before .before .consider .ensures) _ (c .before .before .before .before .before .before .before .before .before .before .before .before .before .before .before .from-probe2 .ensures) _ _ (c .before .before .before .before .before .before .before .before .before .before .before .before .before .consider2 .ensures) _ _ _ _ (c .before .before .before .before .before .before .side .ensures) (c .before .before .side2 .ensures)
+node-returns-2 t c = let a = c .before .before .before .before .before .before .before .before .before .before .before .before .before .before .before .before .before .before .before .before .before .before .before .before .before .before .before .args in node-right-first (a .ask) (a .refs .now) (a .rooms .now) (apartBy (a .ask) (a .points .now)) (distBy (a .ask) (a .points .now) (a .probe .now)) _ _ _ _ (c .before .before .before .before .before .before .before .before .before .before .before .before .before .before .before .before .before .before .before .before .before .before .before .field .ensures) _ (c .before .before .before .before .before .before .before .before .before .before .before .before .before .before .before .before .before .field2 .ensures) _ (c .before .before .before .before .before .before .before .before .before .before .before .before .before .before .before .before .before .before .before .before .before .before .from-probe .ensures) _ _ (c .before .before .before .before .before .before .before .before .before .before .before .before .before .before .before .before .before .before .before .before .consider .ensures) _ (c .before .before .before .before .before .before .before .before .before .before .before .before .before .before .before .from-probe2 .ensures) _ _ (c .before .before .before .before .before .before .before .before .before .before .before .before .before .consider2 .ensures) _ _ _ _ (c .before .before .before .before .before .before .side .ensures) (c .before .before .side2 .ensures)
 
 node-side-requires-3 : (t : ℕ) → node-lts.Need-side-requires-3 (node-calls t) (node-at t) node.Post
 node-side-requires-3 t c κs = (omega (arith, c .before .before .before .before .before .before .before .before .before .before .before .before .before .before .before .before .before .before .before .before .pre .0), side-ready _ _ _ _ _ _ _ _ _ _ _ _ _ _ _ _ _ (c .before .before .before .before .before .before .before .before .before .before .before .before .before .before .before .before .before .before .before .before .pre .1) (lit< tt) (c .before .before .before .before .before .before .before .before .before .before .before .before .before .before .before .before .field .ensures) (c .before .before .before .before .before .before .before .before .before .before .before .before .before .before .before .from-probe .ensures) (c .before .before .before .rank .ensures) (c .before .before .before .before .before .before .before .before .before .before .field2 .ensures) (c .before .before .before .before .before .before .before .before .from-probe2 .ensures) (c .before .before .rank2 .ensures) (c .before .before .before .before .before .before .consider2 .kept .1 .1 .1 .1 .0 ∙ c .before .before .before .before .before .before .before .before .before .before .before .before .before .consider .kept .1 .1 .1 .1 .0) (c .before .before .before .before .before .before .consider2 .ensures .few))
@@ -112,7 +130,7 @@ node-same-length-3 : (t : ℕ) → node-lts.Need-same-length-3 (node-calls t) (n
 node-same-length-3 t c = c .before .before .side4 .kept .1 .1 .1 .1 .1 .1 .1 .1 .1 .0 ∙ c .before .before .before .before .before .before .side3 .kept .1 .1 .1 .1 .1 .1 .1 .1 .1 .0 ∙ c .before .before .before .before .before .before .before .before .before .before .before .before .before .consider2 .kept .1 .1 .1 .1 .0 ∙ c .before .before .before .before .before .before .before .before .before .before .before .before .before .before .before .before .before .before .before .before .consider .kept .1 .1 .1 .1 .0
 
 node-returns-3 : (t : ℕ) → node-lts.Need-returns-3 (node-calls t) (node-at t) node.Post
-node-returns-3 t c = let a = c .before .before .before .before .before .before .before .before .before .before .before .before .before .before .before .before .before .before .before .before .before .before .before .before .before .before .before .args in node-left-first (a .ask) (a .references .now) (a .rooms .now) (apartBy (a .ask) (a .coordinates .now)) (distBy (a .ask) (a .coordinates .now) (a .probe .now)) _ _ _ _ (c .before .before .before .before .before .before .before .before .before .before .before .before .before .before .before .before .before .before .before .before .before .before .before .field .ensures) _ (c .before .before .before .before .before .before .before .before .before .before .before .before .before .before .before .before .before .field2 .ensures) _ (c .before .before .before .before .before .before .before .before .before .before .before .before .before .before .before .before .before .before .before .before .before .before .from-probe .ensures) _ _ (c .before .before .before .before .before .before .before .before .before .before .before .before .before .before .before .before .before .before .before .before .consider .ensures) _ (c .before .before .before .before .before .before .before .before .before .before .before .before .before .before .before .from-probe2 .ensures) _ _ (c .before .before .before .before .before .before .before .before .before .before .before .before .before .consider2 .ensures) _ _ _ _ (c .before .before .before .before .before .before .side3 .ensures) (c .before .before .side4 .ensures)
+node-returns-3 t c = let a = c .before .before .before .before .before .before .before .before .before .before .before .before .before .before .before .before .before .before .before .before .before .before .before .before .before .before .before .args in node-left-first (a .ask) (a .refs .now) (a .rooms .now) (apartBy (a .ask) (a .points .now)) (distBy (a .ask) (a .points .now) (a .probe .now)) _ _ _ _ (c .before .before .before .before .before .before .before .before .before .before .before .before .before .before .before .before .before .before .before .before .before .before .before .field .ensures) _ (c .before .before .before .before .before .before .before .before .before .before .before .before .before .before .before .before .before .field2 .ensures) _ (c .before .before .before .before .before .before .before .before .before .before .before .before .before .before .before .before .before .before .before .before .before .before .from-probe .ensures) _ _ (c .before .before .before .before .before .before .before .before .before .before .before .before .before .before .before .before .before .before .before .before .consider .ensures) _ (c .before .before .before .before .before .before .before .before .before .before .before .before .before .before .before .from-probe2 .ensures) _ _ (c .before .before .before .before .before .before .before .before .before .before .before .before .before .consider2 .ensures) _ _ _ _ (c .before .before .before .before .before .before .side3 .ensures) (c .before .before .side4 .ensures)
 
 side-add-field : (t : ℕ) → side-lts.Need-add-field (side-calls t) (side-at t) side.Post
 side-add-field t c = let p = c .before .before .before .pre .1 .which in omega arith
@@ -121,7 +139,7 @@ side-field-requires : (t : ℕ) → side-lts.Need-field-requires (side-calls t) 
 side-field-requires t c κs = let q = c .before .before .before .pre .1 .which in let p = c .before .before .before .pre .1 .walk in omega arith
 
 side-returns : (t : ℕ) → side-lts.Need-returns (side-calls t) (side-at t) side.Post
-side-returns t c = let a = c .before .before .before .before .before .args in let p = c .before .before .before .before .before .pre .1 in side-none (a .ask) (a .references .now) (a .rooms .now) (apartBy (a .ask) (a .coordinates .now)) (distBy (a .ask) (a .coordinates .now) (a .probe .now)) _ _ _ _ _ (c .before .field .ensures) (p .roomy) (c .if1 .taken)
+side-returns t c = let a = c .before .before .before .before .before .args in let p = c .before .before .before .before .before .pre .1 in side-none (a .ask) (a .refs .now) (a .rooms .now) (apartBy (a .ask) (a .points .now)) (distBy (a .ask) (a .points .now) (a .probe .now)) _ _ _ _ _ (c .before .field .ensures) (p .roomy) (c .if1 .taken)
 
 side-add-field-2 : (t : ℕ) → side-lts.Need-add-field-2 (side-calls t) (side-at t) side.Post
 side-add-field-2 t c = let p = c .before .before .before .before .before .pre .1 .which in omega arith
@@ -133,7 +151,7 @@ side-passed-requires : (t : ℕ) → side-lts.Need-passed-requires (side-calls t
 side-passed-requires t c κs = tt
 
 side-returns-2 : (t : ℕ) → side-lts.Need-returns-2 (side-calls t) (side-at t) side.Post
-side-returns-2 t c = let a = c .before .before .before .before .before .before .before .before .args in let p = c .before .before .before .before .before .before .before .before .pre .1 in side-passed (a .ask) (a .references .now) (a .rooms .now) (apartBy (a .ask) (a .coordinates .now)) (distBy (a .ask) (a .coordinates .now) (a .probe .now)) _ _ _ _ _ (c .before .before .before .before .field .ensures) (p .roomy) _ _ (metric (a .ask) (a .coordinates .now) (a .probe .now)) (p .most) (c .before .before .field2 .ensures) (sym (c .before .passed .ensures) ∙ c .if2 .taken)
+side-returns-2 t c = let a = c .before .before .before .before .before .before .before .before .args in let p = c .before .before .before .before .before .before .before .before .pre .1 in side-passed (a .ask) (a .refs .now) (a .rooms .now) (apartBy (a .ask) (a .points .now)) (distBy (a .ask) (a .points .now) (a .probe .now)) _ _ _ _ _ (c .before .before .before .before .field .ensures) (p .roomy) _ _ (metric (a .ask) (a .points .now) (a .probe .now)) (p .most) (c .before .before .field2 .ensures) (sym (c .before .passed .ensures) ∙ c .if2 .taken)
 
 side-wanted-requires : (t : ℕ) → side-lts.Need-wanted-requires (side-calls t) (side-at t) side.Post
 side-wanted-requires t c κs = c .before .before .before .before .before .before .before .before .before .pre .1 .roomy
@@ -145,10 +163,10 @@ side-same-length : (t : ℕ) → side-lts.Need-same-length (side-calls t) (side-
 side-same-length t c = search needs
 
 side-returns-3 : (t : ℕ) → side-lts.Need-returns-3 (side-calls t) (side-at t) side.Post
-side-returns-3 t c = let a = c .before .before .before .before .before .before .before .before .before .before .before .before .args in let p = c .before .before .before .before .before .before .before .before .before .before .before .before .pre .1 in side-beyond (a .ask) (a .references .now) (a .rooms .now) (apartBy (a .ask) (a .coordinates .now)) (distBy (a .ask) (a .coordinates .now) (a .probe .now)) _ _ _ _ _ (c .before .before .before .before .before .before .before .before .field .ensures) (p .roomy) _ _ _ _ (metric (a .ask) (a .coordinates .now) (a .probe .now)) (p .least) (p .beside) (c .before .before .before .before .before .before .field2 .ensures) (c .before .before .wanted .ensures) (sym (c .before .beyond .ensures) ∙ c .if3 .taken)
+side-returns-3 t c = let a = c .before .before .before .before .before .before .before .before .before .before .before .before .args in let p = c .before .before .before .before .before .before .before .before .before .before .before .before .pre .1 in side-beyond (a .ask) (a .refs .now) (a .rooms .now) (apartBy (a .ask) (a .points .now)) (distBy (a .ask) (a .points .now) (a .probe .now)) _ _ _ _ _ (c .before .before .before .before .before .before .before .before .field .ensures) (p .roomy) _ _ _ _ (metric (a .ask) (a .points .now) (a .probe .now)) (p .least) (p .beside) (c .before .before .before .before .before .before .field2 .ensures) (c .before .before .wanted .ensures) (sym (c .before .beyond .ensures) ∙ c .if3 .taken)
 
-side-sub-node : (t : ℕ) → side-lts.Need-sub-node (side-calls t) (side-at t) side.Post
-side-sub-node t c = let h = c .before .before .before .before .before .before .before .if1 .left in omega arith
+side-sub-next : (t : ℕ) → side-lts.Need-sub-next (side-calls t) (side-at t) side.Post
+side-sub-next t c = let h = c .before .before .before .before .before .before .before .if1 .left in omega arith
 
 side-node-requires : (t : ℕ) → side-lts.Need-node-requires (side-calls t) (side-at t) side.Post
 side-node-requires t c κs = let p = c .before .before .before .before .before .before .before .before .before .before .before .before .before .pre .1 in (omega (arith, c .before .before .before .before .before .before .before .before .before .before .before .before .before .pre .0, p .walk .inUse, rises-here _ _ _ _ _ _ (p .walk) (p .which) (c .before .before .before .before .before .before .before .before .before .field .ensures) (c .before .before .before .before .before .before .before .before .if1 .left)), node-ready _ _ _ _ _ _ _ _ _ _ _ _ p (c .before .before .before .before .before .before .before .before .before .field .ensures) (c .before .before .before .before .before .before .before .before .if1 .left))
@@ -157,7 +175,7 @@ side-same-length-2 : (t : ℕ) → side-lts.Need-same-length-2 (side-calls t) (s
 side-same-length-2 t c = c .before .before .node .kept .1 .1 .1 .1 .1 .1 .0
 
 side-returns-4 : (t : ℕ) → side-lts.Need-returns-4 (side-calls t) (side-at t) side.Post
-side-returns-4 t c = let a = c .before .before .before .before .before .before .before .before .before .before .before .before .before .before .before .before .args in let p = c .before .before .before .before .before .before .before .before .before .before .before .before .before .before .before .before .pre .1 in side-down (a .ask) (a .references .now) (a .rooms .now) (apartBy (a .ask) (a .coordinates .now)) (distBy (a .ask) (a .coordinates .now) (a .probe .now)) _ _ _ _ _ (c .before .before .before .before .before .before .before .before .before .before .before .before .field .ensures) (p .roomy) _ _ (c .before .before .before .before .before .before .before .before .before .before .before .if1 .left) (c .before .before .node .ensures)
+side-returns-4 t c = let a = c .before .before .before .before .before .before .before .before .before .before .before .before .before .before .before .before .args in let p = c .before .before .before .before .before .before .before .before .before .before .before .before .before .before .before .before .pre .1 in side-down (a .ask) (a .refs .now) (a .rooms .now) (apartBy (a .ask) (a .points .now)) (distBy (a .ask) (a .points .now) (a .probe .now)) _ _ _ _ _ (c .before .before .before .before .before .before .before .before .before .before .before .before .field .ensures) (p .roomy) _ _ (c .before .before .before .before .before .before .before .before .before .before .before .if1 .left) (c .before .before .node .ensures)
 
 pub +node+side-spec : {M : Type 1} → statement M
 +node+side-spec =
@@ -165,5 +183,4 @@ pub +node+side-spec : {M : Type 1} → statement M
     (λ t. node-lts.spec (node-calls t) (node-at t) node.Post
     (node-field-requires t) (node-sub-kl t) (node-from-probe-requires t) (node-consider-requires t) (node-field-requires-2 t) (node-same-length t) (node-returns t) (node-sub-kr t) (node-from-probe-requires-2 t) (node-consider-requires-2 t) (node-rank-requires t) (node-rank-requires-2 t) (node-side-requires t) (node-side-requires-2 t) (node-same-length-2 t) (node-returns-2 t) (node-side-requires-3 t) (node-side-requires-4 t) (node-same-length-3 t) (node-returns-3 t))
     (λ t. side-lts.spec (side-calls t) (side-at t) side.Post
-    (side-add-field t) (side-field-requires t) (side-returns t) (side-add-field-2 t) (side-field-requires-2 t) (side-passed-requires t) (side-returns-2 t) (side-wanted-requires t) (side-beyond-requires t) (side-same-length t) (side-returns-3 t) (side-sub-node t) (side-node-requires t) (side-same-length-2 t) (side-returns-4 t))
-
+    (side-add-field t) (side-field-requires t) (side-returns t) (side-add-field-2 t) (side-field-requires-2 t) (side-passed-requires t) (side-returns-2 t) (side-wanted-requires t) (side-beyond-requires t) (side-same-length t) (side-returns-3 t) (side-sub-next t) (side-node-requires t) (side-same-length-2 t) (side-returns-4 t))

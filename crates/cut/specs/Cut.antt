@@ -1,0 +1,49 @@
+-- Lines of an input that comes in chunks: what one cut leaves, and what that means. "Later programs cut lines alike." Definitions only.
+use Prim.Native.Nat.{ℕ, _+_, _≤_, min}
+use mathlib.Core.Path.{_≡_}
+use mathlib.Core.List.{List, [], _∷_}
+use mathlib.Core.Bool.{Bool, true, false, cond}
+use lib.ListN.{length, set, take}
+use lib.Dec.{leb, eqb}
+use Rattle.cut.specs.declared.Piece.{Piece}
+
+-- the size of a line of n bytes with one more, where every size over `most` counts as the next one: `most` + 1 stands for any longer line
+unfoldable pub longer : ℕ → ℕ → ℕ
+longer most n = cond (leb n most) (n + 1) n
+
+-- what is left when a line is cut: the room, how far the chunk was read, the line's size, and whether the line is whole
+pub record Taken : Type 0 where
+  pub line : List ℕ
+  pub piece : Piece
+
+abbrev pub taken : List ℕ → Piece → Taken
+taken l p = record { line = l; piece = p }
+
+-- the bytes xs, which start at i in the chunk, are added to a line of size n in the room l
+unfoldable pub cutOf : ℕ → List ℕ → ℕ → ℕ → List ℕ → Taken
+cutOf most l n i [] = taken l (record { at = i; size = n; whole = false })
+cutOf most l n i (x ∷ xs) =
+    cond (eqb x 10) (taken (set l n x) (record { at = i + 1; size = longer most n; whole = true }))
+    (cutOf most (set l n x) (longer most n) (i + 1) xs)
+
+-- ---- what that means
+
+-- the bytes up to the first 0A, which is the last of them
+unfoldable pub lineIn : List ℕ → List ℕ
+lineIn [] = []
+lineIn (x ∷ xs) = x ∷ cond (eqb x 10) [] (lineIn xs)
+
+-- what comes after
+unfoldable pub restIn : List ℕ → List ℕ
+restIn [] = []
+restIn (x ∷ xs) = cond (eqb x 10) xs (restIn xs)
+
+unfoldable pub hasEnd : List ℕ → Bool
+hasEnd [] = false
+hasEnd (x ∷ xs) = cond (eqb x 10) true (hasEnd xs)
+
+-- the room l with the size n stands for the bytes h
+pub record Kept (most : ℕ) (l : List ℕ) (n : ℕ) (h : List ℕ) : Type 0 where
+  pub room : length l ≡ most
+  pub size : n ≡ min (length h) (most + 1)
+  pub front : n ≤ most → take n l ≡ h

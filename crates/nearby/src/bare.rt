@@ -1,0 +1,75 @@
+// The bare writers and readers of the three kinds of line.
+ghost use mathlib.Core.Path.{_≡_};
+ghost use Rattle.paper.specs.Lines.{Writes, askFits, askFrame, askOf, answerFits, answerFrame, answerOf, claimFits, claimFrame, claimOf};
+use paper::lines::AnswerRead;
+use paper::lines::AskRead;
+use paper::lines::ClaimRead;
+use paper::lines::Scope;
+use paper::lines::Wrote;
+
+// Refusals 10, 12.
+pub fn write_ask_line(
+    table: u32,
+    measure: u8,
+    d: u8,
+    probe: &[i32],
+    p: Scope,
+    size: u8,
+    out: &mut [u8],
+) -> Wrote
+    ensures { λ r. ⌜ Writes (askFits measure d (now (probe .entry)) p size) 123 (askFrame 1 table measure d (now (probe .entry)) p size) (now (out .entry)) r (now (out .exit)) ⌝ }
+{
+    lines::write_ask(table, measure, d, probe, p, size, out)
+}
+
+// Refusals 10, 12.
+pub fn write_answer_line(
+    table: u32,
+    measure: u8,
+    d: u8,
+    probe: &[i32],
+    p: Scope,
+    last: u8,
+    count: u8,
+    items: &[u64],
+    out: &mut [u8],
+) -> Wrote
+    ensures { λ r. ⌜ Writes (answerFits measure d (now (probe .entry)) p last count (now (items .entry))) 573 (answerFrame 2 table measure d (now (probe .entry)) p last count (now (items .entry))) (now (out .entry)) r (now (out .exit)) ⌝ }
+{
+    lines::write_answer(table, measure, d, probe, p, last, count, items, out)
+}
+
+// Refusals 10, 12.
+pub fn write_claim_line(
+    table: u32,
+    measure: u8,
+    d: u8,
+    reference: u32,
+    coordinates: &[i32],
+    out: &mut [u8],
+) -> Wrote
+    ensures { λ r. ⌜ Writes (claimFits measure d (now (coordinates .entry))) 87 (claimFrame table measure d reference (now (coordinates .entry))) (now (out .entry)) r (now (out .exit)) ⌝ }
+{
+    lines::write_claim(table, measure, d, reference, coordinates, out)
+}
+
+// Refusals 9, 10.
+pub fn read_ask_line(line: &[u8]) -> AskRead
+    ensures { λ r. ⌜ r ≡ askOf 1 (now (line .entry)) ⌝ }
+{
+    lines::read_ask(line)
+}
+
+// Refusals 9, 10.
+pub fn read_answer_line(line: &[u8]) -> AnswerRead
+    ensures { λ r. ⌜ r ≡ answerOf 2 (now (line .entry)) ⌝ }
+{
+    lines::read_answer(line)
+}
+
+// Refusals 9, 10.
+pub fn read_claim_line(line: &[u8]) -> ClaimRead
+    ensures { λ r. ⌜ r ≡ claimOf (now (line .entry)) ⌝ }
+{
+    lines::read_claim(line)
+}

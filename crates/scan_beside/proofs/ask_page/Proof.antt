@@ -1,0 +1,110 @@
+-- `scan_beside::ask_page` is safe. Assumes nothing.
+use native.Mathlib.Omega.{arith}
+use borrow.Author.Needs.{needs}
+use Rattle.scan_beside.proofs.ask_page.Statement.{statement}
+use Rattle.scan_beside.proofs.ask_page.Tie as tie
+
+pick-requires : tie.Need-pick-requires
+pick-requires c κs = search needs
+
+next-requires : tie.Need-next-requires
+next-requires c κs = search needs
+
+pick-requires-2 : tie.Need-pick-requires-2
+pick-requires-2 c κs = search needs
+
+add-size : tie.Need-add-size
+add-size c = search needs
+
+next-requires-2 : tie.Need-next-requires-2
+next-requires-2 c κs = search needs
+
+add-pick : tie.Need-add-pick
+add-pick c = search needs
+
+pick-requires-3 : tie.Need-pick-requires-3
+pick-requires-3 c κs = search needs
+
+next-requires-3 : tie.Need-next-requires-3
+next-requires-3 c κs = search needs
+
+reach-of-requires : tie.Need-reach-of-requires
+reach-of-requires c κs = search needs
+
+from-start-requires : tie.Need-from-start-requires
+from-start-requires c κs = search needs
+
+page-beside-requires : tie.Need-page-beside-requires
+page-beside-requires c κs = search needs
+
+returns : tie.Need-returns
+returns c = search needs
+
+pick-requires-4 : tie.Need-pick-requires-4
+pick-requires-4 c κs = search needs
+
+cast-distance : tie.Need-cast-distance
+cast-distance c = search needs
+
+distance-requires : tie.Need-distance-requires
+distance-requires c κs = search needs
+
+next-requires-4 : tie.Need-next-requires-4
+next-requires-4 c κs = search needs
+
+reach-of-requires-2 : tie.Need-reach-of-requires-2
+reach-of-requires-2 c κs = search needs
+
+from-start-requires-2 : tie.Need-from-start-requires-2
+from-start-requires-2 c κs = search needs
+
+next-requires-5 : tie.Need-next-requires-5
+next-requires-5 c κs = search needs
+
+pick-requires-5 : tie.Need-pick-requires-5
+pick-requires-5 c κs = search needs
+
+page-beside-requires-2 : tie.Need-page-beside-requires-2
+page-beside-requires-2 c κs = let p = c .before .before .before .before .before .before .before .before .before .before .before .before .before .before .before .before .before .before .pre in let e = c .before .before .before .from-start2 .ensures in (omega arith, omega arith)
+
+returns-2 : tie.Need-returns-2
+returns-2 c = search needs
+
+from-mark-requires : tie.Need-from-mark-requires
+from-mark-requires c κs = search needs
+
+page-beside-requires-3 : tie.Need-page-beside-requires-3
+page-beside-requires-3 c κs = let p = c .before .before .before .before .before .before .before .before .before .before .before .before .before .before .before .before .before .before .before .pre in let e = c .before .before .before .before .from-start2 .ensures in let f = c .from-mark .ensures in let s = c .before .before .before .before .before .before .before .before .before .before .before .before .pick3 .ensures in (omega arith, omega arith)
+
+returns-3 : tie.Need-returns-3
+returns-3 c = search needs
+
+pub ask-page-spec : {M : Type 1} → statement M
+ask-page-spec =
+    tie.close
+    (tie.spec
+    pick-requires
+    next-requires
+    pick-requires-2
+    add-size
+    next-requires-2
+    add-pick
+    pick-requires-3
+    next-requires-3
+    reach-of-requires
+    from-start-requires
+    page-beside-requires
+    returns
+    pick-requires-4
+    cast-distance
+    distance-requires
+    next-requires-4
+    reach-of-requires-2
+    from-start-requires-2
+    next-requires-5
+    pick-requires-5
+    page-beside-requires-2
+    returns-2
+    from-mark-requires
+    page-beside-requires-3
+    returns-3)

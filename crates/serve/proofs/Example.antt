@@ -1,0 +1,56 @@
+-- Document 01's example of the program: five claims and one ask give this whole output, computed. Assumes nothing.
+use Prim.Native.Nat.{ℕ}
+use mathlib.Core.Path.{_≡_, refl}
+use mathlib.Core.List.{List, [], _∷_, _++_}
+use Rattle.paper.specs.Points.{measureOf, weigh, joined, distance}
+use Rattle.paper.specs.Orders.{rank, before, insert, itemOf, listed, follows, rest, snapshotHolds, following, pageOf, lastOf, markHolds, flat}
+use Rattle.paper.specs.Frames.{be, num, glyph, digit, hexes, lineOf, frameOf, sound}
+use Rattle.paper.specs.Frames as Frames
+use Rattle.paper.specs.Fields.{head, ranged, coordBytes, coordsIn, places, scopeBytes, front, scopeIn, scopeOk, item, itemBytes}
+use Rattle.paper.specs.Lines.{headOk, behind, askRanges, askOk, askAt, answerFrame, claimOk, claimAt}
+use Rattle.paper.specs.Ends.{matches, answerOf, answerTo}
+use Rattle.paper.specs.Codec.{placeIn, scopeOf, asked, answerLine}
+use Rattle.paper.specs.Program.{tableFor, ours, claimIn, withClaim, entering, replyTo, reply, claimTurn, askTurn, frameTurn, lineTurn, ended, byte, fed, over, start, program}
+
+abbrev claim2 : List ℕ
+claim2 =
+    48 ∷ 51 ∷ 48 ∷ 48 ∷ 48 ∷ 48 ∷ 48 ∷ 48 ∷ 48 ∷ 55 ∷ 48 ∷ 49 ∷ 48 ∷ 49 ∷ 48 ∷ 48 ∷ 48 ∷ 48 ∷ 48 ∷ 48 ∷ 54 ∷ 53 ∷ 48 ∷ 48 ∷ 48 ∷ 48 ∷ 48 ∷
+    48 ∷ 48 ∷ 50 ∷ 10 ∷ []
+
+abbrev claim3 : List ℕ
+claim3 =
+    48 ∷ 51 ∷ 48 ∷ 48 ∷ 48 ∷ 48 ∷ 48 ∷ 48 ∷ 48 ∷ 55 ∷ 48 ∷ 49 ∷ 48 ∷ 49 ∷ 48 ∷ 48 ∷ 48 ∷ 48 ∷ 48 ∷ 48 ∷ 54 ∷ 54 ∷ 48 ∷ 48 ∷ 48 ∷ 48 ∷ 48 ∷
+    48 ∷ 48 ∷ 51 ∷ 10 ∷ []
+
+abbrev claim9 : List ℕ
+claim9 =
+    48 ∷ 51 ∷ 48 ∷ 48 ∷ 48 ∷ 48 ∷ 48 ∷ 48 ∷ 48 ∷ 55 ∷ 48 ∷ 49 ∷ 48 ∷ 49 ∷ 48 ∷ 48 ∷ 48 ∷ 48 ∷ 48 ∷ 48 ∷ 54 ∷ 55 ∷ 48 ∷ 48 ∷ 48 ∷ 48 ∷ 48 ∷
+    48 ∷ 48 ∷ 57 ∷ 10 ∷ []
+
+abbrev claim6 : List ℕ
+claim6 =
+    48 ∷ 51 ∷ 48 ∷ 48 ∷ 48 ∷ 48 ∷ 48 ∷ 48 ∷ 48 ∷ 55 ∷ 48 ∷ 49 ∷ 48 ∷ 49 ∷ 48 ∷ 48 ∷ 48 ∷ 48 ∷ 48 ∷ 48 ∷ 54 ∷ 56 ∷ 48 ∷ 48 ∷ 48 ∷ 48 ∷ 48 ∷
+    48 ∷ 48 ∷ 54 ∷ 10 ∷ []
+
+abbrev claim5 : List ℕ
+claim5 =
+    48 ∷ 51 ∷ 48 ∷ 48 ∷ 48 ∷ 48 ∷ 48 ∷ 48 ∷ 48 ∷ 55 ∷ 48 ∷ 49 ∷ 48 ∷ 49 ∷ 48 ∷ 48 ∷ 48 ∷ 48 ∷ 48 ∷ 48 ∷ 54 ∷ 57 ∷ 48 ∷ 48 ∷ 48 ∷ 48 ∷ 48 ∷
+    48 ∷ 48 ∷ 53 ∷ 10 ∷ []
+
+abbrev ask : List ℕ
+ask =
+    48 ∷ 49 ∷ 48 ∷ 48 ∷ 48 ∷ 48 ∷ 48 ∷ 48 ∷ 48 ∷ 55 ∷ 48 ∷ 49 ∷ 48 ∷ 49 ∷ 48 ∷ 48 ∷ 48 ∷ 48 ∷ 48 ∷ 48 ∷ 48 ∷ 52 ∷ 48 ∷ 48 ∷ 48 ∷ 48 ∷ 48 ∷
+    48 ∷ 48 ∷ 48 ∷ 48 ∷ 48 ∷ 48 ∷ 48 ∷ 48 ∷ 48 ∷ 48 ∷ 53 ∷ 48 ∷ 48 ∷ 48 ∷ 48 ∷ 48 ∷ 48 ∷ 48 ∷ 48 ∷ 48 ∷ 48 ∷ 48 ∷ 48 ∷ 48 ∷ 48 ∷ 48 ∷ 48 ∷
+    48 ∷ 48 ∷ 48 ∷ 48 ∷ 48 ∷ 48 ∷ 48 ∷ 48 ∷ 48 ∷ 48 ∷ 48 ∷ 50 ∷ 10 ∷ []
+
+abbrev answer : List ℕ
+answer =
+    48 ∷ 50 ∷ 48 ∷ 48 ∷ 48 ∷ 48 ∷ 48 ∷ 48 ∷ 48 ∷ 55 ∷ 48 ∷ 49 ∷ 48 ∷ 49 ∷ 48 ∷ 48 ∷ 48 ∷ 48 ∷ 48 ∷ 48 ∷ 48 ∷ 52 ∷ 48 ∷ 48 ∷ 48 ∷ 48 ∷ 48 ∷
+    48 ∷ 48 ∷ 48 ∷ 48 ∷ 48 ∷ 48 ∷ 48 ∷ 48 ∷ 48 ∷ 48 ∷ 53 ∷ 48 ∷ 48 ∷ 48 ∷ 48 ∷ 48 ∷ 53 ∷ 48 ∷ 48 ∷ 48 ∷ 48 ∷ 48 ∷ 48 ∷ 48 ∷ 48 ∷ 48 ∷ 48 ∷
+    48 ∷ 48 ∷ 48 ∷ 48 ∷ 48 ∷ 48 ∷ 48 ∷ 48 ∷ 48 ∷ 48 ∷ 48 ∷ 48 ∷ 48 ∷ 50 ∷ 48 ∷ 48 ∷ 48 ∷ 49 ∷ 48 ∷ 48 ∷ 48 ∷ 48 ∷ 48 ∷ 48 ∷ 54 ∷ 54 ∷ 48 ∷
+    48 ∷ 48 ∷ 48 ∷ 48 ∷ 48 ∷ 48 ∷ 48 ∷ 48 ∷ 48 ∷ 48 ∷ 48 ∷ 48 ∷ 48 ∷ 48 ∷ 49 ∷ 48 ∷ 48 ∷ 48 ∷ 52 ∷ 48 ∷ 48 ∷ 48 ∷ 48 ∷ 48 ∷ 48 ∷ 54 ∷ 57 ∷
+    48 ∷ 48 ∷ 48 ∷ 48 ∷ 48 ∷ 48 ∷ 48 ∷ 48 ∷ 48 ∷ 48 ∷ 48 ∷ 48 ∷ 48 ∷ 48 ∷ 48 ∷ 49 ∷ 10 ∷ []
+
+pub example : program (claim2 ++ (claim3 ++ (claim9 ++ (claim6 ++ (claim5 ++ ask))))) ≡ answer
+unfolding program start over fed byte ended lineTurn frameTurn askTurn claimTurn reply replyTo entering withClaim claimIn ours tableFor answerLine asked scopeOf placeIn answerTo answerOf matches claimAt claimOk answerFrame askAt askOk askRanges behind headOk itemBytes item scopeOk scopeIn front scopeBytes places coordsIn coordBytes ranged head sound frameOf lineOf hexes digit glyph num be Frames.ended flat markHolds lastOf pageOf following snapshotHolds rest follows listed itemOf insert before rank distance joined weigh measureOf
+example = refl

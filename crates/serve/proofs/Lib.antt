@@ -1,0 +1,5 @@
+pub mod Written
+pub mod Turns
+pub mod Moves
+pub mod Session
+pub mod Example

@@ -1,0 +1,87 @@
+-- `serve::saying::refuse` meets its contract: one digit, or two. Assumes nothing.
+use mathlib.Core.Path.{refl}
+use Rattle.serve.proofs.Written.{refuse-one, refuse-two}
+use borrow.Author.Needs.{needs}
+use Rattle.serve.proofs.saying.refuse.Statement.{statement}
+use Rattle.serve.proofs.saying.refuse.Tie as tie
+
+add-t7 : tie.Need-add-t7
+add-t7 c = search needs
+
+slice-aggregate-copy : tie.Need-slice-aggregate-copy
+slice-aggregate-copy c = search needs
+
+sub-copy : tie.Need-sub-copy
+sub-copy c = search needs
+
+part-copy-start : tie.Need-part-copy-start
+part-copy-start c = search needs
+
+part-copy-end : tie.Need-part-copy-end
+part-copy-end c = search needs
+
+copy-requires : tie.Need-copy-requires
+copy-requires c κs = search needs
+
+add-result : tie.Need-add-result
+add-result c = search needs
+
+same-length : tie.Need-same-length
+same-length c = search needs
+
+returns : tie.Need-returns
+returns c = refuse-one (c .before .before .before .before .before .before .before .args .out .now) (c .before .before .before .before .before .before .before .args .at) _ (c .before .before .before .before .before .before .before .args .n) refl (c .before .before .before .before .before .before .before .pre .1) _ _ (c .before .before .before .before .before .if1 .taken) (c .before .before .copy .ensures .0) (c .before .before .copy .ensures .1)
+
+add-t16 : tie.Need-add-t16
+add-t16 c = search needs
+
+add-t18 : tie.Need-add-t18
+add-t18 c = search needs
+
+slice-aggregate-copy-2 : tie.Need-slice-aggregate-copy-2
+slice-aggregate-copy-2 c = search needs
+
+sub-copy-2 : tie.Need-sub-copy-2
+sub-copy-2 c = search needs
+
+part-copy-start-2 : tie.Need-part-copy-start-2
+part-copy-start-2 c = search needs
+
+part-copy-end-2 : tie.Need-part-copy-end-2
+part-copy-end-2 c = search needs
+
+copy-requires-2 : tie.Need-copy-requires-2
+copy-requires-2 c κs = search needs
+
+add-result-2 : tie.Need-add-result-2
+add-result-2 c = search needs
+
+same-length-2 : tie.Need-same-length-2
+same-length-2 c = search needs
+
+returns-2 : tie.Need-returns-2
+returns-2 c = refuse-two (c .before .before .before .before .before .before .before .args .out .now) (c .before .before .before .before .before .before .before .args .at) _ (c .before .before .before .before .before .before .before .args .n) refl (c .before .before .before .before .before .before .before .pre .1) _ _ (c .before .before .before .before .before .if1 .left) (c .before .before .copy2 .ensures .0) (c .before .before .copy2 .ensures .1)
+
+pub refuse-spec : {M : Type 1} → statement M
+refuse-spec =
+    tie.close
+    (tie.spec
+    add-t7
+    slice-aggregate-copy
+    sub-copy
+    part-copy-start
+    part-copy-end
+    copy-requires
+    add-result
+    same-length
+    returns
+    add-t16
+    add-t18
+    slice-aggregate-copy-2
+    sub-copy-2
+    part-copy-start-2
+    part-copy-end-2
+    copy-requires-2
+    add-result-2
+    same-length-2
+    returns-2)

@@ -1,0 +1,33 @@
+// An ask line: its answer line, or a refusal.
+ghost use lib.ListN.{length};
+ghost use Rattle.paper.specs.declared.orders.Order.the-variants.{Near};
+ghost use Rattle.paper.specs.Tree.{store};
+ghost use Rattle.paper.specs.Codec.{asked};
+ghost use Rattle.paper.specs.Program.{reply, askTurn};
+ghost use Rattle.serve.specs.Serving.{Put, booksOf, Asking};
+use super::saying::refuse;
+use paper::lines::Ask;
+use paper::lines::Wrote;
+use paper::tables::Table;
+
+pub fn take_ask(
+    t: Table,
+    references: &[u32],
+    coordinates: &[i32],
+    rooms: &[u64],
+    ask: Ask,
+    out: &mut [u8],
+    at: usize,
+) -> usize
+    requires { ⌜ Asking (store t (now references) (now coordinates) (now rooms)) ask (length (now out)) at ⌝ }
+    ensures { λ r. ⌜ Put (askTurn (booksOf (store t (now (references .entry)) (now (coordinates .entry)) (now (rooms .entry)))) (reply (booksOf (store t (now (references .entry)) (now (coordinates .entry)) (now (rooms .entry)))) (asked Near ask)) .said) (now (out .entry)) at (now (out .exit)) r ⌝ }
+{
+    if t.count == 0 {
+        return refuse(out, at, 11);
+    }
+    let wrote = desk::answer_ask(t, references, coordinates, rooms, ask, &mut out[at..]);
+    match wrote {
+        Wrote::Line(n) => at + n,
+        Wrote::Refused(n) => refuse(out, at, n),
+    }
+}

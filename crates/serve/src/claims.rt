@@ -1,0 +1,66 @@
+// A claim line: entered silently, or refused.
+ghost use mathlib.Core.Path.{_≡_};
+ghost use lib.ListN.{length};
+ghost use Rattle.paper.specs.Tree.{store};
+ghost use Rattle.paper.specs.Program.{tableFor, entering, claimTurn};
+ghost use Rattle.serve.specs.Serving.{booksOf, headerFor, Claiming, Served};
+use super::saying::refuse;
+use paper::lines::ClaimLine;
+use paper::tables::Table;
+
+// What a line leads to: the table after it, and where what was said ends.
+pub struct Step {
+    pub table: Table,
+    pub at: usize,
+}
+
+// The table that a claim line is for: the first one sets number, measure and d.
+fn header_for(t: Table, c: ClaimLine) -> Table
+    ensures { λ r. ⌜ r ≡ headerFor t c ⌝ }
+{
+    if t.count == 0 {
+        return Table {
+            number: c.table,
+            measure: c.measure,
+            d: c.d as usize,
+            capacity: t.capacity,
+            count: 0,
+            used: 0,
+        };
+    }
+    t
+}
+
+pub fn take_claim(
+    t: Table,
+    references: &mut [u32],
+    coordinates: &mut [i32],
+    rooms: &mut [u64],
+    c: ClaimLine,
+    out: &mut [u8],
+    at: usize,
+) -> Step
+    requires { ⌜ Claiming (store t (now references) (now coordinates) (now rooms)) c (length (now out)) at ⌝ }
+    ensures { λ r. ⌜ Served (claimTurn (booksOf (store t (now (references .entry)) (now (coordinates .entry)) (now (rooms .entry)))) (entering (tableFor (booksOf (store t (now (references .entry)) (now (coordinates .entry)) (now (rooms .entry)))) c) c)) (store (r .table) (now (references .exit)) (now (coordinates .exit)) (now (rooms .exit))) (now (out .entry)) at (now (out .exit)) (r .at) ⌝ }
+{
+    let header = header_for(t, c);
+    if !desk::is_ours(header, c.table, c.measure, c.d) {
+        let end = refuse(out, at, 11);
+        return Step { table: t, at: end };
+    }
+    if header.capacity <= header.count {
+        let end = refuse(out, at, 3);
+        return Step { table: t, at: end };
+    }
+    let places = c.coordinates;
+    let after = tree::runs::add(
+        header,
+        references,
+        coordinates,
+        rooms,
+        c.reference,
+        &places,
+        0,
+    );
+    Step { table: after, at }
+}

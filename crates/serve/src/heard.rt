@@ -1,0 +1,81 @@
+// One line served, from its frame, from its bytes, and from the room that it was cut into.
+ghost use mathlib.Core.Path.{_≡_};
+ghost use lib.ListN.{length};
+ghost use Rattle.paper.specs.Tree.{store};
+ghost use Rattle.paper.specs.Program.{frameTurn, lineTurn};
+ghost use Rattle.digits.specs.Places.{held};
+ghost use Rattle.serve.specs.Serving.{booksOf, Serving, Served, ServedCut};
+use super::asks::take_ask;
+use super::claims::Step;
+use super::claims::take_claim;
+use super::saying::refuse;
+use paper::tables::Table;
+
+// Serves the line whose frame is `src`.
+fn serve_frame(
+    t: Table,
+    references: &mut [u32],
+    coordinates: &mut [i32],
+    rooms: &mut [u64],
+    src: &[u8],
+    out: &mut [u8],
+    at: usize,
+) -> Step
+    requires { ⌜ Serving (store t (now references) (now coordinates) (now rooms)) (length (now out)) at ⌝ }
+    ensures { λ r. ⌜ Served (frameTurn (booksOf (store t (now (references .entry)) (now (coordinates .entry)) (now (rooms .entry)))) (held (now (src .entry)))) (store (r .table) (now (references .exit)) (now (coordinates .exit)) (now (rooms .exit))) (now (out .entry)) at (now (out .exit)) (r .at) ⌝ }
+{
+    if lines::claim_ok(src) {
+        let claim = lines::claim_at(src);
+        return take_claim(t, references, coordinates, rooms, claim, out, at);
+    }
+    if lines::ask_ok(src, 1) {
+        let ask = lines::ask_at(src);
+        let end = take_ask(t, references, coordinates, rooms, ask, out, at);
+        return Step { table: t, at: end };
+    }
+    let end = refuse(out, at, 10);
+    Step { table: t, at: end }
+}
+
+// Serves a line, whose digits are read once.
+fn serve_line(
+    t: Table,
+    references: &mut [u32],
+    coordinates: &mut [i32],
+    rooms: &mut [u64],
+    line: &[u8],
+    out: &mut [u8],
+    at: usize,
+) -> Step
+    requires { ⌜ Serving (store t (now references) (now coordinates) (now rooms)) (length (now out)) at ⌝ }
+    ensures { λ r. ⌜ Served (lineTurn (booksOf (store t (now (references .entry)) (now (coordinates .entry)) (now (rooms .entry)))) (now (line .entry))) (store (r .table) (now (references .exit)) (now (coordinates .exit)) (now (rooms .exit))) (now (out .entry)) at (now (out .exit)) (r .at) ⌝ }
+{
+    if !digits::is_sound(line) {
+        let end = refuse(out, at, 9);
+        return Step { table: t, at: end };
+    }
+    let mut frame = [0u8; 286];
+    let n = digits::unhex(line, &mut frame);
+    serve_frame(t, references, coordinates, rooms, &frame[..n], out, at)
+}
+
+// Serves the line that was cut: a size over the room's length stands for any longer line.
+pub fn serve_cut(
+    t: Table,
+    references: &mut [u32],
+    coordinates: &mut [i32],
+    rooms: &mut [u64],
+    line: &[u8],
+    size: usize,
+    out: &mut [u8],
+    at: usize,
+) -> Step
+    requires { ⌜ Serving (store t (now references) (now coordinates) (now rooms)) (length (now out)) at × (length (now line) ≡ 573) ⌝ }
+    ensures { λ r. ⌜ ServedCut (now (line .entry)) size (booksOf (store t (now (references .entry)) (now (coordinates .entry)) (now (rooms .entry)))) (store (r .table) (now (references .exit)) (now (coordinates .exit)) (now (rooms .exit))) (now (out .entry)) at (now (out .exit)) (r .at) ⌝ }
+{
+    if line.len() < size {
+        let end = refuse(out, at, 9);
+        return Step { table: t, at: end };
+    }
+    serve_line(t, references, coordinates, rooms, &line[0..size], out, at)
+}

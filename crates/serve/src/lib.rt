@@ -1,0 +1,6 @@
+// The office over a stream of lines: one line served, a chunk fed, the input's end.
+mod asks;
+mod claims;
+pub mod feeding;
+mod heard;
+mod saying;

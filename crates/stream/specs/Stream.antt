@@ -1,0 +1,38 @@
+-- The office between chunks. Definitions only.
+use Prim.Native.Nat.{ℕ, _≤_}
+use mathlib.Core.Path.{_≡_}
+use mathlib.Core.List.{List}
+use Rattle.paper.specs.Tree.{Store}
+use Rattle.paper.specs.Program.{Office, fed}
+use Rattle.serve.specs.declared.feeding.Sitting.{Sitting}
+use Rattle.serve.specs.Feeding.{Stands}
+
+abbrev pub anewOf : Sitting → Sitting
+anewOf d = record { table = d .table; size = d .size; left = d .left; at = 0; written = 0 }
+
+abbrev pub emptiedOf : Sitting → Sitting
+emptiedOf d = record { table = d .table; size = d .size; left = d .left; at = d .at; written = 0 }
+
+-- before the first byte
+abbrev pub opening : Sitting
+opening =
+    record {
+      table = record { number = 0; measure = 1; d = 1; capacity = 1024; count = 0; used = 0 };
+      size = 0;
+      left = 4294967295;
+      at = 0;
+      written = 0;
+    }
+
+-- the memory stands for the office o after some bytes that were read
+pub record Reached (o : Office) (s : Store) (l : List ℕ) (d : Sitting) : Type 0 where
+  pub bytes : List ℕ
+  pub stands : Stands s l d (fed o bytes)
+
+-- the memory that the program has, and room for a line
+pub record Roomy (references coordinates rooms line out : ℕ) : Type 0 where
+  pub refs : 1024 ≤ references
+  pub places : 8192 ≤ coordinates
+  pub nodes : 6144 ≤ rooms
+  pub longest : line ≡ 573
+  pub space : 573 ≤ out
