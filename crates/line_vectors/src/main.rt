@@ -8,6 +8,7 @@ fn main() {
     writes::asks();
     writes::refused_asks();
     writes::answers();
+    writes::longest_answer();
     writes::refused_answers();
     reads::not_lines();
     reads::other_kinds();

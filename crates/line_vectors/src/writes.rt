@@ -132,6 +132,10 @@ pub fn answers() {
     );
     answer(1, 1, &[4], scope(5, 1, 5, 2, 3), 1, 1, &[2, 103, 5]);
     answer(2, 2, &[4, -4], scope(0, 0, 4096, 0, 0), 1, 0, &[]);
+}
+
+// The longest line: sixteen items at d = 8, with each field at the end of its range.
+pub fn longest_answer() {
     answer(
         3,
         8,

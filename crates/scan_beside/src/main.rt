@@ -240,7 +240,31 @@ fn from_mark(a: Asking, snapshot: usize, distance: u64, number: u64) -> Asking
     }
 }
 
-// A page from the start or from a place in the middle, in either order, of each size.
+// A question for a page from the start or from a place in the middle, in either order, of each size.
+fn drawn(t: Table, points: &[u64; 384], codes: &[u64; 8], n: usize, seed: u64) -> Asking
+    requires { ⌜ (n ≤ 48) × (t .d ≤ 8) ⌝ }
+    ensures { λ r. ⌜ (r .snapshot ≤ 48) × (r .d ≤ 8) ⌝ }
+{
+    let far = pick(seed, 2) == 1;
+    let a = next(seed);
+    let size = 1 + pick(a, 16) as usize;
+    let b = next(a);
+    let snapshot = pick(b, n as u64 + 1) as usize;
+    let c = next(b);
+    if snapshot == 0 {
+        return from_start(t, n, far, reach_of(c, 1), size);
+    }
+    let k = pick(c, snapshot as u64) as usize;
+    let x = scan::distance(t.measure as u64, t.d, points, k, codes);
+    let e = next(c);
+    let start = from_start(t, n, far, reach_of(e, x), size);
+    if pick(next(e), 4) == 0 {
+        return start;
+    }
+    from_mark(start, snapshot, x, k as u64)
+}
+
+// Such a page, beside the scan's.
 fn ask_page(
     t: Table,
     references: &[u32],
@@ -255,44 +279,7 @@ fn ask_page(
 ) -> Tally
     requires { ⌜ (n ≤ 48) × (t .d ≤ 8) ⌝ }
 {
-    let far = pick(seed, 2) == 1;
-    let a = next(seed);
-    let size = 1 + pick(a, 16) as usize;
-    let b = next(a);
-    let snapshot = pick(b, n as u64 + 1) as usize;
-    let c = next(b);
-    if snapshot == 0 {
-        let whole = from_start(t, n, far, reach_of(c, 1), size);
-        return page_beside(
-            t,
-            references,
-            coordinates,
-            rooms,
-            probe,
-            points,
-            codes,
-            whole,
-            tally,
-        );
-    }
-    let k = pick(c, snapshot as u64) as usize;
-    let x = scan::distance(t.measure as u64, t.d, points, k, codes);
-    let e = next(c);
-    let start = from_start(t, n, far, reach_of(e, x), size);
-    if pick(next(e), 4) == 0 {
-        return page_beside(
-            t,
-            references,
-            coordinates,
-            rooms,
-            probe,
-            points,
-            codes,
-            start,
-            tally,
-        );
-    }
-    let marked = from_mark(start, snapshot, x, k as u64);
+    let question = drawn(t, points, codes, n, seed);
     page_beside(
         t,
         references,
@@ -301,7 +288,7 @@ fn ask_page(
         probe,
         points,
         codes,
-        marked,
+        question,
         tally,
     )
 }

@@ -1,8 +1,8 @@
--- `scan_beside::ask_page` is safe. Assumes nothing.
+-- `scan_beside::drawn` meets its contract: the snapshot is that of the whole table, or below it. Assumes nothing.
 use native.Mathlib.Omega.{arith}
 use borrow.Author.Needs.{needs}
-use Rattle.scan_beside.proofs.ask_page.Statement.{statement}
-use Rattle.scan_beside.proofs.ask_page.Tie as tie
+use Rattle.scan_beside.proofs.drawn.Statement.{statement}
+use Rattle.scan_beside.proofs.drawn.Tie as tie
 
 pick-requires : tie.Need-pick-requires
 pick-requires c κs = search needs
@@ -34,9 +34,6 @@ reach-of-requires c κs = search needs
 from-start-requires : tie.Need-from-start-requires
 from-start-requires c κs = search needs
 
-page-beside-requires : tie.Need-page-beside-requires
-page-beside-requires c κs = search needs
-
 returns : tie.Need-returns
 returns c = search needs
 
@@ -64,23 +61,25 @@ next-requires-5 c κs = search needs
 pick-requires-5 : tie.Need-pick-requires-5
 pick-requires-5 c κs = search needs
 
-page-beside-requires-2 : tie.Need-page-beside-requires-2
-page-beside-requires-2 c κs = let p = c .before .before .before .before .before .before .before .before .before .before .before .before .before .before .before .before .before .before .pre in let e = c .before .before .before .from-start2 .ensures in (omega arith, omega arith)
-
 returns-2 : tie.Need-returns-2
-returns-2 c = search needs
+returns-2 c =
+    let p = c .before .before .before .before .before .before .before .before .before .before .before .before .before .before .before .before .pre in
+    let e = c .before .before .before .from-start2 .ensures in
+    (omega arith, omega arith)
 
 from-mark-requires : tie.Need-from-mark-requires
 from-mark-requires c κs = search needs
 
-page-beside-requires-3 : tie.Need-page-beside-requires-3
-page-beside-requires-3 c κs = let p = c .before .before .before .before .before .before .before .before .before .before .before .before .before .before .before .before .before .before .before .pre in let e = c .before .before .before .before .from-start2 .ensures in let f = c .from-mark .ensures in let s = c .before .before .before .before .before .before .before .before .before .before .before .before .pick3 .ensures in (omega arith, omega arith)
-
 returns-3 : tie.Need-returns-3
-returns-3 c = search needs
+returns-3 c =
+    let p = c .before .before .before .before .before .before .before .before .before .before .before .before .before .before .before .before .before .pre in
+    let e = c .before .before .before .before .from-start2 .ensures in
+    let f = c .from-mark .ensures in
+    let s = c .before .before .before .before .before .before .before .before .before .before .before .before .pick3 .ensures in
+    (omega arith, omega arith)
 
-pub ask-page-spec : {M : Type 1} → statement M
-ask-page-spec =
+pub drawn-spec : {M : Type 1} → statement M
+drawn-spec =
     tie.close
     (tie.spec
     pick-requires
@@ -93,7 +92,6 @@ ask-page-spec =
     next-requires-3
     reach-of-requires
     from-start-requires
-    page-beside-requires
     returns
     pick-requires-4
     cast-distance
@@ -103,8 +101,6 @@ ask-page-spec =
     from-start-requires-2
     next-requires-5
     pick-requires-5
-    page-beside-requires-2
     returns-2
     from-mark-requires
-    page-beside-requires-3
     returns-3)
