@@ -1,16 +1,9 @@
 // Refusals to make a table and to enter claims.
-use crate::told;
 use paper::tables::Entered;
 use paper::tables::Made;
 use paper::tables::Table;
-
-// A table with the memory that it lies in.
-pub struct Kept {
-    pub table: Table,
-    pub references: [u32; 8],
-    pub coordinates: [i32; 8],
-    pub rooms: [u64; 48],
-}
+use told::memory;
+use told::memory::Kept;
 
 fn made_refusal(m: Made) -> u8 {
     match m {
@@ -23,53 +16,6 @@ fn entered_refusal(e: Entered) -> u8 {
     match e {
         Entered::Table(_) => 0,
         Entered::Refused(n) => n,
-    }
-}
-
-fn header(measure: u8, d: usize, capacity: usize, count: usize, used: usize) -> Table {
-    Table {
-        number: 7,
-        measure,
-        d,
-        capacity,
-        count,
-        used,
-    }
-}
-
-fn made(m: Made) -> Table {
-    match m {
-        Made::Table(t) => t,
-        Made::Refused(_) => header(0, 0, 0, 0, 0),
-    }
-}
-
-fn entered(e: Entered) -> Table {
-    match e {
-        Entered::Table(t) => t,
-        Entered::Refused(_) => header(0, 0, 0, 0, 0),
-    }
-}
-
-// Document 01's five claims: 2, 3, 9, 6, 5.
-pub fn five() -> Kept {
-    let mut references = [0u32; 8];
-    let mut coordinates = [0i32; 8];
-    let mut rooms = [0u64; 48];
-    let empty = made(nearby::make_table(7, 1, 1, 8, &references, &coordinates, &rooms));
-    let table = entered(nearby::enter(
-        empty,
-        &mut references,
-        &mut coordinates,
-        &mut rooms,
-        &[101u32, 102, 103, 104, 105],
-        &[2i32, 3, 9, 6, 5],
-    ));
-    Kept {
-        table,
-        references,
-        coordinates,
-        rooms,
     }
 }
 
@@ -119,21 +65,6 @@ pub fn making() {
     making_in(b"rooms short", 1, 2, 8, 8, 16, 47);
 }
 
-// A header of that table with no measure.
-pub fn measure_0() -> Table {
-    header(0, 1, 8, 5, 3)
-}
-
-// Whether the lent memory is as it was.
-pub fn still(k: Kept, references: &[u32], coordinates: &[i32], rooms: &[u64]) -> bool {
-    let references_before = k.references;
-    let coordinates_before = k.coordinates;
-    let rooms_before = k.rooms;
-    told::same_u32(references, &references_before)
-        && told::same_i32(coordinates, &coordinates_before)
-        && told::same_u64(rooms, &rooms_before)
-}
-
 // Enters a run into a table whose memory is whole.
 fn entering_into(wrong: &[u8], t: Table, k: Kept, given: &[u32], places: &[i32]) {
     let mut references = k.references;
@@ -148,34 +79,18 @@ fn entering_into(wrong: &[u8], t: Table, k: Kept, given: &[u32], places: &[i32])
         places,
     );
     told::refused(b"enter", wrong, entered_refusal(e));
-    told::ended(still(k, &references, &coordinates, &rooms));
-}
-
-// Document 01's five claims, with one room number changed: the far distance on the root's right.
-pub fn unsound() -> Kept {
-    let k = five();
-    let table = k.table;
-    let references = k.references;
-    let coordinates = k.coordinates;
-    let mut rooms = k.rooms;
-    rooms[3] = 7;
-    Kept {
-        table,
-        references,
-        coordinates,
-        rooms,
-    }
+    told::ended(memory::still(k, &references, &coordinates, &rooms));
 }
 
 // Refusal 4 cannot arise: a claim takes one room at most, and there are as many rooms as the capacity.
 pub fn entering() {
-    let k = five();
-    let u = unsound();
+    let k = memory::five();
+    let u = memory::unsound();
     let t = k.table;
-    entering_into(b"measure 0", measure_0(), k, &[106u32], &[4i32]);
+    entering_into(b"measure 0", memory::measure_0(), k, &[106u32], &[4i32]);
     entering_into(
         b"capacity over the memory",
-        header(1, 1, 9, 5, 3),
+        memory::header(1, 1, 9, 5, 3),
         k,
         &[106u32],
         &[4i32],
@@ -183,7 +98,7 @@ pub fn entering() {
     entering_into(b"room number changed", t, u, &[106u32], &[4i32]);
     entering_into(
         b"count over capacity",
-        header(1, 1, 4, 5, 3),
+        memory::header(1, 1, 4, 5, 3),
         k,
         &[106u32],
         &[4i32],
@@ -199,12 +114,12 @@ pub fn entering() {
 }
 
 pub fn entering_two() {
-    let k = five();
-    let u = unsound();
+    let k = memory::five();
+    let u = memory::unsound();
     let t = k.table;
     entering_into(
         b"measure 0, room number changed",
-        measure_0(),
+        memory::measure_0(),
         u,
         &[106u32],
         &[4i32],

@@ -2,10 +2,10 @@
 use Prim.Native.Nat.{ℕ, zero, suc, _+_, _-_, _*_, _<_, _≤_, _^_}
 use mathlib.Core.Path.{_≡_, refl, sym, ap, _∙_}
 use mathlib.Core.Logic.{_⊎_, inl, inr, ⊎-elim}
-use mathlib.Core.Bool.{Bool, true, false}
+use mathlib.Core.Bool.{Bool, true, false, cond}
 use mathlib.Core.List.{List, []}
 use native.Mathlib.Omega.{arith}
-use native.Mathlib.Nat.{le-refl, le-trans, mul-le-mul-right}
+use native.Mathlib.Nat.{le-trans, mul-le-mul-right}
 use lib.IntN.{ℤ}
 use lib.ListN.{length, take}
 use lib.Seq.{take-nil}
@@ -18,7 +18,7 @@ use Rattle.keep.specs.Kept.{none, Roomy, KeepIs}
 use Rattle.keep.specs.Skips.{admitted, capOf, boundOf, beyondOf, passedOf}
 use Rattle.keep.proofs.Keeping.{all-are-first}
 use Rattle.keep.proofs.Walks.{walked-still, walked-then, walked-fewer, step-taken, step-passed, beyond-wanted}
-use Rattle.walk.specs.Walking.{refOf, distBy, InSight, apartBy, okBy, rankBy, Metric, Below, AskWalked, Stepped, Lent, NodeAsk, SideAsk, PageAsk, AskFilled}
+use Rattle.walk.specs.Walking.{refOf, distBy, InSight, apartBy, okBy, rankBy, Metric, Below, Reached, wayDown, AskWalked, Stepped, Lent, WayAsk, NodeAsk, SideAsk, PageAsk, AskFilled}
 use Rattle.walk.proofs.Skipping.{metric, rank-there, rank-back, rank-between, beyond-skips, passed-skips, ask-capped}
 
 -- the step of a claim that was measured
@@ -70,36 +70,93 @@ module _ (rooms : List ℕ) (e : ℕ → ℕ → ℕ) where
   two-sides : (m j : ℕ) → Holds rooms e m j → Under rooms e m 0 j ⊎ Under rooms e m 1 j
   two-sides m j h = two-sides-at m j (h .side) (h .which) (h .under)
 
+-- what the tests of a side find
+module _ (ask : Asked) (rooms : List ℕ) (m s x y : ℕ) (o : List ℕ) (count : ℕ) where
+  pub way-none : (below : ℕ) → below ≡ fieldAt rooms m (4 + s) → below ≡ 0 → 0 ≡ wayDown rooms ask m s x y o count
+  unfolding wayDown
+  way-none below read z = go (passedOf ask x (fieldAt rooms m (2 + s))) (beyondOf (ask .order) (boundOf ask o count) x y s (fieldAt rooms m (2 + s)))
+    where
+      go : (u v : Bool) → 0 ≡ cond u 0 (cond v 0 (fieldAt rooms m (4 + s)))
+      go true v = refl
+      go false true = refl
+      go false false = sym z ∙ read
+
+  pub way-passed : (far : ℕ) → far ≡ fieldAt rooms m (2 + s) → passedOf ask x far ≡ true → 0 ≡ wayDown rooms ask m s x y o count
+  unfolding wayDown
+  way-passed far read test = rw (← read, test)
+
+  module _ (far : ℕ) (read : far ≡ fieldAt rooms m (2 + s)) (passed : passedOf ask x far ≡ false) (bound : ℕ) (is : bound ≡ boundOf ask o count) where
+    pub way-beyond : beyondOf (ask .order) bound x y s far ≡ true → 0 ≡ wayDown rooms ask m s x y o count
+    unfolding wayDown
+    way-beyond test = rw (← read, ← is, passed, test)
+
+    pub way-open : (below : ℕ) → below ≡ fieldAt rooms m (4 + s) → beyondOf (ask .order) bound x y s far ≡ false → below ≡ wayDown rooms ask m s x y o count
+    unfolding wayDown
+    way-open below read' test = rw (← read, ← is, passed, test) read'
+
+  pub way-leads : (way : ℕ) → way ≡ wayDown rooms ask m s x y o count → (way ≡ 0 → ⊥) → way ≡ fieldAt rooms m (4 + s)
+  unfolding wayDown
+  way-leads way = go (passedOf ask x (fieldAt rooms m (2 + s))) (beyondOf (ask .order) (boundOf ask o count) x y s (fieldAt rooms m (2 + s)))
+    where
+      go : (u v : Bool) → way ≡ cond u 0 (cond v 0 (fieldAt rooms m (4 + s))) → (way ≡ 0 → ⊥) → way ≡ fieldAt rooms m (4 + s)
+      go true v is some = absurd (some is)
+      go false true is some = absurd (some is)
+      go false false is some = is
+
 -- below a side
-module _ (ask : Asked) (references rooms : List ℕ) (e : ℕ → ℕ → ℕ) (dist : ℕ → ℕ) (m s : ℕ) (o : List ℕ) (count below : ℕ)
-    (read : below ≡ fieldAt rooms m (4 + s)) (roomy : Roomy (ask .size) o count) where
+module _ (ask : Asked) (references rooms : List ℕ) (e : ℕ → ℕ → ℕ) (dist : ℕ → ℕ) (way : ℕ) (o : List ℕ) (count : ℕ) where
+  pub side-none : count ≤ ask .size → way ≡ 0 → AskWalked ask references dist (Reached rooms e way) o count o count
+  side-none few z = walked-still _ _ _ _ _ _ _ o count few (λ base l g j c y. absurd (c .some z))
+
+  pub side-down : (o' : List ℕ) (r : ℕ) → AskWalked ask references dist (Holds rooms e (way - 1)) o count o' r → AskWalked ask references dist (Reached rooms e way) o count o' r
+  side-down o' r h = walked-fewer _ _ _ _ _ _ _ (Holds rooms e (way - 1)) o count o' r (λ j c. c .holds) h
+
+module _ (ask : Asked) (references rooms : List ℕ) (e : ℕ → ℕ → ℕ) (dist : ℕ → ℕ) (metric : Metric e dist) (some : 0 < ask .size) (m s : ℕ) (o : List ℕ) (count : ℕ)
+    (few : count ≤ ask .size) where
   abbrev Went : List ℕ → ℕ → Type 0
   Went o' r = AskWalked ask references dist (Below rooms e m s (fieldAt rooms m s - 1)) o count o' r
 
-  pub side-none : below ≡ 0 → Went o count
-  side-none z = walked-still _ _ _ _ _ _ _ o count (roomy .few) (λ base l g j c y. absurd (omega (arith, c .leads)))
-
-  pub side-passed : (x far : ℕ) → Metric e dist → rankBy ask dist (fieldAt rooms m s - 1) ≤ x → far ≡ fieldAt rooms m (2 + s) → passedOf ask x far ≡ true → Went o count
-  side-passed x far metric px pf test =
-      walked-still _ _ _ _ _ _ _ o count (roomy .few)
-      (λ base l g j c y. absurd (passed-skips ask x far (dist j) j test
+  side-passed : (x : ℕ) → rankBy ask dist (fieldAt rooms m s - 1) ≤ x → passedOf ask x (fieldAt rooms m (2 + s)) ≡ true → Went o count
+  side-passed x px test =
+      walked-still _ _ _ _ _ _ _ o count few
+      (λ base l g j c y. absurd (passed-skips ask x (fieldAt rooms m (2 + s)) (dist j) j test
       (omega (arith, rank-back ask e dist metric (fieldAt rooms m s - 1) j, c .near)) y))
 
-  pub side-beyond : (x y far bound : ℕ) → Metric e dist → x ≤ rankBy ask dist (fieldAt rooms m s - 1) → rankBy ask dist (fieldAt rooms m (1 - s) - 1) ≤ y
-      → far ≡ fieldAt rooms m (2 + s) → bound ≡ boundOf ask o count → beyondOf (ask .order) bound x y s far ≡ true → Went o count
+  side-beyond : (x y : ℕ) → x ≤ rankBy ask dist (fieldAt rooms m s - 1) → rankBy ask dist (fieldAt rooms m (1 - s) - 1) ≤ y
+      → beyondOf (ask .order) (boundOf ask o count) x y s (fieldAt rooms m (2 + s)) ≡ true → Went o count
   unfolding boundOf
-  side-beyond x y far bound metric px py pf pb test =
-      walked-still _ _ _ _ _ _ _ o count (roomy .few)
+  side-beyond x y px py test =
+      walked-still _ _ _ _ _ _ _ o count few
       (λ base l g j c z. beyond-wanted (ask .order) (refOf references) dist (okBy ask dist) (ask .claims) (ask .size) (capOf (ask .order) (ask .reach)) base o count l j
-      (roomy .some) (ask-capped ask (dist j) j z) g
-      (rw (← pb) (beyond-skips (ask .order) bound x y s far (e (fieldAt rooms m s - 1) j) (e (fieldAt rooms m (1 - s) - 1) j) (rankBy ask dist j) test
-      (le-trans px (rank-there ask e dist metric (fieldAt rooms m s - 1) j)) (rw pf (c .near)) (c .closer)
-      (λ near. omega (arith, rank-between ask e dist metric (fieldAt rooms m (1 - s) - 1) j near)))))
+      some (ask-capped ask (dist j) j z) g
+      (beyond-skips (ask .order) (boundOf ask o count) x y s (fieldAt rooms m (2 + s)) (e (fieldAt rooms m s - 1) j) (e (fieldAt rooms m (1 - s) - 1) j) (rankBy ask dist j) test
+      (le-trans px (rank-there ask e dist metric (fieldAt rooms m s - 1) j)) (c .near) (c .closer)
+      (λ near. omega (arith, rank-between ask e dist metric (fieldAt rooms m (1 - s) - 1) j near))))
 
-  pub side-down : (o' : List ℕ) (r : ℕ) → (below ≡ 0 → ⊥) → AskWalked ask references dist (Holds rooms e (below - 1)) o count o' r → Went o' r
-  side-down o' r some h =
-      walked-fewer _ _ _ _ _ _ _ (Holds rooms e (below - 1)) o count o' r
-      (λ j c. let z : c .room ≡ below - 1 = omega (arith, c .leads) in rw (← z) (c .holds)) h
+  pub side-went : (a xd x b yd y way : ℕ) (o' : List ℕ) (r : ℕ)
+      → a ≡ fieldAt rooms m s → xd ≡ dist (a - 1) → x ≡ rank (ask .order) xd
+      → b ≡ fieldAt rooms m (1 - s) → yd ≡ dist (b - 1) → y ≡ rank (ask .order) yd
+      → way ≡ wayDown rooms ask m s x y o count → AskWalked ask references dist (Reached rooms e way) o count o' r → Went o' r
+  unfolding wayDown
+  side-went a xd x b yd y way o' r read px rx read' py ry is w =
+      go (passedOf ask x (fieldAt rooms m (2 + s))) (beyondOf (ask .order) (boundOf ask o count) x y s (fieldAt rooms m (2 + s))) refl refl is
+    where
+      is-rank : x ≡ rankBy ask dist (fieldAt rooms m s - 1)
+      is-rank = rw (← read, ← px) rx
+
+      is-other : y ≡ rankBy ask dist (fieldAt rooms m (1 - s) - 1)
+      is-other = rw (← read', ← py) ry
+
+      after : Went o count → Went o' r
+      after h = walked-then _ _ _ _ _ _ _ (Below rooms e m s (fieldAt rooms m s - 1)) (Reached rooms e way) o count o count o' r h w (λ j c. inl c)
+
+      go : (u v : Bool) → passedOf ask x (fieldAt rooms m (2 + s)) ≡ u → beyondOf (ask .order) (boundOf ask o count) x y s (fieldAt rooms m (2 + s)) ≡ v
+          → way ≡ cond u 0 (cond v 0 (fieldAt rooms m (4 + s))) → Went o' r
+      go true v p q f = after (side-passed x (omega (arith, is-rank)) p)
+      go false true p q f = after (side-beyond x y (omega (arith, is-rank)) (omega (arith, is-other)) q)
+      go false false p q f =
+          walked-fewer _ _ _ _ _ _ _ (Reached rooms e way) o count o' r
+          (λ j c. let z : c .room ≡ way - 1 = omega (arith, c .leads) in record { some = λ n. omega (arith, c .leads); holds = rw (← z) (c .holds) }) w
 
 -- a room, after its left claim
 module _ (ask : Asked) (references rooms : List ℕ) (e : ℕ → ℕ → ℕ) (dist : ℕ → ℕ) (m : ℕ) (o : List ℕ) (count l : ℕ) (left : l ≡ fieldAt rooms m 0) (right : ℕ)
@@ -128,11 +185,24 @@ module _ (ask : Asked) (references rooms : List ℕ) (e : ℕ → ℕ → ℕ) (
         (λ u. ⊎-elim (λ q. inl (inr (q ∙ ap (λ (t : ℕ). t - 1) (sym read)))) (λ q. inr (inr q)) (parts rooms e m 1 (fieldAt rooms m 1 - 1) j refl u))
         (two-sides rooms e m j h))
 
-    pub node-left-first : AskWalked ask references dist (Side 0) o₂ c₂ o₃ c₃ → AskWalked ask references dist (Side 1) o₃ c₃ o₄ r → All o₄ r
-    node-left-first = node-two (Side 0) (Side 1) (λ j c. c)
+    module _ (metric : Metric e dist) (some : 0 < ask .size) (rl : ℕ) (ranked : rl ≡ rank (ask .order) x) (rr : ℕ) (ranked₂ : rr ≡ rank (ask .order) x₂) (way way₂ : ℕ) where
+      left-went : (o : List ℕ) (c : ℕ) → c ≤ ask .size → (way : ℕ) (o' : List ℕ) (c' : ℕ) → way ≡ wayDown rooms ask m 0 rl rr o c
+          → AskWalked ask references dist (Reached rooms e way) o c o' c' → AskWalked ask references dist (Side 0) o c o' c'
+      left-went o c few way o' c' = side-went ask references rooms e dist metric some m 0 o c few l x rl right x₂ rr way o' c' left measured ranked read measured₂ ranked₂
 
-    pub node-right-first : AskWalked ask references dist (Side 1) o₂ c₂ o₃ c₃ → AskWalked ask references dist (Side 0) o₃ c₃ o₄ r → All o₄ r
-    node-right-first = node-two (Side 1) (Side 0) (λ j c. ⊎-elim (λ q. inr q) (λ q. inl q) c)
+      right-went : (o : List ℕ) (c : ℕ) → c ≤ ask .size → (way : ℕ) (o' : List ℕ) (c' : ℕ) → way ≡ wayDown rooms ask m 1 rr rl o c
+          → AskWalked ask references dist (Reached rooms e way) o c o' c' → AskWalked ask references dist (Side 1) o c o' c'
+      right-went o c few way o' c' = side-went ask references rooms e dist metric some m 1 o c few right x₂ rr l x rl way o' c' read measured₂ ranked₂ left measured ranked
+
+      pub node-left-first : way ≡ wayDown rooms ask m 0 rl rr o₂ c₂ → AskWalked ask references dist (Reached rooms e way) o₂ c₂ o₃ c₃
+          → way₂ ≡ wayDown rooms ask m 1 rr rl o₃ c₃ → AskWalked ask references dist (Reached rooms e way₂) o₃ c₃ o₄ r → All o₄ r
+      node-left-first is w₃ is₂ w₄ =
+          node-two (Side 0) (Side 1) (λ j c. c) (left-went o₂ c₂ (w₂ .few) way o₃ c₃ is w₃) (right-went o₃ c₃ (w₃ .few) way₂ o₄ r is₂ w₄)
+
+      pub node-right-first : way ≡ wayDown rooms ask m 1 rr rl o₂ c₂ → AskWalked ask references dist (Reached rooms e way) o₂ c₂ o₃ c₃
+          → way₂ ≡ wayDown rooms ask m 0 rl rr o₃ c₃ → AskWalked ask references dist (Reached rooms e way₂) o₃ c₃ o₄ r → All o₄ r
+      node-right-first is w₃ is₂ w₄ =
+          node-two (Side 1) (Side 0) (λ j c. ⊎-elim (λ q. inr q) (λ q. inl q) c) (right-went o₂ c₂ (w₂ .few) way o₃ c₃ is w₃) (left-went o₃ c₃ (w₃ .few) way₂ o₄ r is₂ w₄)
 
 -- what the links give
 pub stored-here : (rooms : List ℕ) (used n m s x : ℕ) → Searchable rooms used n m → s < 2 → x ≡ fieldAt rooms m s → (x ≡ 0 → ⊥) → x - 1 < n
@@ -155,6 +225,15 @@ next-here rooms used n m s x h hs read some =
 pub roomy-again : (size : ℕ) (o o' : List ℕ) (count r : ℕ) → Roomy size o count → length o' ≡ length o → r ≤ size → Roomy size o' r
 roomy-again size o o' count r h e few = record { some = h .some; most = h .most; few = few; long = omega (arith, h .long) }
 
+-- the rooms left above the one that a side leads to, counted for the measure of the walk
+abbrev pub leftAbove : ℕ → ℕ → ℕ
+leftAbove used zero = 0
+leftAbove used (suc k) = (used - k) * 2 + 1
+
+pub node-falls : (used way : ℕ) → (way ≡ 0 → ⊥) → (used - (way - 1)) * 2 < leftAbove used way
+node-falls used zero some = absurd (some refl)
+node-falls used (suc k) some = omega arith
+
 -- claim k has its d coordinates in the lent memory
 pub claim-inside : (d n k : ℕ) (coordinates : List ℤ) → Located d n coordinates → k < n → k * d + d ≤ length coordinates
 claim-inside d n k coordinates h hk = let p : suc k * d ≤ n * d = mul-le-mul-right d hk in omega (arith, h .inside)
@@ -163,27 +242,27 @@ pub in-sight : (ask : Asked) (references : List ℕ) (coordinates probe : List �
 in-sight ask references coordinates probe k h hk =
     record { narrow = h .located .narrow; inside = claim-inside (ask .d) (ask .claims) k coordinates (h .located) hk; aimed = h .aimed }
 
-pub side-ready : (rooms references : List ℕ) (coordinates probe : List ℤ) (ask : Asked) (m s a xd x b yd y : ℕ) (o₀ : List ℕ) (c₀ : ℕ) (o : List ℕ) (count : ℕ)
-    → NodeAsk rooms references coordinates probe ask m o₀ c₀ → s < 2
-    → a ≡ fieldAt rooms m s → xd ≡ distBy ask coordinates probe (a - 1) → x ≡ rank (ask .order) xd
-    → b ≡ fieldAt rooms m (1 - s) → yd ≡ distBy ask coordinates probe (b - 1) → y ≡ rank (ask .order) yd
-    → length o ≡ length o₀ → count ≤ ask .size → SideAsk rooms references coordinates probe ask m s x y o count
-side-ready rooms references coordinates probe ask m s a xd x b yd y o₀ c₀ o count h hs read px rx read' py ry len few =
-    record {
-      which = hs;
-      walk = h .walk;
-      lent = h .lent;
-      least = rw (← read, ← px, ← rx) (le-refl x);
-      most = rw (← read, ← px, ← rx) (le-refl x);
-      beside = rw (← read', ← py, ← ry) (le-refl y);
-      roomy = roomy-again (ask .size) o₀ o c₀ count (h .roomy) len few;
-    }
+module _ (rooms references : List ℕ) (coordinates probe : List ℤ) (ask : Asked) (m : ℕ) (o₀ : List ℕ) (c₀ : ℕ) (h : NodeAsk rooms references coordinates probe ask m o₀ c₀)
+    (s : ℕ) (hs : s < 2) (o : List ℕ) (count : ℕ) where
+  pub way-ready : length o ≡ length o₀ → count ≤ ask .size → WayAsk rooms ask m s o count
+  way-ready len few = record { which = hs; inside = omega (arith, h .walk .room, h .walk .inUse); roomy = roomy-again (ask .size) o₀ o c₀ count (h .roomy) len few }
 
-pub node-ready : (rooms references : List ℕ) (coordinates probe : List ℤ) (ask : Asked) (m s x y : ℕ) (o : List ℕ) (count below : ℕ)
-    → SideAsk rooms references coordinates probe ask m s x y o count → below ≡ fieldAt rooms m (4 + s) → (below ≡ 0 → ⊥)
-    → NodeAsk rooms references coordinates probe ask (below - 1) o count
-node-ready rooms references coordinates probe ask m s x y o count below h read some =
-    record { walk = next-here rooms (ask .used) (ask .claims) m s below (h .walk) (h .which) read some; lent = h .lent; roomy = h .roomy }
+  module _ (x y way : ℕ) (is : way ≡ wayDown rooms ask m s x y o count) where
+    pub side-ready : length o ≡ length o₀ → count ≤ ask .size → SideAsk rooms references coordinates probe ask way o count
+    side-ready len few =
+        record {
+          walk = λ some. next-here rooms (ask .used) (ask .claims) m s way (h .walk) hs (way-leads ask rooms m s x y o count way is some) some;
+          lent = h .lent;
+          roomy = roomy-again (ask .size) o₀ o c₀ count (h .roomy) len few;
+        }
+
+    pub side-falls : leftAbove (ask .used) way < (ask .used - m) * 2
+    side-falls =
+        go way (λ some. rises-here rooms (ask .used) (ask .claims) m s way (h .walk) hs (way-leads ask rooms m s x y o count way is some) some)
+      where
+        go : (w : ℕ) → ((w ≡ 0 → ⊥) → m < w - 1) → leftAbove (ask .used) w < (ask .used - m) * 2
+        go zero f = omega (arith, h .walk .inUse)
+        go (suc k) f = let q : m < suc k - 1 = f (λ z. omega arith) in omega (arith, h .walk .inUse)
 
 -- the page
 module _ (rooms references : List ℕ) (coordinates probe : List ℤ) (ask : Asked) (o : List ℕ) (asks : PageAsk rooms references coordinates probe ask o) where

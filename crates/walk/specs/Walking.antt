@@ -1,17 +1,17 @@
 -- What the walk of a room and of a side ask and give. Definitions only.
 use Prim.Native.Nat.{ℕ, _+_, _-_, _*_, _<_, _≤_}
 use mathlib.Core.Path.{_≡_}
-use mathlib.Core.Bool.{Bool}
+use mathlib.Core.Bool.{Bool, cond}
 use mathlib.Core.List.{List}
 use lib.IntN.{ℤ}
 use lib.ListN.{length, getD, drop}
 use Rattle.paper.specs.Points.{measureOf, distance}
 use Rattle.paper.specs.Tree.{fieldAt, apart}
-use Rattle.tree.specs.Rooms.{Holds, Searchable, Neartree, Located}
+use Rattle.tree.specs.Rooms.{Inside, Holds, Searchable, Neartree, Located}
 use Rattle.keep.specs.declared.Asked.{Asked}
 use Rattle.keep.specs.Page.{ranks, Filled}
 use Rattle.keep.specs.Kept.{Roomy, Walked}
-use Rattle.keep.specs.Skips.{admitted}
+use Rattle.keep.specs.Skips.{admitted, boundOf, beyondOf, passedOf}
 
 -- the reference of claim k
 abbrev pub refOf : List ℕ → ℕ → ℕ
@@ -57,6 +57,18 @@ pub record Below (rooms : List ℕ) (e : ℕ → ℕ → ℕ) (m s k j : ℕ) : 
   pub leads : fieldAt rooms m (4 + s) ≡ room + 1
   pub holds : Holds rooms e room j
 
+-- a claim in or below room `way` less one; none where `way` is 0
+pub record Reached (rooms : List ℕ) (e : ℕ → ℕ → ℕ) (way j : ℕ) : Type 0 where
+  pub some : way ≡ 0 → ⊥
+  pub holds : Holds rooms e (way - 1) j
+
+-- the room below side s of room m, plus one, or 0 where all below comes before the mark or is beyond what is still wanted: the side's
+-- claim is at rank x, the other side's at rank y
+unfoldable pub wayDown : List ℕ → Asked → ℕ → ℕ → ℕ → ℕ → List ℕ → ℕ → ℕ
+wayDown rooms ask m s x y o count =
+    cond (passedOf ask x (fieldAt rooms m (2 + s))) 0
+    (cond (beyondOf (ask .order) (boundOf ask o count) x y s (fieldAt rooms m (2 + s))) 0 (fieldAt rooms m (4 + s)))
+
 -- what the question's walk over the claims of C does
 abbrev pub AskWalked : Asked → List ℕ → (ℕ → ℕ) → (ℕ → Type 0) → List ℕ → ℕ → List ℕ → ℕ → Type 0
 AskWalked ask references dist C o count o' r = Walked (ask .order) (refOf references) dist (okBy ask dist) (ask .claims) (ask .size) C o count o' r
@@ -84,14 +96,16 @@ pub record NodeAsk (rooms references : List ℕ) (coordinates probe : List ℤ) 
   pub lent : Lent ask references coordinates probe
   pub roomy : Roomy (ask .size) o count
 
--- what the walk below side s asks: the side's claim is at rank x, the other side's at rank y or before
-pub record SideAsk (rooms references : List ℕ) (coordinates probe : List ℤ) (ask : Asked) (m s x y : ℕ) (o : List ℕ) (count : ℕ) : Type 0 where
+-- what the tests of side s of room m ask
+pub record WayAsk (rooms : List ℕ) (ask : Asked) (m s : ℕ) (o : List ℕ) (count : ℕ) : Type 0 where
   pub which : s < 2
-  pub walk : Searchable rooms (ask .used) (ask .claims) m
+  pub inside : Inside rooms m
+  pub roomy : Roomy (ask .size) o count
+
+-- what the walk below a side asks
+pub record SideAsk (rooms references : List ℕ) (coordinates probe : List ℤ) (ask : Asked) (way : ℕ) (o : List ℕ) (count : ℕ) : Type 0 where
+  pub walk : (way ≡ 0 → ⊥) → Searchable rooms (ask .used) (ask .claims) (way - 1)
   pub lent : Lent ask references coordinates probe
-  pub least : x ≤ rankBy ask (distBy ask coordinates probe) (fieldAt rooms m s - 1)
-  pub most : rankBy ask (distBy ask coordinates probe) (fieldAt rooms m s - 1) ≤ x
-  pub beside : rankBy ask (distBy ask coordinates probe) (fieldAt rooms m (1 - s) - 1) ≤ y
   pub roomy : Roomy (ask .size) o count
 
 -- what a page asks

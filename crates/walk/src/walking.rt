@@ -1,9 +1,7 @@
 // One walk for every order and every question. It keeps the first so many claims, in order, in the front of the caller's room.
 ghost use mathlib.Core.Path.{_≡_};
-ghost use Prim.Native.Nat.{_-_};
-ghost use Rattle.paper.specs.Tree.{fieldAt};
 ghost use Rattle.tree.specs.Rooms.{Holds};
-ghost use Rattle.walk.specs.Walking.{distOf, distBy, InSight, apartBy, Below, AskWalked, Stepped, StepAsk, NodeAsk, SideAsk, PageAsk, AskFilled};
+ghost use Rattle.walk.specs.Walking.{distOf, distBy, InSight, apartBy, wayDown, WayAsk, Reached, AskWalked, Stepped, StepAsk, NodeAsk, SideAsk, PageAsk, AskFilled};
 use keep::Asked;
 use tree::rooms::field;
 
@@ -31,6 +29,37 @@ fn consider(refs: &[u32], ask: Asked, k: u64, x: u64, room: &mut [u64], count: u
         return keep::keep(order, ask.size, room, count, k, wide(refs[k as usize]), x);
     }
     count
+}
+
+// The room to go to below side s of room m, plus one, or 0 where no claim below can change the answer. The side's claim is at rank x,
+// the other side's at rank y.
+fn way_down(
+    rooms: &[u64],
+    ask: Asked,
+    m: usize,
+    s: usize,
+    x: u64,
+    y: u64,
+    room: &[u64],
+    count: usize,
+) -> u64
+    requires { ⌜ WayAsk (now rooms) ask m s (now room) count ⌝ }
+    ensures { λ r. ⌜ r ≡ wayDown (now (rooms .entry)) ask m s x y (now (room .entry)) count ⌝ }
+{
+    let below = field(rooms, m, 4 + s);
+    if below == 0 {
+        return 0;
+    }
+    let far = field(rooms, m, 2 + s);
+    if keep::passed(ask, x, far) {
+        return 0;
+    }
+    let order = ask.order;
+    let bound = keep::wanted(ask, room, count);
+    if keep::beyond(order, bound, x, y, s, far) {
+        return 0;
+    }
+    below
 }
 
 // The claims on and below the two sides of room m, the nearer side first.
@@ -61,44 +90,36 @@ fn node(
     let rl = keep::rank(order, xl);
     let rr = keep::rank(order, xr);
     if rr < rl {
-        let three = side(rooms, refs, points, probe, ask, m, 1, rr, rl, room, two);
-        return side(rooms, refs, points, probe, ask, m, 0, rl, rr, room, three);
+        let first = way_down(rooms, ask, m, 1, rr, rl, room, two);
+        let three = side(rooms, refs, points, probe, ask, first, room, two);
+        let second = way_down(rooms, ask, m, 0, rl, rr, room, three);
+        return side(rooms, refs, points, probe, ask, second, room, three);
     }
-    let three = side(rooms, refs, points, probe, ask, m, 0, rl, rr, room, two);
-    side(rooms, refs, points, probe, ask, m, 1, rr, rl, room, three)
+    let first = way_down(rooms, ask, m, 0, rl, rr, room, two);
+    let three = side(rooms, refs, points, probe, ask, first, room, two);
+    let second = way_down(rooms, ask, m, 1, rr, rl, room, three);
+    side(rooms, refs, points, probe, ask, second, room, three)
 }
 
-// The claims below side s of room m, whose claim is at rank x; the other side's is at rank y.
+// The claims below a side, where `way` is the room below it plus one, or 0 where none of them can change the answer. The tests are
+// made before the call: so short a function is compiled into `node`, and a level of the tree takes the stack of one call, not of two.
 fn side(
     rooms: &[u64],
     refs: &[u32],
     points: &[i32],
     probe: &[i32],
     ask: Asked,
-    m: usize,
-    s: usize,
-    x: u64,
-    y: u64,
+    way: u64,
     room: &mut [u64],
     count: usize,
 ) -> usize
-    requires { ⌜ SideAsk (now rooms) (now refs) (now points) (now probe) ask m s x y (now room) count ⌝ }
-    ensures { λ r. ⌜ AskWalked ask (now (refs .entry)) (distBy ask (now (points .entry)) (now (probe .entry))) (Below (now (rooms .entry)) (apartBy ask (now (points .entry))) m s (fieldAt (now (rooms .entry)) m s - 1)) (now (room .entry)) count (now (room .exit)) r ⌝ }
+    requires { ⌜ SideAsk (now rooms) (now refs) (now points) (now probe) ask way (now room) count ⌝ }
+    ensures { λ r. ⌜ AskWalked ask (now (refs .entry)) (distBy ask (now (points .entry)) (now (probe .entry))) (Reached (now (rooms .entry)) (apartBy ask (now (points .entry))) way) (now (room .entry)) count (now (room .exit)) r ⌝ }
 {
-    let below = field(rooms, m, 4 + s);
-    if below == 0 {
+    if way == 0 {
         return count;
     }
-    let far = field(rooms, m, 2 + s);
-    if keep::passed(ask, x, far) {
-        return count;
-    }
-    let order = ask.order;
-    let bound = keep::wanted(ask, room, count);
-    if keep::beyond(order, bound, x, y, s, far) {
-        return count;
-    }
-    let next = (below - 1) as usize;
+    let next = (way - 1) as usize;
     node(rooms, refs, points, probe, ask, next, room, count)
 }
 

@@ -1,22 +1,19 @@
 -- The pair `node` and `side` meets its contracts: a node is answered through its two sides, a side through the node below it. The rooms
--- left above the node number fall at each call: the measure is twice as many, and one more for `node`. Assumes nothing.
-use Prim.Native.Nat.{ℕ, _+_, _-_, _*_, _<_}
-use mathlib.Core.Path.{sym, _∙_}
+-- left above the node number fall at each call: the measure is twice as many, and one more for `side`. Assumes nothing.
+use Prim.Native.Nat.{ℕ, _-_, _*_, _<_}
+use mathlib.Core.Path.{_∙_}
 use native.Mathlib.Omega.{arith}
 use lib.Dec.{lit<}
-use borrow.Author.Needs.{needs}
 use borrow.Fn.Kinds.{In}
 use borrow.Fn.PlainCycle.{Measures, is, falls, and}
-use Rattle.keep.proofs.beyond.Reads as beyond-reads
-use Rattle.keep.proofs.passed.Reads as passed-reads
 use Rattle.keep.proofs.rank.Reads as rank-reads
-use Rattle.keep.proofs.wanted.Reads as wanted-reads
 use Rattle.tree.proofs.rooms.field.Reads as field-reads
 use Rattle.walk.specs.Walking.{distBy, apartBy}
 use Rattle.walk.proofs.Skipping.{metric}
-use Rattle.walk.proofs.Ways.{side-none, side-passed, side-beyond, side-down, node-one, node-left-first, node-right-first, stored-here, left-here, rises-here, in-sight, side-ready, node-ready, roomy-again}
+use Rattle.walk.proofs.Ways.{side-none, side-down, node-one, node-left-first, node-right-first, stored-here, left-here, in-sight, way-ready, side-ready, side-falls, leftAbove, node-falls, roomy-again}
 use Rattle.walk.proofs.walking.consider.Reads as consider-reads
 use Rattle.walk.proofs.walking.from_probe.Reads as from-probe-reads
+use Rattle.walk.proofs.walking.way_down.Reads as way-down-reads
 use Rattle.walk.proofs.walking.node.Reads as node
 use Rattle.walk.proofs.walking.node.Kinds as node-kinds
 use Rattle.walk.proofs.walking.side.Reads as side
@@ -27,10 +24,10 @@ use Rattle.walk.proofs.walking.+node+side.{statement}
 use Rattle.walk.proofs.walking.+node+side.Tie.{close}
 
 abbrev μ-node : Measures 5 node-kinds.ps ℕ
-μ-node κs a = (a .1 .1 .1 .1 .0 .used - a .1 .1 .1 .1 .1 .0) * 2 + 1
+μ-node κs a = (a .1 .1 .1 .1 .0 .used - a .1 .1 .1 .1 .1 .0) * 2
 
 abbrev μ-side : Measures 5 side-kinds.ps ℕ
-μ-side κs a = (a .1 .1 .1 .1 .0 .used - a .1 .1 .1 .1 .1 .0) * 2
+μ-side κs a = leftAbove (a .1 .1 .1 .1 .0 .used) (a .1 .1 .1 .1 .1 .0)
 
 abbrev node-at : ℕ → In 5 node-kinds.ps
 node-at t = and 5 node-kinds.ps (is 5 node-kinds.ps μ-node t) node.Pre
@@ -54,23 +51,14 @@ node-calls t = (
   consider-reads.Learnt,
   rank-reads.Asked,
   rank-reads.Learnt,
+  way-down-reads.Asked,
+  way-down-reads.Learnt,
   side-below t,
   side.Post,
 )
 
 abbrev side-calls : ℕ → side-lts.Claims
-side-calls t = (
-  field-reads.Asked,
-  field-reads.Learnt,
-  passed-reads.Asked,
-  passed-reads.Learnt,
-  wanted-reads.Asked,
-  wanted-reads.Learnt,
-  beyond-reads.Asked,
-  beyond-reads.Learnt,
-  node-below t,
-  node.Post,
-)
+side-calls t = (node-below t, node.Post)
 
 node-field-requires : (t : ℕ) → node-lts.Need-field-requires (node-calls t) (node-at t) node.Post
 node-field-requires t c κs = let p = c .before .before .before .pre .1 .walk in omega arith
@@ -108,79 +96,61 @@ node-rank-requires t c κs = tt
 node-rank-requires-2 : (t : ℕ) → node-lts.Need-rank-requires-2 (node-calls t) (node-at t) node.Post
 node-rank-requires-2 t c κs = tt
 
+node-way-down-requires : (t : ℕ) → node-lts.Need-way-down-requires (node-calls t) (node-at t) node.Post
+node-way-down-requires t c κs = way-ready _ _ _ _ _ _ _ _ (c .before .before .before .before .before .before .before .before .before .before .before .before .before .before .before .before .before .before .before .before .pre .1) 1 (lit< tt) _ _ (c .before .before .before .before .before .before .consider2 .kept .1 .1 .1 .1 .0 ∙ c .before .before .before .before .before .before .before .before .before .before .before .before .before .consider .kept .1 .1 .1 .1 .0) (c .before .before .before .before .before .before .consider2 .ensures .few)
+
 node-side-requires : (t : ℕ) → node-lts.Need-side-requires (node-calls t) (node-at t) node.Post
-node-side-requires t c κs = (omega (arith, c .before .before .before .before .before .before .before .before .before .before .before .before .before .before .before .before .before .before .before .before .pre .0), side-ready _ _ _ _ _ _ _ _ _ _ _ _ _ _ _ _ _ (c .before .before .before .before .before .before .before .before .before .before .before .before .before .before .before .before .before .before .before .before .pre .1) (lit< tt) (c .before .before .before .before .before .before .before .before .before .before .field2 .ensures) (c .before .before .before .before .before .before .before .before .from-probe2 .ensures) (c .before .before .rank2 .ensures) (c .before .before .before .before .before .before .before .before .before .before .before .before .before .before .before .before .field .ensures) (c .before .before .before .before .before .before .before .before .before .before .before .before .before .before .before .from-probe .ensures) (c .before .before .before .rank .ensures) (c .before .before .before .before .before .before .consider2 .kept .1 .1 .1 .1 .0 ∙ c .before .before .before .before .before .before .before .before .before .before .before .before .before .consider .kept .1 .1 .1 .1 .0) (c .before .before .before .before .before .before .consider2 .ensures .few))
+node-side-requires t c κs = let h = c .before .before .before .before .before .before .before .before .before .before .before .before .before .before .before .before .before .before .before .before .before .before .pre .0 in let q = side-falls _ _ _ _ _ _ _ _ (c .before .before .before .before .before .before .before .before .before .before .before .before .before .before .before .before .before .before .before .before .before .before .pre .1) 1 (lit< tt) _ _ _ _ _ (c .before .way-down .ensures) in (omega (arith, h, q), side-ready _ _ _ _ _ _ _ _ (c .before .before .before .before .before .before .before .before .before .before .before .before .before .before .before .before .before .before .before .before .before .before .pre .1) 1 (lit< tt) _ _ _ _ _ (c .before .way-down .ensures) (c .before .before .before .before .before .before .before .before .consider2 .kept .1 .1 .1 .1 .0 ∙ c .before .before .before .before .before .before .before .before .before .before .before .before .before .before .before .consider .kept .1 .1 .1 .1 .0) (c .before .before .before .before .before .before .before .before .consider2 .ensures .few))
+
+node-way-down-requires-2 : (t : ℕ) → node-lts.Need-way-down-requires-2 (node-calls t) (node-at t) node.Post
+node-way-down-requires-2 t c κs = way-ready _ _ _ _ _ _ _ _ (c .before .before .before .before .before .before .before .before .before .before .before .before .before .before .before .before .before .before .before .before .before .before .before .before .before .before .pre .1) 0 (lit< tt) _ _ (c .before .before .before .side .kept .1 .1 .1 .1 .1 .1 .0 ∙ c .before .before .before .before .before .before .before .before .before .before .before .before .consider2 .kept .1 .1 .1 .1 .0 ∙ c .before .before .before .before .before .before .before .before .before .before .before .before .before .before .before .before .before .before .before .consider .kept .1 .1 .1 .1 .0) (c .before .before .before .side .ensures .few)
 
 node-side-requires-2 : (t : ℕ) → node-lts.Need-side-requires-2 (node-calls t) (node-at t) node.Post
-node-side-requires-2 t c κs = (omega (arith, c .before .before .before .before .before .before .before .before .before .before .before .before .before .before .before .before .before .before .before .before .before .before .before .before .pre .0), side-ready _ _ _ _ _ _ _ _ _ _ _ _ _ _ _ _ _ (c .before .before .before .before .before .before .before .before .before .before .before .before .before .before .before .before .before .before .before .before .before .before .before .before .pre .1) (lit< tt) (c .before .before .before .before .before .before .before .before .before .before .before .before .before .before .before .before .before .before .before .before .field .ensures) (c .before .before .before .before .before .before .before .before .before .before .before .before .before .before .before .before .before .before .before .from-probe .ensures) (c .before .before .before .before .before .before .before .rank .ensures) (c .before .before .before .before .before .before .before .before .before .before .before .before .before .before .field2 .ensures) (c .before .before .before .before .before .before .before .before .before .before .before .before .from-probe2 .ensures) (c .before .before .before .before .before .before .rank2 .ensures) (c .before .before .before .side .kept .1 .1 .1 .1 .1 .1 .1 .1 .1 .0 ∙ c .before .before .before .before .before .before .before .before .before .before .consider2 .kept .1 .1 .1 .1 .0 ∙ c .before .before .before .before .before .before .before .before .before .before .before .before .before .before .before .before .before .consider .kept .1 .1 .1 .1 .0) (c .before .before .before .side .ensures .few))
+node-side-requires-2 t c κs = let h = c .before .before .before .before .before .before .before .before .before .before .before .before .before .before .before .before .before .before .before .before .before .before .before .before .before .before .before .before .pre .0 in let q = side-falls _ _ _ _ _ _ _ _ (c .before .before .before .before .before .before .before .before .before .before .before .before .before .before .before .before .before .before .before .before .before .before .before .before .before .before .before .before .pre .1) 0 (lit< tt) _ _ _ _ _ (c .before .way-down2 .ensures) in (omega (arith, h, q), side-ready _ _ _ _ _ _ _ _ (c .before .before .before .before .before .before .before .before .before .before .before .before .before .before .before .before .before .before .before .before .before .before .before .before .before .before .before .before .pre .1) 0 (lit< tt) _ _ _ _ _ (c .before .way-down2 .ensures) (c .before .before .before .before .before .side .kept .1 .1 .1 .1 .1 .1 .0 ∙ c .before .before .before .before .before .before .before .before .before .before .before .before .before .before .consider2 .kept .1 .1 .1 .1 .0 ∙ c .before .before .before .before .before .before .before .before .before .before .before .before .before .before .before .before .before .before .before .before .before .consider .kept .1 .1 .1 .1 .0) (c .before .before .before .before .before .side .ensures .few))
 
 node-same-length-2 : (t : ℕ) → node-lts.Need-same-length-2 (node-calls t) (node-at t) node.Post
-node-same-length-2 t c = c .before .before .side2 .kept .1 .1 .1 .1 .1 .1 .1 .1 .1 .0 ∙ c .before .before .before .before .before .before .side .kept .1 .1 .1 .1 .1 .1 .1 .1 .1 .0 ∙ c .before .before .before .before .before .before .before .before .before .before .before .before .before .consider2 .kept .1 .1 .1 .1 .0 ∙ c .before .before .before .before .before .before .before .before .before .before .before .before .before .before .before .before .before .before .before .before .consider .kept .1 .1 .1 .1 .0
+node-same-length-2 t c = c .before .before .side2 .kept .1 .1 .1 .1 .1 .1 .0 ∙ c .before .before .before .before .before .before .before .before .side .kept .1 .1 .1 .1 .1 .1 .0 ∙ c .before .before .before .before .before .before .before .before .before .before .before .before .before .before .before .before .before .consider2 .kept .1 .1 .1 .1 .0 ∙ c .before .before .before .before .before .before .before .before .before .before .before .before .before .before .before .before .before .before .before .before .before .before .before .before .consider .kept .1 .1 .1 .1 .0
 
 node-returns-2 : (t : ℕ) → node-lts.Need-returns-2 (node-calls t) (node-at t) node.Post
-node-returns-2 t c = let a = c .before .before .before .before .before .before .before .before .before .before .before .before .before .before .before .before .before .before .before .before .before .before .before .before .before .before .before .args in node-right-first (a .ask) (a .refs .now) (a .rooms .now) (apartBy (a .ask) (a .points .now)) (distBy (a .ask) (a .points .now) (a .probe .now)) _ _ _ _ (c .before .before .before .before .before .before .before .before .before .before .before .before .before .before .before .before .before .before .before .before .before .before .before .field .ensures) _ (c .before .before .before .before .before .before .before .before .before .before .before .before .before .before .before .before .before .field2 .ensures) _ (c .before .before .before .before .before .before .before .before .before .before .before .before .before .before .before .before .before .before .before .before .before .before .from-probe .ensures) _ _ (c .before .before .before .before .before .before .before .before .before .before .before .before .before .before .before .before .before .before .before .before .consider .ensures) _ (c .before .before .before .before .before .before .before .before .before .before .before .before .before .before .before .from-probe2 .ensures) _ _ (c .before .before .before .before .before .before .before .before .before .before .before .before .before .consider2 .ensures) _ _ _ _ (c .before .before .before .before .before .before .side .ensures) (c .before .before .side2 .ensures)
+node-returns-2 t c = let a = c .before .before .before .before .before .before .before .before .before .before .before .before .before .before .before .before .before .before .before .before .before .before .before .before .before .before .before .before .before .before .before .args in let p = c .before .before .before .before .before .before .before .before .before .before .before .before .before .before .before .before .before .before .before .before .before .before .before .before .before .before .before .before .before .before .before .pre .1 in node-right-first (a .ask) (a .refs .now) (a .rooms .now) (apartBy (a .ask) (a .points .now)) (distBy (a .ask) (a .points .now) (a .probe .now)) _ _ _ _ (c .before .before .before .before .before .before .before .before .before .before .before .before .before .before .before .before .before .before .before .before .before .before .before .before .before .before .before .field .ensures) _ (c .before .before .before .before .before .before .before .before .before .before .before .before .before .before .before .before .before .before .before .before .before .field2 .ensures) _ (c .before .before .before .before .before .before .before .before .before .before .before .before .before .before .before .before .before .before .before .before .before .before .before .before .before .before .from-probe .ensures) _ _ (c .before .before .before .before .before .before .before .before .before .before .before .before .before .before .before .before .before .before .before .before .before .before .before .before .consider .ensures) _ (c .before .before .before .before .before .before .before .before .before .before .before .before .before .before .before .before .before .before .before .from-probe2 .ensures) _ _ (c .before .before .before .before .before .before .before .before .before .before .before .before .before .before .before .before .before .consider2 .ensures) _ _ _ _ (metric (a .ask) (a .points .now) (a .probe .now)) (p .roomy .some) _ (c .before .before .before .before .before .before .before .before .before .before .before .before .before .before .rank .ensures) _ (c .before .before .before .before .before .before .before .before .before .before .before .before .before .rank2 .ensures) _ _ (c .before .before .before .before .before .before .before .before .before .before .way-down .ensures) (c .before .before .before .before .before .before .before .before .side .ensures) (c .before .before .before .before .way-down2 .ensures) (c .before .before .side2 .ensures)
+
+node-way-down-requires-3 : (t : ℕ) → node-lts.Need-way-down-requires-3 (node-calls t) (node-at t) node.Post
+node-way-down-requires-3 t c κs = way-ready _ _ _ _ _ _ _ _ (c .before .before .before .before .before .before .before .before .before .before .before .before .before .before .before .before .before .before .before .before .pre .1) 0 (lit< tt) _ _ (c .before .before .before .before .before .before .consider2 .kept .1 .1 .1 .1 .0 ∙ c .before .before .before .before .before .before .before .before .before .before .before .before .before .consider .kept .1 .1 .1 .1 .0) (c .before .before .before .before .before .before .consider2 .ensures .few)
 
 node-side-requires-3 : (t : ℕ) → node-lts.Need-side-requires-3 (node-calls t) (node-at t) node.Post
-node-side-requires-3 t c κs = (omega (arith, c .before .before .before .before .before .before .before .before .before .before .before .before .before .before .before .before .before .before .before .before .pre .0), side-ready _ _ _ _ _ _ _ _ _ _ _ _ _ _ _ _ _ (c .before .before .before .before .before .before .before .before .before .before .before .before .before .before .before .before .before .before .before .before .pre .1) (lit< tt) (c .before .before .before .before .before .before .before .before .before .before .before .before .before .before .before .before .field .ensures) (c .before .before .before .before .before .before .before .before .before .before .before .before .before .before .before .from-probe .ensures) (c .before .before .before .rank .ensures) (c .before .before .before .before .before .before .before .before .before .before .field2 .ensures) (c .before .before .before .before .before .before .before .before .from-probe2 .ensures) (c .before .before .rank2 .ensures) (c .before .before .before .before .before .before .consider2 .kept .1 .1 .1 .1 .0 ∙ c .before .before .before .before .before .before .before .before .before .before .before .before .before .consider .kept .1 .1 .1 .1 .0) (c .before .before .before .before .before .before .consider2 .ensures .few))
+node-side-requires-3 t c κs = let h = c .before .before .before .before .before .before .before .before .before .before .before .before .before .before .before .before .before .before .before .before .before .before .pre .0 in let q = side-falls _ _ _ _ _ _ _ _ (c .before .before .before .before .before .before .before .before .before .before .before .before .before .before .before .before .before .before .before .before .before .before .pre .1) 0 (lit< tt) _ _ _ _ _ (c .before .way-down3 .ensures) in (omega (arith, h, q), side-ready _ _ _ _ _ _ _ _ (c .before .before .before .before .before .before .before .before .before .before .before .before .before .before .before .before .before .before .before .before .before .before .pre .1) 0 (lit< tt) _ _ _ _ _ (c .before .way-down3 .ensures) (c .before .before .before .before .before .before .before .before .consider2 .kept .1 .1 .1 .1 .0 ∙ c .before .before .before .before .before .before .before .before .before .before .before .before .before .before .before .consider .kept .1 .1 .1 .1 .0) (c .before .before .before .before .before .before .before .before .consider2 .ensures .few))
+
+node-way-down-requires-4 : (t : ℕ) → node-lts.Need-way-down-requires-4 (node-calls t) (node-at t) node.Post
+node-way-down-requires-4 t c κs = way-ready _ _ _ _ _ _ _ _ (c .before .before .before .before .before .before .before .before .before .before .before .before .before .before .before .before .before .before .before .before .before .before .before .before .before .before .pre .1) 1 (lit< tt) _ _ (c .before .before .before .side3 .kept .1 .1 .1 .1 .1 .1 .0 ∙ c .before .before .before .before .before .before .before .before .before .before .before .before .consider2 .kept .1 .1 .1 .1 .0 ∙ c .before .before .before .before .before .before .before .before .before .before .before .before .before .before .before .before .before .before .before .consider .kept .1 .1 .1 .1 .0) (c .before .before .before .side3 .ensures .few)
 
 node-side-requires-4 : (t : ℕ) → node-lts.Need-side-requires-4 (node-calls t) (node-at t) node.Post
-node-side-requires-4 t c κs = (omega (arith, c .before .before .before .before .before .before .before .before .before .before .before .before .before .before .before .before .before .before .before .before .before .before .before .before .pre .0), side-ready _ _ _ _ _ _ _ _ _ _ _ _ _ _ _ _ _ (c .before .before .before .before .before .before .before .before .before .before .before .before .before .before .before .before .before .before .before .before .before .before .before .before .pre .1) (lit< tt) (c .before .before .before .before .before .before .before .before .before .before .before .before .before .before .field2 .ensures) (c .before .before .before .before .before .before .before .before .before .before .before .before .from-probe2 .ensures) (c .before .before .before .before .before .before .rank2 .ensures) (c .before .before .before .before .before .before .before .before .before .before .before .before .before .before .before .before .before .before .before .before .field .ensures) (c .before .before .before .before .before .before .before .before .before .before .before .before .before .before .before .before .before .before .before .from-probe .ensures) (c .before .before .before .before .before .before .before .rank .ensures) (c .before .before .before .side3 .kept .1 .1 .1 .1 .1 .1 .1 .1 .1 .0 ∙ c .before .before .before .before .before .before .before .before .before .before .consider2 .kept .1 .1 .1 .1 .0 ∙ c .before .before .before .before .before .before .before .before .before .before .before .before .before .before .before .before .before .consider .kept .1 .1 .1 .1 .0) (c .before .before .before .side3 .ensures .few))
+node-side-requires-4 t c κs = let h = c .before .before .before .before .before .before .before .before .before .before .before .before .before .before .before .before .before .before .before .before .before .before .before .before .before .before .before .before .pre .0 in let q = side-falls _ _ _ _ _ _ _ _ (c .before .before .before .before .before .before .before .before .before .before .before .before .before .before .before .before .before .before .before .before .before .before .before .before .before .before .before .before .pre .1) 1 (lit< tt) _ _ _ _ _ (c .before .way-down4 .ensures) in (omega (arith, h, q), side-ready _ _ _ _ _ _ _ _ (c .before .before .before .before .before .before .before .before .before .before .before .before .before .before .before .before .before .before .before .before .before .before .before .before .before .before .before .before .pre .1) 1 (lit< tt) _ _ _ _ _ (c .before .way-down4 .ensures) (c .before .before .before .before .before .side3 .kept .1 .1 .1 .1 .1 .1 .0 ∙ c .before .before .before .before .before .before .before .before .before .before .before .before .before .before .consider2 .kept .1 .1 .1 .1 .0 ∙ c .before .before .before .before .before .before .before .before .before .before .before .before .before .before .before .before .before .before .before .before .before .consider .kept .1 .1 .1 .1 .0) (c .before .before .before .before .before .side3 .ensures .few))
 
 node-same-length-3 : (t : ℕ) → node-lts.Need-same-length-3 (node-calls t) (node-at t) node.Post
-node-same-length-3 t c = c .before .before .side4 .kept .1 .1 .1 .1 .1 .1 .1 .1 .1 .0 ∙ c .before .before .before .before .before .before .side3 .kept .1 .1 .1 .1 .1 .1 .1 .1 .1 .0 ∙ c .before .before .before .before .before .before .before .before .before .before .before .before .before .consider2 .kept .1 .1 .1 .1 .0 ∙ c .before .before .before .before .before .before .before .before .before .before .before .before .before .before .before .before .before .before .before .before .consider .kept .1 .1 .1 .1 .0
+node-same-length-3 t c = c .before .before .side4 .kept .1 .1 .1 .1 .1 .1 .0 ∙ c .before .before .before .before .before .before .before .before .side3 .kept .1 .1 .1 .1 .1 .1 .0 ∙ c .before .before .before .before .before .before .before .before .before .before .before .before .before .before .before .before .before .consider2 .kept .1 .1 .1 .1 .0 ∙ c .before .before .before .before .before .before .before .before .before .before .before .before .before .before .before .before .before .before .before .before .before .before .before .before .consider .kept .1 .1 .1 .1 .0
 
 node-returns-3 : (t : ℕ) → node-lts.Need-returns-3 (node-calls t) (node-at t) node.Post
-node-returns-3 t c = let a = c .before .before .before .before .before .before .before .before .before .before .before .before .before .before .before .before .before .before .before .before .before .before .before .before .before .before .before .args in node-left-first (a .ask) (a .refs .now) (a .rooms .now) (apartBy (a .ask) (a .points .now)) (distBy (a .ask) (a .points .now) (a .probe .now)) _ _ _ _ (c .before .before .before .before .before .before .before .before .before .before .before .before .before .before .before .before .before .before .before .before .before .before .before .field .ensures) _ (c .before .before .before .before .before .before .before .before .before .before .before .before .before .before .before .before .before .field2 .ensures) _ (c .before .before .before .before .before .before .before .before .before .before .before .before .before .before .before .before .before .before .before .before .before .before .from-probe .ensures) _ _ (c .before .before .before .before .before .before .before .before .before .before .before .before .before .before .before .before .before .before .before .before .consider .ensures) _ (c .before .before .before .before .before .before .before .before .before .before .before .before .before .before .before .from-probe2 .ensures) _ _ (c .before .before .before .before .before .before .before .before .before .before .before .before .before .consider2 .ensures) _ _ _ _ (c .before .before .before .before .before .before .side3 .ensures) (c .before .before .side4 .ensures)
-
-side-add-field : (t : ℕ) → side-lts.Need-add-field (side-calls t) (side-at t) side.Post
-side-add-field t c = let p = c .before .before .before .pre .1 .which in omega arith
-
-side-field-requires : (t : ℕ) → side-lts.Need-field-requires (side-calls t) (side-at t) side.Post
-side-field-requires t c κs = let q = c .before .before .before .pre .1 .which in let p = c .before .before .before .pre .1 .walk in omega arith
+node-returns-3 t c = let a = c .before .before .before .before .before .before .before .before .before .before .before .before .before .before .before .before .before .before .before .before .before .before .before .before .before .before .before .before .before .before .before .args in let p = c .before .before .before .before .before .before .before .before .before .before .before .before .before .before .before .before .before .before .before .before .before .before .before .before .before .before .before .before .before .before .before .pre .1 in node-left-first (a .ask) (a .refs .now) (a .rooms .now) (apartBy (a .ask) (a .points .now)) (distBy (a .ask) (a .points .now) (a .probe .now)) _ _ _ _ (c .before .before .before .before .before .before .before .before .before .before .before .before .before .before .before .before .before .before .before .before .before .before .before .before .before .before .before .field .ensures) _ (c .before .before .before .before .before .before .before .before .before .before .before .before .before .before .before .before .before .before .before .before .before .field2 .ensures) _ (c .before .before .before .before .before .before .before .before .before .before .before .before .before .before .before .before .before .before .before .before .before .before .before .before .before .before .from-probe .ensures) _ _ (c .before .before .before .before .before .before .before .before .before .before .before .before .before .before .before .before .before .before .before .before .before .before .before .before .consider .ensures) _ (c .before .before .before .before .before .before .before .before .before .before .before .before .before .before .before .before .before .before .before .from-probe2 .ensures) _ _ (c .before .before .before .before .before .before .before .before .before .before .before .before .before .before .before .before .before .consider2 .ensures) _ _ _ _ (metric (a .ask) (a .points .now) (a .probe .now)) (p .roomy .some) _ (c .before .before .before .before .before .before .before .before .before .before .before .before .before .before .rank .ensures) _ (c .before .before .before .before .before .before .before .before .before .before .before .before .before .rank2 .ensures) _ _ (c .before .before .before .before .before .before .before .before .before .before .way-down3 .ensures) (c .before .before .before .before .before .before .before .before .side3 .ensures) (c .before .before .before .before .way-down4 .ensures) (c .before .before .side4 .ensures)
 
 side-returns : (t : ℕ) → side-lts.Need-returns (side-calls t) (side-at t) side.Post
-side-returns t c = let a = c .before .before .before .before .before .args in let p = c .before .before .before .before .before .pre .1 in side-none (a .ask) (a .refs .now) (a .rooms .now) (apartBy (a .ask) (a .points .now)) (distBy (a .ask) (a .points .now) (a .probe .now)) _ _ _ _ _ (c .before .field .ensures) (p .roomy) (c .if1 .taken)
-
-side-add-field-2 : (t : ℕ) → side-lts.Need-add-field-2 (side-calls t) (side-at t) side.Post
-side-add-field-2 t c = let p = c .before .before .before .before .before .pre .1 .which in omega arith
-
-side-field-requires-2 : (t : ℕ) → side-lts.Need-field-requires-2 (side-calls t) (side-at t) side.Post
-side-field-requires-2 t c κs = let q = c .before .before .before .before .before .pre .1 .which in let p = c .before .before .before .before .before .pre .1 .walk in omega arith
-
-side-passed-requires : (t : ℕ) → side-lts.Need-passed-requires (side-calls t) (side-at t) side.Post
-side-passed-requires t c κs = tt
-
-side-returns-2 : (t : ℕ) → side-lts.Need-returns-2 (side-calls t) (side-at t) side.Post
-side-returns-2 t c = let a = c .before .before .before .before .before .before .before .before .args in let p = c .before .before .before .before .before .before .before .before .pre .1 in side-passed (a .ask) (a .refs .now) (a .rooms .now) (apartBy (a .ask) (a .points .now)) (distBy (a .ask) (a .points .now) (a .probe .now)) _ _ _ _ _ (c .before .before .before .before .field .ensures) (p .roomy) _ _ (metric (a .ask) (a .points .now) (a .probe .now)) (p .most) (c .before .before .field2 .ensures) (sym (c .before .passed .ensures) ∙ c .if2 .taken)
-
-side-wanted-requires : (t : ℕ) → side-lts.Need-wanted-requires (side-calls t) (side-at t) side.Post
-side-wanted-requires t c κs = c .before .before .before .before .before .before .before .before .before .pre .1 .roomy
-
-side-beyond-requires : (t : ℕ) → side-lts.Need-beyond-requires (side-calls t) (side-at t) side.Post
-side-beyond-requires t c κs = c .before .before .before .before .before .before .before .before .before .before .pre .1 .which
-
-side-same-length : (t : ℕ) → side-lts.Need-same-length (side-calls t) (side-at t) side.Post
-side-same-length t c = search needs
-
-side-returns-3 : (t : ℕ) → side-lts.Need-returns-3 (side-calls t) (side-at t) side.Post
-side-returns-3 t c = let a = c .before .before .before .before .before .before .before .before .before .before .before .before .args in let p = c .before .before .before .before .before .before .before .before .before .before .before .before .pre .1 in side-beyond (a .ask) (a .refs .now) (a .rooms .now) (apartBy (a .ask) (a .points .now)) (distBy (a .ask) (a .points .now) (a .probe .now)) _ _ _ _ _ (c .before .before .before .before .before .before .before .before .field .ensures) (p .roomy) _ _ _ _ (metric (a .ask) (a .points .now) (a .probe .now)) (p .least) (p .beside) (c .before .before .before .before .before .before .field2 .ensures) (c .before .before .wanted .ensures) (sym (c .before .beyond .ensures) ∙ c .if3 .taken)
+side-returns t c = let a = c .before .before .before .before .args in side-none (a .ask) (a .refs .now) (a .rooms .now) (apartBy (a .ask) (a .points .now)) (distBy (a .ask) (a .points .now) (a .probe .now)) _ _ _ (c .before .before .before .before .pre .1 .roomy .few) (c .if1 .taken)
 
 side-sub-next : (t : ℕ) → side-lts.Need-sub-next (side-calls t) (side-at t) side.Post
-side-sub-next t c = let h = c .before .before .before .before .before .before .before .if1 .left in omega arith
+side-sub-next t c = let h = c .if1 .left in omega arith
 
 side-node-requires : (t : ℕ) → side-lts.Need-node-requires (side-calls t) (side-at t) side.Post
-side-node-requires t c κs = let p = c .before .before .before .before .before .before .before .before .before .before .before .before .before .pre .1 in (omega (arith, c .before .before .before .before .before .before .before .before .before .before .before .before .before .pre .0, p .walk .inUse, rises-here _ _ _ _ _ _ (p .walk) (p .which) (c .before .before .before .before .before .before .before .before .before .field .ensures) (c .before .before .before .before .before .before .before .before .if1 .left)), node-ready _ _ _ _ _ _ _ _ _ _ _ _ p (c .before .before .before .before .before .before .before .before .before .field .ensures) (c .before .before .before .before .before .before .before .before .if1 .left))
+side-node-requires t c κs = let a = c .before .before .before .before .before .args in let p = c .before .before .before .before .before .pre .1 in let h = c .before .before .before .before .before .pre .0 in let q = node-falls (a .ask .used) (a .way) (c .before .if1 .left) in (omega (arith, h, q), record { walk = p .walk (c .before .if1 .left); lent = p .lent; roomy = p .roomy })
 
-side-same-length-2 : (t : ℕ) → side-lts.Need-same-length-2 (side-calls t) (side-at t) side.Post
-side-same-length-2 t c = c .before .before .node .kept .1 .1 .1 .1 .1 .1 .0
+side-same-length : (t : ℕ) → side-lts.Need-same-length (side-calls t) (side-at t) side.Post
+side-same-length t c = c .before .before .node .kept .1 .1 .1 .1 .1 .1 .0
 
-side-returns-4 : (t : ℕ) → side-lts.Need-returns-4 (side-calls t) (side-at t) side.Post
-side-returns-4 t c = let a = c .before .before .before .before .before .before .before .before .before .before .before .before .before .before .before .before .args in let p = c .before .before .before .before .before .before .before .before .before .before .before .before .before .before .before .before .pre .1 in side-down (a .ask) (a .refs .now) (a .rooms .now) (apartBy (a .ask) (a .points .now)) (distBy (a .ask) (a .points .now) (a .probe .now)) _ _ _ _ _ (c .before .before .before .before .before .before .before .before .before .before .before .before .field .ensures) (p .roomy) _ _ (c .before .before .before .before .before .before .before .before .before .before .before .if1 .left) (c .before .before .node .ensures)
+side-returns-2 : (t : ℕ) → side-lts.Need-returns-2 (side-calls t) (side-at t) side.Post
+side-returns-2 t c = let a = c .before .before .before .before .before .before .before .before .args in side-down (a .ask) (a .refs .now) (a .rooms .now) (apartBy (a .ask) (a .points .now)) (distBy (a .ask) (a .points .now) (a .probe .now)) _ _ _ _ _ (c .before .before .node .ensures)
 
 pub +node+side-spec : {M : Type 1} → statement M
 +node+side-spec =
     close μ-node μ-side
     (λ t. node-lts.spec (node-calls t) (node-at t) node.Post
-    (node-field-requires t) (node-sub-kl t) (node-from-probe-requires t) (node-consider-requires t) (node-field-requires-2 t) (node-same-length t) (node-returns t) (node-sub-kr t) (node-from-probe-requires-2 t) (node-consider-requires-2 t) (node-rank-requires t) (node-rank-requires-2 t) (node-side-requires t) (node-side-requires-2 t) (node-same-length-2 t) (node-returns-2 t) (node-side-requires-3 t) (node-side-requires-4 t) (node-same-length-3 t) (node-returns-3 t))
+    (node-field-requires t) (node-sub-kl t) (node-from-probe-requires t) (node-consider-requires t) (node-field-requires-2 t) (node-same-length t) (node-returns t) (node-sub-kr t) (node-from-probe-requires-2 t) (node-consider-requires-2 t) (node-rank-requires t) (node-rank-requires-2 t) (node-way-down-requires t) (node-side-requires t) (node-way-down-requires-2 t) (node-side-requires-2 t) (node-same-length-2 t) (node-returns-2 t) (node-way-down-requires-3 t) (node-side-requires-3 t) (node-way-down-requires-4 t) (node-side-requires-4 t) (node-same-length-3 t) (node-returns-3 t))
     (λ t. side-lts.spec (side-calls t) (side-at t) side.Post
-    (side-add-field t) (side-field-requires t) (side-returns t) (side-add-field-2 t) (side-field-requires-2 t) (side-passed-requires t) (side-returns-2 t) (side-wanted-requires t) (side-beyond-requires t) (side-same-length t) (side-returns-3 t) (side-sub-next t) (side-node-requires t) (side-same-length-2 t) (side-returns-4 t))
+    (side-returns t) (side-sub-next t) (side-node-requires t) (side-same-length t) (side-returns-2 t))

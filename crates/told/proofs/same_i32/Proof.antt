@@ -1,9 +1,9 @@
--- `refusals::told::same_u32` is safe. Assumes nothing.
+-- `told::same_i32` is safe. Assumes nothing.
 use Prim.Native.Nat.{_-_, _≤_}
 use lib.ListN.{length}
 use borrow.Author.Needs.{needs}
-use Rattle.refusals.proofs.told.same_u32.Statement.{statement}
-use Rattle.refusals.proofs.told.same_u32.Tie as tie
+use Rattle.told.proofs.same_i32.Statement.{statement}
+use Rattle.told.proofs.same_i32.Tie as tie
 
 abbrev Inv-loop : tie.InvT-loop
 Inv-loop a b i₀ i = i ≤ length a
@@ -20,14 +20,14 @@ returns c = search needs
 mul-if2 : tie.Need-mul-if2 Inv-loop μ-loop
 mul-if2 c = search needs
 
-shared-slice-read-if2 : tie.Need-shared-slice-read-if2 Inv-loop μ-loop
-shared-slice-read-if2 c = search needs
+shared-slice-copy-out-if2 : tie.Need-shared-slice-copy-out-if2 Inv-loop μ-loop
+shared-slice-copy-out-if2 c = search needs
 
 mul-if2-2 : tie.Need-mul-if2-2 Inv-loop μ-loop
 mul-if2-2 c = search needs
 
-shared-slice-read-if2-2 : tie.Need-shared-slice-read-if2-2 Inv-loop μ-loop
-shared-slice-read-if2-2 c = search needs
+shared-slice-copy-out-if2-2 : tie.Need-shared-slice-copy-out-if2-2 Inv-loop μ-loop
+shared-slice-copy-out-if2-2 c = search needs
 
 returns-2 : tie.Need-returns-2 Inv-loop μ-loop
 returns-2 c = search needs
@@ -44,8 +44,8 @@ loop-again c = search needs
 returns-3 : tie.Need-returns-3 Inv-loop μ-loop
 returns-3 c = search needs
 
-pub same-u32-spec : {M : Type 1} → statement M
-same-u32-spec =
+pub same-i32-spec : {M : Type 1} → statement M
+same-i32-spec =
     tie.close
     (tie.spec
     Inv-loop
@@ -53,9 +53,9 @@ same-u32-spec =
     loop-holds
     returns
     mul-if2
-    shared-slice-read-if2
+    shared-slice-copy-out-if2
     mul-if2-2
-    shared-slice-read-if2-2
+    shared-slice-copy-out-if2-2
     returns-2
     add-i
     loop-less

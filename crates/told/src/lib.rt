@@ -1,6 +1,8 @@
 // One line for each refusal, and the comparison of lent memory with a copy of it.
 use paper::lines::Wrote;
 
+pub mod memory;
+
 // Whether what stands in a stands at the same places in b.
 pub fn same_u8(a: &[u8], b: &[u8]) -> bool {
     let mut i = 0;

@@ -1,9 +1,9 @@
--- `refusals::told::same_u64` is safe. Assumes nothing.
+-- `told::same_u64` is safe. Assumes nothing.
 use Prim.Native.Nat.{_-_, _≤_}
 use lib.ListN.{length}
 use borrow.Author.Needs.{needs}
-use Rattle.refusals.proofs.told.same_u64.Statement.{statement}
-use Rattle.refusals.proofs.told.same_u64.Tie as tie
+use Rattle.told.proofs.same_u64.Statement.{statement}
+use Rattle.told.proofs.same_u64.Tie as tie
 
 abbrev Inv-loop : tie.InvT-loop
 Inv-loop a b i₀ i = i ≤ length a

@@ -1,5 +1,4 @@
 // Refusals of the bare writers and readers.
-use crate::told;
 use paper::lines::Scope;
 
 fn scope(snapshot: u16) -> Scope {

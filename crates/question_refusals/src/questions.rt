@@ -1,12 +1,11 @@
 // Refusals of the three questions.
-use crate::tables;
-use crate::tables::Kept;
-use crate::told;
 use paper::orders::Mark;
 use paper::orders::Nearest;
 use paper::orders::Page;
 use paper::orders::Place;
 use paper::tables::Table;
+use told::memory;
+use told::memory::Kept;
 
 fn nearest_refusal(n: Nearest) -> u8 {
     match n {
@@ -33,7 +32,7 @@ fn nearest_in(
 ) {
     let n = nearby::nearest(t, references, coordinates, rooms, probe, 5);
     told::refused(b"nearest", wrong, nearest_refusal(n));
-    told::ended(tables::still(k, references, coordinates, rooms));
+    told::ended(memory::still(k, references, coordinates, rooms));
 }
 
 fn nearest_of(wrong: &[u8], t: Table, k: Kept, probe: &[i32]) {
@@ -54,7 +53,7 @@ fn farthest_in(
 ) {
     let n = nearby::farthest(t, references, coordinates, rooms, probe);
     told::refused(b"farthest", wrong, nearest_refusal(n));
-    told::ended(tables::still(k, references, coordinates, rooms));
+    told::ended(memory::still(k, references, coordinates, rooms));
 }
 
 fn farthest_of(wrong: &[u8], t: Table, k: Kept, probe: &[i32]) {
@@ -65,15 +64,15 @@ fn farthest_of(wrong: &[u8], t: Table, k: Kept, probe: &[i32]) {
 }
 
 pub fn nearest() {
-    let k = tables::five();
-    let u = tables::unsound();
+    let k = memory::five();
+    let u = memory::unsound();
     let t = k.table;
-    nearest_of(b"measure 0", tables::measure_0(), k, &[4i32]);
+    nearest_of(b"measure 0", memory::measure_0(), k, &[4i32]);
     nearest_of(b"room number changed", t, u, &[4i32]);
     nearest_of(b"probe of two", t, k, &[4i32, 4]);
     nearest_of(
         b"measure 0, room number changed",
-        tables::measure_0(),
+        memory::measure_0(),
         u,
         &[4i32],
     );
@@ -81,15 +80,15 @@ pub fn nearest() {
 }
 
 pub fn farthest() {
-    let k = tables::five();
-    let u = tables::unsound();
+    let k = memory::five();
+    let u = memory::unsound();
     let t = k.table;
-    farthest_of(b"measure 0", tables::measure_0(), k, &[4i32]);
+    farthest_of(b"measure 0", memory::measure_0(), k, &[4i32]);
     farthest_of(b"room number changed", t, u, &[4i32]);
     farthest_of(b"probe of two", t, k, &[4i32, 4]);
     farthest_of(
         b"measure 0, room number changed",
-        tables::measure_0(),
+        memory::measure_0(),
         u,
         &[4i32],
     );
@@ -146,7 +145,7 @@ fn page_in(
         room,
     );
     told::refused(b"page", wrong, page_refusal(p));
-    let kept = tables::still(k, references, coordinates, rooms);
+    let kept = memory::still(k, references, coordinates, rooms);
     told::ended(kept && told::same_u64(room, before));
 }
 
@@ -193,15 +192,15 @@ fn page_short(wrong: &[u8], t: Table, k: Kept, probe: &[i32], w: Wish) {
 }
 
 pub fn page_table() {
-    let k = tables::five();
-    let u = tables::unsound();
+    let k = memory::five();
+    let u = memory::unsound();
     let t = k.table;
-    page_of(b"measure 0", tables::measure_0(), k, &[4i32], start(2));
+    page_of(b"measure 0", memory::measure_0(), k, &[4i32], start(2));
     page_of(b"room number changed", t, u, &[4i32], start(2));
     page_of(b"probe of two", t, k, &[4i32, 4], start(2));
     page_of(
         b"measure 0, room number changed",
-        tables::measure_0(),
+        memory::measure_0(),
         u,
         &[4i32],
         start(2),
@@ -217,7 +216,7 @@ pub fn page_table() {
 }
 
 pub fn page_place() {
-    let k = tables::five();
+    let k = memory::five();
     let t = k.table;
     page_of(b"size 0", t, k, &[4i32], start(0));
     page_of(b"size 17", t, k, &[4i32], start(17));
@@ -234,7 +233,7 @@ pub fn page_place() {
 }
 
 pub fn page_two() {
-    let k = tables::five();
+    let k = memory::five();
     let t = k.table;
     page_of(b"size 0, snapshot 6", t, k, &[4i32], after(6, 1, 1, 5, 0));
     page_of(

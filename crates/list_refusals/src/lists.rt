@@ -1,5 +1,4 @@
 // Refusals of a tablet's list.
-use crate::told;
 use paper::lists::List;
 
 // A list with the room that its items lie in.
