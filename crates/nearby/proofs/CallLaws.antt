@@ -174,11 +174,11 @@ module _ (s : Store) (probe : List ℤ) (reach : ℕ) (place : Place) (size room
               page-0 h = sym (ap number (past-8 ∙ must-go (leb (size * 3) room) 12 _ (le-leb (size * 3) room (omega arith))))
 
 -- a call whose number is 0 gives its page, and everything was in range
-number-0 : {A : Type 0} (b : Bool) (k : ℕ) (x : Outcome A) → number (must b (suc k) x) ≡ 0 → (b ≡ true) × (number x ≡ 0)
+pub number-0 : {A : Type 0} (b : Bool) (k : ℕ) (x : Outcome A) → number (must b (suc k) x) ≡ 0 → (b ≡ true) × (number x ≡ 0)
 number-0 true k x h = (refl, h)
 number-0 false k x h = absurd (omega arith)
 
-number-is : {A : Type 0} (x : Outcome A) (n : ℕ) → n ≡ number x → (n ≡ 0 → ⊥) → x ≡ refused n
+pub number-is : {A : Type 0} (x : Outcome A) (n : ℕ) → n ≡ number x → (n ≡ 0 → ⊥) → x ≡ refused n
 number-is (refused m) n e h = ap refused (sym e)
 number-is (gives a) n e h = absurd (h e)
 

@@ -20,5 +20,8 @@ pub use questions::farthest;
 pub use questions::front;
 pub use questions::nearest;
 pub use questions::page;
+pub use questions::size_holds;
+pub use questions::snapshot_holds;
 pub use tables::enter;
 pub use tables::make_table;
+pub use tables::table_refusal;

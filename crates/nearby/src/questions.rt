@@ -60,7 +60,7 @@ pub fn farthest(
     Nearest::Answer(found)
 }
 
-fn size_holds(size: usize) -> bool
+pub fn size_holds(size: usize) -> bool
     ensures { λ r. ⌜ r ≡ sizeHolds size ⌝ }
 {
     if size < 1 {
@@ -69,7 +69,7 @@ fn size_holds(size: usize) -> bool
     size <= 16
 }
 
-fn snapshot_holds(count: usize, place: Place) -> bool
+pub fn snapshot_holds(count: usize, place: Place) -> bool
     ensures { λ r. ⌜ r ≡ leb (snapshotOf place count) count ⌝ }
 {
     match place {

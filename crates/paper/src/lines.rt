@@ -1,6 +1,7 @@
 // The three kinds of line as values: what readers give, and what writers answer.
 
 // What an ask and an answer have behind the probe: distance and number are the mark.
+#[repr(C)]
 pub struct Scope {
     pub reach: u64,
     pub from: u8,
@@ -9,6 +10,7 @@ pub struct Scope {
     pub number: u16,
 }
 
+#[repr(C)]
 pub struct Ask {
     pub table: u32,
     pub measure: u8,
@@ -19,6 +21,7 @@ pub struct Ask {
 }
 
 // The items are triples of number, reference and distance; places that are not in use hold 0, here as in a probe.
+#[repr(C)]
 pub struct Answer {
     pub table: u32,
     pub measure: u8,
@@ -30,6 +33,7 @@ pub struct Answer {
     pub items: [u64; 48],
 }
 
+#[repr(C)]
 pub struct ClaimLine {
     pub table: u32,
     pub measure: u8,
@@ -39,16 +43,19 @@ pub struct ClaimLine {
 }
 
 // What a reader gives: refusal 0 beside the fields, or 9 or 10 beside zeros.
+#[repr(C)]
 pub struct AskRead {
     pub refusal: u8,
     pub ask: Ask,
 }
 
+#[repr(C)]
 pub struct AnswerRead {
     pub refusal: u8,
     pub answer: Answer,
 }
 
+#[repr(C)]
 pub struct ClaimRead {
     pub refusal: u8,
     pub claim: ClaimLine,

@@ -1,4 +1,5 @@
 // Document 01, "Building the tree": the header of a table. Its claims and rooms lie in memory that the caller lends.
+#[repr(C)]
 pub struct Table {
     pub number: u32,
     pub measure: u8,

@@ -80,7 +80,7 @@ pub fn add_run(
 }
 
 // Whether there are d coordinates for each reference.
-fn is_whole(d: usize, given: usize, places: usize) -> bool
+pub fn is_whole(d: usize, given: usize, places: usize) -> bool
     requires { ⌜ 1 ≤ d ⌝ }
     ensures { λ r. ⌜ r ≡ eqb places (d * given) ⌝ }
 {

@@ -1,0 +1,356 @@
+/*
+ * The nearby-claims cursor for C and C++.
+ *
+ * The archive libnearby_c.a has these calls; `rt staticlib nearby_c` writes it to target/staticlib. It needs nothing but memcpy
+ * and memset.
+ *
+ * Memory. All memory is the caller's. A slice is a pointer and, as the next argument, its length in elements; a null pointer
+ * goes with length 0. No call keeps a pointer, and none allocates. What a call may write must not overlap what else it is lent.
+ *
+ * Refusals. Every call checks its own input. What breaks a rule is refused under a number from 1 to 16, and the call then
+ * writes nothing: every table, list and room holds what it held before. Each call names its numbers in the order in which they
+ * are tested; the first that applies is given. 0 is no refusal. nearby_refusal_meaning says what a number means.
+ *
+ * Threads. Calls share no state. Any number of threads may call with the same memory while nobody writes it; a call that writes
+ * lent memory (nearby_enter, nearby_take, output rooms) needs that memory alone.
+ *
+ * Stack. A call on a table has some 200 KiB of its own on the stack. A question also walks the tree, which is at most 2,048 nodes
+ * deep (claims that are all alike): NEARBY_STACK bytes are enough for every call.
+ */
+#ifndef NEARBY_H
+#define NEARBY_H
+
+#include <stddef.h>
+#include <stdint.h>
+
+#ifdef __cplusplus
+extern "C" {
+#endif
+
+/* Characters of the longest ask, answer and claim line, each with its 0A. */
+#define NEARBY_ASK_LINE 123
+#define NEARBY_ANSWER_LINE 573
+#define NEARBY_CLAIM_LINE 87
+
+/* Numbers in a node room: a table of capacity c is lent c * NEARBY_ROOM of them. */
+#define NEARBY_ROOM 6
+/* Numbers in an item: its claim's number, its reference, its distance from the probe. */
+#define NEARBY_ITEM 3
+/* The largest d, capacity and page size. */
+#define NEARBY_MOST_PLACES 8
+#define NEARBY_MOST_CLAIMS 4096
+#define NEARBY_MOST_PAGE 16
+/* Bytes of stack that are enough for every call. */
+#define NEARBY_STACK 1048576
+
+/* The measures: the sum of the coordinate differences, the largest of them, and how many coordinates differ. */
+#define NEARBY_CITY_BLOCK 1
+#define NEARBY_MAXIMUM 2
+#define NEARBY_HAMMING 3
+
+/* ---- Tables ---- */
+
+/* The header of a table: its number, measure, d, capacity, how many claims it has, and how many node rooms are in use. Only
+ * nearby_make_table and nearby_enter make one; it belongs to the memory that it was made with. */
+typedef struct {
+    uint32_t number;
+    uint8_t measure;
+    size_t d, capacity, count, used;
+} nearby_table;
+
+/* A table after making or entering; all 0 beside a refusal. */
+typedef struct {
+    uint8_t refusal;
+    nearby_table table;
+} nearby_tabled;
+
+/* What nearest and farthest found: `found` is 1 beside an item, and 0 beside zeros where there is none or a refusal. */
+typedef struct {
+    uint8_t refusal;
+    uint8_t found;
+    uint64_t number, reference, distance;
+} nearby_item;
+
+/* Where a page starts: at the start where `from` is 0 (the rest is ignored), and otherwise after the mark, which is a distance
+ * with a number, among the first `snapshot` claims. */
+typedef struct {
+    uint8_t from;
+    uint64_t snapshot, distance, number;
+} nearby_start;
+
+/* How many items stand at the front of the room, and whether they are the last (1) or not (0). */
+typedef struct {
+    uint8_t refusal;
+    uint8_t last;
+    size_t count;
+} nearby_filled;
+
+/* The length of the line at the front of the output room, its 0A counted; 0 beside a refusal. */
+typedef struct {
+    uint8_t refusal;
+    size_t length;
+} nearby_written;
+
+/* Makes an empty table over lent memory, which may hold anything and is not touched: at least `capacity` references,
+ * `capacity * d` coordinates and `capacity * NEARBY_ROOM` numbers of rooms. Refusal 1. */
+nearby_tabled nearby_make_table(uint32_t number, uint8_t measure, size_t d, size_t capacity,
+                                const uint32_t *references, size_t references_length,
+                                const int32_t *coordinates, size_t coordinates_length,
+                                const uint64_t *rooms, size_t rooms_length);
+
+/* Tests a table as every call on a table does: 0 where it is sound, otherwise 1 or 2. It costs as much as building the table. */
+uint8_t nearby_test_table(nearby_table table,
+                          const uint32_t *references, size_t references_length,
+                          const int32_t *coordinates, size_t coordinates_length,
+                          const uint64_t *rooms, size_t rooms_length);
+
+/* Enters a run of claims, whole or not at all: a reference in `given` and d coordinates in `places` for each. It gives the header
+ * that counts from now on. Refusals 1, 2, 5, 3, 4. */
+nearby_tabled nearby_enter(nearby_table table,
+                           uint32_t *references, size_t references_length,
+                           int32_t *coordinates, size_t coordinates_length,
+                           uint64_t *rooms, size_t rooms_length,
+                           const uint32_t *given, size_t given_length,
+                           const int32_t *places, size_t places_length);
+
+/* The nearest claim within reach (the bound included), the smallest number among equals. Refusals 1, 2, 5. */
+nearby_item nearby_nearest(nearby_table table,
+                           const uint32_t *references, size_t references_length,
+                           const int32_t *coordinates, size_t coordinates_length,
+                           const uint64_t *rooms, size_t rooms_length,
+                           const int32_t *probe, size_t probe_length, uint64_t reach);
+
+/* The farthest claim, the smallest number among equals. Refusals 1, 2, 5. */
+nearby_item nearby_farthest(nearby_table table,
+                            const uint32_t *references, size_t references_length,
+                            const int32_t *coordinates, size_t coordinates_length,
+                            const uint64_t *rooms, size_t rooms_length,
+                            const int32_t *probe, size_t probe_length);
+
+/* The first `size` claims within reach from a start on, nearest first, as items at the front of a room of at least
+ * `size * NEARBY_ITEM` numbers; what stands behind them is kept. Refusals 1, 2, 5, 6, 7, 8, 12. */
+nearby_filled nearby_page(nearby_table table,
+                          const uint32_t *references, size_t references_length,
+                          const int32_t *coordinates, size_t coordinates_length,
+                          const uint64_t *rooms, size_t rooms_length,
+                          const int32_t *probe, size_t probe_length, uint64_t reach,
+                          nearby_start start, size_t size,
+                          uint64_t *room, size_t room_length);
+
+/* The office: one ask line in, its answer line at the front of `out`, which has at least NEARBY_ANSWER_LINE characters.
+ * Refusals 12, 1, 2, 9, 10, 11, 7, 8. */
+nearby_written nearby_answer(nearby_table table,
+                             const uint32_t *references, size_t references_length,
+                             const int32_t *coordinates, size_t coordinates_length,
+                             const uint64_t *rooms, size_t rooms_length,
+                             const uint8_t *line, size_t line_length,
+                             uint8_t *out, size_t out_length);
+
+/* ---- Many questions at once ----
+ * Each call above tests its table, which costs as much as building it. These test it once and then answer many. A refusal of
+ * the whole call comes first, and nothing is written then. */
+
+/* What nearby_many_answers did: lines answered or refused, characters of the asks used, characters of the output written. */
+typedef struct {
+    uint8_t refusal;
+    size_t lines, used, written;
+} nearby_answered;
+
+/* nearby_nearest for each reach, with d coordinates of `probes` for each. Row i of `out` has 4 numbers: found (0 or 1), number,
+ * reference, distance. Refusals 1, 2; 5 where the probes are not d for each reach; 12 where `out` has under 4 numbers for each. */
+uint8_t nearby_many_nearest(nearby_table table,
+                            const uint32_t *references, size_t references_length,
+                            const int32_t *coordinates, size_t coordinates_length,
+                            const uint64_t *rooms, size_t rooms_length,
+                            const int32_t *probes, size_t probes_length,
+                            const uint64_t *reaches, size_t reaches_length,
+                            uint64_t *out, size_t out_length);
+
+/* nearby_farthest for each of n probes, with rows as nearby_many_nearest has them. Refusals 1, 2; 5 where the probes are not d for
+ * each; 12 where `out` has under 4 numbers for each. */
+uint8_t nearby_many_farthest(nearby_table table,
+                             const uint32_t *references, size_t references_length,
+                             const int32_t *coordinates, size_t coordinates_length,
+                             const uint64_t *rooms, size_t rooms_length,
+                             const int32_t *probes, size_t probes_length, size_t n,
+                             uint64_t *out, size_t out_length);
+
+/* nearby_page for each reach, with d coordinates of `probes` and 4 numbers of `places` for each: from (0 is the start), snapshot,
+ * distance, number. Row i of `outcomes` has 3 numbers: refusal (0, 7 or 8), count, last. Row i of `items` has size * NEARBY_ITEM
+ * numbers, filled from the front; the rest of the row is kept. Refusals 1, 2; 5 where the probes are not d or the places not 4 for
+ * each reach; 6; 12 where `outcomes` has under 3 numbers or `items` under size * NEARBY_ITEM for each. */
+uint8_t nearby_many_pages(nearby_table table,
+                          const uint32_t *references, size_t references_length,
+                          const int32_t *coordinates, size_t coordinates_length,
+                          const uint64_t *rooms, size_t rooms_length,
+                          const int32_t *probes, size_t probes_length,
+                          const uint64_t *reaches, size_t reaches_length,
+                          const uint64_t *places, size_t places_length, size_t size,
+                          uint64_t *outcomes, size_t outcomes_length,
+                          uint64_t *items, size_t items_length);
+
+/* nearby_answer for ask lines that stand one after another, each with its 0A; a last one without it is a line too, refused with 9.
+ * It goes on while a character is left, `outcomes` has room for 2 numbers more and `out` has NEARBY_ANSWER_LINE characters left.
+ * Row i of `outcomes` has 2 numbers: refusal, and length of the answer line; answer lines stand one after another at the front of
+ * `out`. Call again with what was not used. Refusals 12 (under NEARBY_ANSWER_LINE characters), 1, 2. */
+nearby_answered nearby_many_answers(nearby_table table,
+                                    const uint32_t *references, size_t references_length,
+                                    const int32_t *coordinates, size_t coordinates_length,
+                                    const uint64_t *rooms, size_t rooms_length,
+                                    const uint8_t *asks, size_t asks_length,
+                                    uint64_t *outcomes, size_t outcomes_length,
+                                    uint8_t *out, size_t out_length);
+
+/* ---- Lists ---- */
+
+/* A tablet's list: what it was opened with, the snapshot that its first answer fixed, and how many items it has. The items stand at
+ * the front of a room of the caller's, NEARBY_ITEM numbers for each. A flag from the caller is off when it is 0 and on otherwise; a
+ * flag to the caller is 0 or 1. Unused places of the probe are 0. */
+typedef struct {
+    uint32_t table;
+    uint8_t measure;
+    uint8_t started;
+    uint8_t complete;
+    size_t d;
+    int32_t probe[NEARBY_MOST_PLACES];
+    uint64_t reach;
+    uint64_t snapshot;
+    size_t count;
+} nearby_list;
+
+/* A list after opening or taking. Beside a refused opening it is all 0; beside a refused taking it is the list as it was. */
+typedef struct {
+    uint8_t refusal;
+    nearby_list list;
+} nearby_listed;
+
+/* Opens a list on a table for a probe of d coordinates and a reach. Refusals 1, 5. */
+nearby_listed nearby_open_list(uint32_t table, uint8_t measure, size_t d,
+                               const int32_t *probe, size_t probe_length, uint64_t reach);
+
+/* Writes the list's present ask for a page of `size` claims to the front of `out`, which has at least NEARBY_ASK_LINE characters.
+ * Refusals 2, 16, 6, 12. */
+nearby_written nearby_write_ask(nearby_list list, const uint64_t *room, size_t room_length, size_t size,
+                                uint8_t *out, size_t out_length);
+
+/* Takes an answer line: its items are joined to those in the room, and a last page makes the list complete. A line that is late,
+ * repeated or another list's is refused with 13, and that is no fault. After 15, move the items to a longer room and take the
+ * line again. Refusals 2, 9, 10, 16, 13, 14, 15. */
+nearby_listed nearby_take(nearby_list list, uint64_t *room, size_t room_length,
+                          const uint8_t *line, size_t line_length);
+
+/* ---- Bare lines ---- */
+
+/* What an ask and an answer have behind the probe. `from` is 0 (at the start) or 1 (after the mark, which is distance and number);
+ * with 0 the mark is 0, and in an ask the snapshot is 0 too. */
+typedef struct {
+    uint64_t reach;
+    uint8_t from;
+    uint16_t snapshot;
+    uint64_t distance;
+    uint16_t number;
+} nearby_scope;
+
+/* The fields of an ask line. Unused places of a probe are 0, here as below. */
+typedef struct {
+    uint32_t table;
+    uint8_t measure;
+    uint8_t d;
+    int32_t probe[NEARBY_MOST_PLACES];
+    nearby_scope scope;
+    uint8_t size;
+} nearby_ask;
+
+/* The fields of an answer line: `count` items of NEARBY_ITEM numbers each; unused places are 0. */
+typedef struct {
+    uint32_t table;
+    uint8_t measure;
+    uint8_t d;
+    int32_t probe[NEARBY_MOST_PLACES];
+    nearby_scope scope;
+    uint8_t last;
+    uint8_t count;
+    uint64_t items[NEARBY_MOST_PAGE * NEARBY_ITEM];
+} nearby_answer_fields;
+
+/* The fields of a claim line. */
+typedef struct {
+    uint32_t table;
+    uint8_t measure;
+    uint8_t d;
+    uint32_t reference;
+    int32_t coordinates[NEARBY_MOST_PLACES];
+} nearby_claim;
+
+/* What a reader gives: refusal 0 beside the fields, or 9 or 10 beside zeros. */
+typedef struct {
+    uint8_t refusal;
+    nearby_ask ask;
+} nearby_ask_read;
+
+typedef struct {
+    uint8_t refusal;
+    nearby_answer_fields answer;
+} nearby_answer_read;
+
+typedef struct {
+    uint8_t refusal;
+    nearby_claim claim;
+} nearby_claim_read;
+
+/* Writes an ask line to the front of `out`, which has at least NEARBY_ASK_LINE characters; the probe has d coordinates.
+ * Refusals 10, 12. */
+nearby_written nearby_write_ask_line(uint32_t table, uint8_t measure, uint8_t d,
+                                     const int32_t *probe, size_t probe_length,
+                                     nearby_scope scope, uint8_t size,
+                                     uint8_t *out, size_t out_length);
+
+/* Writes an answer line to the front of `out`, which has at least NEARBY_ANSWER_LINE characters; the probe has d coordinates, and
+ * `items` has NEARBY_ITEM numbers for each of `count`, references under 2^32. Refusals 10, 12. */
+nearby_written nearby_write_answer_line(uint32_t table, uint8_t measure, uint8_t d,
+                                        const int32_t *probe, size_t probe_length,
+                                        nearby_scope scope, uint8_t last, uint8_t count,
+                                        const uint64_t *items, size_t items_length,
+                                        uint8_t *out, size_t out_length);
+
+/* Writes a claim line to the front of `out`, which has at least NEARBY_CLAIM_LINE characters; there are d coordinates.
+ * Refusals 10, 12. */
+nearby_written nearby_write_claim_line(uint32_t table, uint8_t measure, uint8_t d, uint32_t reference,
+                                       const int32_t *coordinates, size_t coordinates_length,
+                                       uint8_t *out, size_t out_length);
+
+/* Reads one line of a kind, with its 0A: exactly what the writer of that kind can write is accepted. Refusals 9, 10. */
+nearby_ask_read nearby_read_ask_line(const uint8_t *line, size_t line_length);
+nearby_answer_read nearby_read_answer_line(const uint8_t *line, size_t line_length);
+nearby_claim_read nearby_read_claim_line(const uint8_t *line, size_t line_length);
+
+/* What a refusal's number means; docs/refusals says what to do about it. */
+static inline const char *nearby_refusal_meaning(uint8_t refusal)
+{
+    switch (refusal) {
+    case 0: return "no refusal";
+    case 1: return "measure, d or capacity out of range, or lent memory smaller than these need";
+    case 2: return "table or list not sound";
+    case 3: return "count plus run over capacity";
+    case 4: return "no node room free";
+    case 5: return "probe length not d, or a run's coordinates not d for each reference";
+    case 6: return "page size out of range";
+    case 7: return "snapshot over the count";
+    case 8: return "mark number not below the snapshot, or mark distance not that claim's distance, or over reach";
+    case 9: return "not an even, nonzero run of the sixteen digits and a final 0A, or over 573 characters";
+    case 10: return "not this kind of line, or a field outside its range";
+    case 11: return "table number, measure or d not this table's";
+    case 12: return "output room too small";
+    case 13: return "not an answer to the list's present ask";
+    case 14: return "a page whose items do not hold";
+    case 15: return "list room too small for the page";
+    case 16: return "list complete";
+    default: return "no such refusal";
+    }
+}
+
+#ifdef __cplusplus
+}
+#endif
+
+#endif

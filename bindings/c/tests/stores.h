@@ -1,0 +1,28 @@
+/* Generated tables in memory that ends where readable memory ends. */
+#ifndef STORES_H
+#define STORES_H
+
+#include "try.h"
+
+/* How claims lie: close together with many ties, anywhere, all at one place, or at the ends of the coordinates' range. */
+typedef enum { TIED, ANYWHERE, ALIKE, AT_THE_ENDS, STYLES } style;
+
+void put_places(seeded *from, style how, int32_t *out, size_t length);
+
+/* Memory for a table, filled with any numbers, longer than needed by so many elements; its header is all 0. */
+store lend_store(seeded *from, size_t d, size_t capacity, size_t longer);
+void free_store(store *s);
+
+/* A table of n claims, entered in runs of any length. */
+store full_store(seeded *from, uint8_t measure, size_t d, size_t capacity, size_t n, style how);
+
+/* Enters one run of n claims. */
+void enter_run(seeded *from, store *s, size_t n, style how);
+
+/* The marked examples' table of document 01: claims 2, 3, 9, 6, 5 at d = 1 and measure 1, number 7, references 0x65 and on. */
+store marked_store(seeded *from, size_t capacity);
+
+/* A reach that lets through none, some or all of a table's claims. */
+uint64_t any_reach(seeded *from, const store *s, const int32_t *probe);
+
+#endif

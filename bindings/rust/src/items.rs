@@ -1,0 +1,115 @@
+use crate::raw;
+
+/// How far two points are apart.
+///
+/// ```
+/// use nearby::Measure;
+///
+/// assert_eq!(Measure::Maximum.number(), 2);
+/// assert_eq!(Measure::from_number(3), Some(Measure::Hamming));
+/// assert_eq!(Measure::from_number(4), None);
+/// ```
+#[derive(Clone, Copy, Debug, PartialEq, Eq, Hash)]
+#[repr(u8)]
+pub enum Measure {
+    /// The sum of the absolute coordinate differences.
+    CityBlock = 1,
+    /// The largest absolute coordinate difference.
+    Maximum = 2,
+    /// How many coordinates differ.
+    Hamming = 3,
+}
+
+impl Measure {
+    /// All three, in the order of their numbers.
+    pub const ALL: [Measure; 3] = [Measure::CityBlock, Measure::Maximum, Measure::Hamming];
+
+    /// The number that lines and headers have for it, 1 to 3.
+    pub fn number(self) -> u8 {
+        self as u8
+    }
+
+    /// The measure of a number, where it is one of 1 to 3.
+    pub fn from_number(number: u8) -> Option<Measure> {
+        Measure::ALL.into_iter().find(|measure| measure.number() == number)
+    }
+}
+
+/// A claim as a question finds it.
+#[derive(Clone, Copy, Debug, PartialEq, Eq, Hash)]
+pub struct Item {
+    /// The claim's number in its table: 0 for the first entered, then rising by one.
+    pub number: u16,
+    /// The claim's reference.
+    pub reference: u32,
+    /// How far the claim is from the probe.
+    pub distance: u64,
+}
+
+impl Item {
+    /// The item as a mark: what comes after it in near order.
+    pub fn mark(&self) -> Mark {
+        Mark { distance: self.distance, number: self.number.into() }
+    }
+
+    /// An item from three numbers that the library gave: numbers of claims are below 4,096, and references have 32 bits.
+    pub(crate) fn from_numbers(numbers: &[u64]) -> Item {
+        Item { number: numbers[0] as u16, reference: numbers[1] as u32, distance: numbers[2] }
+    }
+
+    /// The item as three numbers.
+    pub(crate) fn numbers(&self) -> [u64; 3] {
+        [self.number.into(), self.reference.into(), self.distance]
+    }
+}
+
+/// A place in near order: smaller distance first, then smaller number.
+#[derive(Clone, Copy, Debug, PartialEq, Eq, PartialOrd, Ord, Hash)]
+pub struct Mark {
+    /// A distance from the probe.
+    pub distance: u64,
+    /// A claim's number.
+    pub number: u64,
+}
+
+/// Where a page starts.
+#[derive(Clone, Copy, Debug, PartialEq, Eq, Hash)]
+pub enum Place {
+    /// At the start: the snapshot is the table's present count.
+    Start,
+    /// After a claim's mark, among the first so many claims.
+    After {
+        /// How many of the table's claims count.
+        snapshot: u64,
+        /// The mark: the distance and number of a claim of the snapshot within reach.
+        mark: Mark,
+    },
+}
+
+impl Place {
+    pub(crate) fn start(self) -> raw::Start {
+        match self {
+            Place::Start => raw::Start::default(),
+            Place::After { snapshot, mark } => raw::Start { from: 1, snapshot, distance: mark.distance, number: mark.number },
+        }
+    }
+}
+
+/// A page of claims, nearest first.
+#[derive(Clone, Debug, PartialEq, Eq)]
+pub struct Page {
+    /// The claims.
+    pub items: Vec<Item>,
+    /// Whether the page has fewer claims than were asked for, so that none follows.
+    pub last: bool,
+    /// How many of the table's claims counted.
+    pub snapshot: u64,
+}
+
+impl Page {
+    /// Where the next page starts, unless this one is the last.
+    pub fn next(&self) -> Option<Place> {
+        let mark = self.items.last()?.mark();
+        (!self.last).then_some(Place::After { snapshot: self.snapshot, mark })
+    }
+}

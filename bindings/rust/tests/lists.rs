@@ -1,0 +1,221 @@
+//! Lists over a link that loses, repeats, delays and reorders, and with lines that are amiss.
+
+mod common;
+
+use common::{enter, filled, places, Claims, Seeded, Style, STYLES};
+use nearby::{Answer, List, Mark, Measure, Refusal, Table};
+
+/// The list is the first so many of the claims within reach that the table held at its snapshot, and all of them when complete.
+fn check(list: &List, claims: &Claims) {
+    let Some(snapshot) = list.snapshot() else {
+        assert!(list.is_empty() && !list.is_complete());
+        return;
+    };
+    let near = claims.near(list.probe(), list.reach(), snapshot as usize);
+    let items: Vec<_> = list.items().collect();
+    assert!(near.starts_with(&items));
+    assert!(!list.is_complete() || items.len() == near.len());
+}
+
+/// A full link loses a line.
+fn send(from: &mut Seeded, link: &mut Vec<Vec<u8>>, line: Vec<u8>) {
+    if link.len() >= 40 {
+        let at = from.below(link.len());
+        link.swap_remove(at);
+    }
+    link.push(line);
+}
+
+fn take_with_room(list: &mut List, line: &[u8]) -> Result<usize, Refusal> {
+    loop {
+        match list.take(line) {
+            Err(Refusal::ListRoomTooSmall) => list.grow(list.room() + 1),
+            taken => return taken,
+        }
+    }
+}
+
+fn arrive(from: &mut Seeded, link: &mut Vec<Vec<u8>>, table: &Table, claims: &Claims, lists: &mut [List]) {
+    let at = from.below(link.len());
+    let line = if from.one_in(2) { link.swap_remove(at) } else { link[at].clone() };
+    if line.starts_with(b"01") {
+        send(from, link, table.answer(&line).unwrap());
+        return;
+    }
+    let at = from.below(lists.len());
+    let list = &mut lists[at];
+    let before: Vec<_> = list.items().collect();
+    let taken = take_with_room(list, &line);
+    assert!(matches!(taken, Ok(_) | Err(Refusal::NotToPresentAsk) | Err(Refusal::Complete)));
+    assert_eq!(list.len(), before.len() + taken.unwrap_or(0));
+    check(list, claims);
+}
+
+fn one_day(from: &mut Seeded, measure: Measure, style: Style) {
+    let (d, capacity, n) = (1 + from.below(8), 20 + from.below(100), from.below(20));
+    let (mut table, mut claims) = filled(from, measure, d, capacity, n, style);
+    let mut lists: Vec<List> = (0..3)
+        .map(|_| {
+            let probe = places(from, style, d);
+            let (reach, room) = (claims.some_reach(from, &probe), from.below(4));
+            List::open(table.number(), measure, &probe, reach, room).unwrap()
+        })
+        .collect();
+    let mut link = Vec::new();
+    for turn in 0.. {
+        if lists.iter().all(List::is_complete) {
+            return;
+        }
+        assert!(turn < 20_000, "the lists never come to an end");
+        match from.below(8) {
+            0 if table.len() < capacity => {
+                let run = 1 + from.below(capacity - table.len()) / 4;
+                enter(from, &mut table, &mut claims, run, style);
+            }
+            1 if !link.is_empty() => {
+                let at = from.below(link.len());
+                link.swap_remove(at);
+            }
+            2 | 3 => {
+                let (list, size) = (&lists[from.below(3)], 1 + from.below(16));
+                match list.write_ask(size) {
+                    Ok(ask) => send(from, &mut link, ask),
+                    Err(refused) => assert_eq!((refused, list.is_complete()), (Refusal::Complete, true)),
+                }
+            }
+            _ if !link.is_empty() => arrive(from, &mut link, &table, &claims, &mut lists),
+            _ => {}
+        }
+    }
+}
+
+#[test]
+fn lists_over_a_lossy_link() {
+    let from = &mut Seeded(41);
+    for day in 0..40 {
+        one_day(from, Measure::ALL[day % 3], STYLES[day % 4]);
+    }
+}
+
+/// A table, a list with a page of it, and the answer to the list's present ask.
+fn scene(from: &mut Seeded) -> (Table, List, Answer) {
+    let (table, _) = filled(from, Measure::CityBlock, 2, 40, 30, Style::Tied);
+    let mut list = List::open(table.number(), Measure::CityBlock, &[0, 1], 9, 40).unwrap();
+    list.take(&table.answer(&list.write_ask(4).unwrap()).unwrap()).unwrap();
+    let answer = table.answer(&list.write_ask(4).unwrap()).unwrap();
+    (table, list, Answer::from_line(&answer).unwrap())
+}
+
+/// A change of the present answer is refused under a number, and the list is as it was.
+fn refused(list: &mut List, answer: Answer, expected: Refusal) {
+    let before: (Vec<_>, _) = (list.items().collect(), list.write_ask(3));
+    assert_eq!(list.take(&answer.to_line().unwrap()), Err(expected), "{answer:?}");
+    assert_eq!((list.items().collect(), list.write_ask(3)), before);
+}
+
+#[test]
+fn answers_to_another_ask() {
+    let (_, mut list, answer) = scene(&mut Seeded(42));
+    let Some(mark) = answer.after else { panic!("the second page comes after a mark") };
+    let other = Refusal::NotToPresentAsk;
+    refused(&mut list, Answer { table: answer.table ^ 1, ..answer.clone() }, other);
+    refused(&mut list, Answer { measure: Measure::Maximum, ..answer.clone() }, other);
+    refused(&mut list, Answer { probe: vec![0, 2], ..answer.clone() }, other);
+    refused(&mut list, Answer { probe: vec![0, 1, 0], ..answer.clone() }, other);
+    refused(&mut list, Answer { reach: 8, ..answer.clone() }, other);
+    refused(&mut list, Answer { snapshot: 29, ..answer.clone() }, other);
+    refused(&mut list, Answer { after: None, ..answer.clone() }, other);
+    refused(&mut list, Answer { after: Some(Mark { distance: mark.distance + 1, ..mark }), ..answer.clone() }, other);
+    refused(&mut list, Answer { after: Some(Mark { number: mark.number ^ 1, ..mark }), ..answer.clone() }, other);
+    assert_eq!(list.take(&answer.to_line().unwrap()), Ok(4));
+}
+
+#[test]
+fn pages_that_do_not_hold() {
+    let (_, mut list, answer) = scene(&mut Seeded(43));
+    let mark = answer.after.unwrap();
+    let amiss = Refusal::PageDoesNotHold;
+    let with = |change: &dyn Fn(&mut Answer)| {
+        let mut changed = answer.clone();
+        change(&mut changed);
+        changed
+    };
+    refused(&mut list, with(&|a| a.items.swap(0, 1)), amiss);
+    refused(&mut list, with(&|a| a.items[1] = a.items[0]), amiss);
+    refused(&mut list, with(&|a| a.items[3].distance = 10), amiss);
+    refused(&mut list, with(&|a| a.items[3] = nearby::Item { number: 30, reference: 0, distance: 9 }), amiss);
+    refused(&mut list, with(&|a| a.items.clear()), amiss);
+    let at_mark = nearby::Item { number: mark.number as u16, reference: 0, distance: mark.distance };
+    refused(&mut list, with(&|a| a.items[0] = at_mark), amiss);
+    let finished = Answer { items: Vec::new(), last: true, ..answer };
+    assert_eq!(list.take(&finished.to_line().unwrap()), Ok(0));
+    assert!(list.is_complete());
+}
+
+#[test]
+fn complete_lists_ask_and_take_no_more() {
+    let from = &mut Seeded(44);
+    let (table, _) = filled(from, Measure::Hamming, 2, 4, 0, Style::Tied);
+    let mut list = List::open(table.number(), Measure::Hamming, &[0, 0], 9, 0).unwrap();
+    assert_eq!(list.snapshot(), None);
+    let answer = table.answer(&list.write_ask(1).unwrap()).unwrap();
+    assert_eq!(list.take(&answer), Ok(0));
+    assert_eq!((list.is_complete(), list.snapshot(), list.len()), (true, Some(0), 0));
+    assert_eq!(list.take(&answer), Err(Refusal::Complete));
+    assert_eq!(list.take(b"00\n"), Err(Refusal::NotThisKind));
+    assert_eq!(list.take(b"00"), Err(Refusal::NotALine));
+    assert_eq!(list.write_ask(1), Err(Refusal::Complete));
+    assert_eq!(list.write_ask(17), Err(Refusal::Complete));
+}
+
+#[test]
+fn rooms_grow_and_never_shrink() {
+    let from = &mut Seeded(45);
+    let (table, claims) = filled(from, Measure::Maximum, 1, 40, 40, Style::Tied);
+    let mut list = List::open(table.number(), Measure::Maximum, &[0], 9, 5).unwrap();
+    let answer = table.answer(&list.write_ask(6).unwrap()).unwrap();
+    assert_eq!(list.take(&answer), Err(Refusal::ListRoomTooSmall));
+    list.grow(2);
+    assert_eq!(list.room(), 5);
+    list.grow(6);
+    assert_eq!(list.take(&answer), Ok(6));
+    list.grow(usize::MAX);
+    assert_eq!(list.room(), nearby::MOST_CLAIMS);
+    check(&list, &claims);
+}
+
+#[test]
+fn lists_opened_amiss() {
+    for d in 0..=10 {
+        let opened = List::open(7, Measure::CityBlock, &vec![1; d], 5, usize::MAX);
+        assert_eq!(opened.err(), (!(1..=8).contains(&d)).then_some(Refusal::OutOfRange));
+    }
+    let list = List::open(7, Measure::CityBlock, &[1, 2], 5, 3).unwrap();
+    assert_eq!((list.table(), list.measure(), list.probe(), list.reach()), (7, Measure::CityBlock, &[1, 2][..], 5));
+    for size in [0, 17, 256, 257, usize::MAX] {
+        assert_eq!(list.write_ask(size), Err(Refusal::PageSize));
+    }
+}
+
+#[test]
+fn every_digit_of_an_answer_changed() {
+    let from = &mut Seeded(46);
+    let (_, list, answer) = scene(from);
+    let line = answer.to_line().unwrap();
+    for at in 0..line.len() {
+        for c in b"0123456789abcdefAg\n" {
+            let mut damaged = line.clone();
+            damaged[at] = *c;
+            let mut after = list.clone();
+            let taken = after.take(&damaged);
+            // A line that reads as an answer to the present ask is taken; every other leaves the list alone.
+            if taken.is_err() {
+                assert!(after.items().eq(list.items()) && after.write_ask(2) == list.write_ask(2));
+                continue;
+            }
+            let read = Answer::from_line(&damaged).unwrap();
+            assert_eq!((read.after, read.snapshot, read.reach), (answer.after, answer.snapshot, answer.reach));
+            assert!(after.items().eq(list.items().chain(read.items.iter().copied())));
+        }
+    }
+}

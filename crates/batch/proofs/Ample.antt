@@ -1,0 +1,141 @@
+-- Room enough: an answer line has at most 573 characters, so with as many for each line, and a row, every line is answered. Assumes nothing.
+use Prim.Native.Nat.{ℕ, zero, suc, _+_, _*_, _-_, _<_, _≤_}
+use mathlib.Core.Path.{_≡_, refl, sym, ap, _∙_, subst}
+use mathlib.Core.Bool.{Bool, true, false, cond}
+use mathlib.Core.List.{List, [], _∷_, _++_}
+use native.Mathlib.Omega.{arith}
+use native.Mathlib.Decide.{decLe}
+use lib.Dec.{leb}
+use lib.ListN.{length, take, drop, length-append, length-drop, length-take}
+use borrow.Author.Tests.{lt-ltb, le-leb}
+use Rattle.paper.specs.declared.orders.Order.the-variants.{Near}
+use Rattle.paper.specs.Orders.{Item, flat, following, pageOf, snapshotHolds, markHolds}
+use Rattle.paper.specs.Outcomes.{gives, must, onto}
+use Rattle.paper.specs.Tree.{Store, fits}
+use Rattle.paper.specs.Tree as Tree
+use Rattle.paper.specs.Frames.{frameOf, sound}
+use Rattle.paper.specs.Lines.{askOk, askAt, answerFrame}
+use Rattle.paper.specs.Ends.{Ask, tableOf, matches, answerOf, answerTo, served}
+use Rattle.paper.specs.Ends as Ends
+use Rattle.paper.specs.Codec.{asked, answerLine, readAsk, scopeOf, lines}
+use Rattle.paper.specs.Calls.{officeCall}
+use Rattle.digits.proofs.Laws.{length-line}
+use Rattle.lines.proofs.Tests.{length-answer}
+use Rattle.desk.proofs.Ways.{ask-given}
+use Rattle.batch.specs.Batch.{Batch, start, lengthSaid, goes, answered, startAt, nthLine, alone, lineSaid, answersOf, rowsOf, batchAt}
+use Rattle.batch.proofs.Cutting.{cut-short}
+use Rattle.batch.proofs.Alone.{said-size, rows-long, batch-is, stops-for-want}
+
+-- ---- an answer line is short
+
+flat-length : (l : List Item) → length (flat l) ≡ 3 * length l
+unfolding flat
+flat-length [] = refl
+flat-length (a ∷ l) = let h = flat-length l in omega arith
+
+answer-short : (t : Ends.Table) (a : Ask) → length (a .query .probe) ≤ 8 → a .size ≤ 16 → length (answerLine (answerOf t a)) ≤ 573
+unfolding answerLine answerOf pageOf
+answer-short t a narrow most =
+    let items = take (a .size) (following (a .query) (t .claims) (a .place)) in
+    let y = answerOf t a in
+    let n = length-take (a .size) (following (a .query) (t .claims) (a .place)) in
+    let frame = answerFrame 2 (a .query .table) (a .query .measure) (a .query .d) (a .query .probe) (scopeOf (a .query .reach) (a .place) (y .snapshot)) (cond (y .last) 1 0) (length items) (flat items) in
+    let f = length-answer 2 (a .query .table) (a .query .measure) (a .query .d) (a .query .probe) (scopeOf (a .query .reach) (a .place) (y .snapshot)) (cond (y .last) 1 0) (length items) (flat items) (flat-length items) in
+    omega (arith, length-line frame, f, n)
+
+reply-short : (t : Ends.Table) (a : Ask) → length (a .query .probe) ≤ 8 → a .size ≤ 16 → lengthSaid (onto (answerTo t a) (λ y. gives (answerLine y))) ≤ 573
+unfolding answerTo lengthSaid
+reply-short t a narrow most = go (matches t (a .query)) (snapshotHolds (t .claims) (a .place)) (markHolds (a .query) (t .claims) (a .place))
+  where
+    go : (x y z : Bool) → lengthSaid (onto (must x 11 (must y 7 (must z 8 (gives (answerOf t a))))) (λ y. gives (answerLine y))) ≤ 573
+    go true true true = answer-short t a narrow most
+    go true true false = omega arith
+    go true false z = omega arith
+    go false y z = omega arith
+
+served-short : (t : Ends.Table) (line : List ℕ) → lengthSaid (served lines t line) ≤ 573
+unfolding served readAsk lengthSaid asked
+served-short t line = go (sound line) (askOk 1 (frameOf line)) refl
+  where
+    go : (x y : Bool) → askOk 1 (frameOf line) ≡ y
+        → lengthSaid (onto (must x 9 (must y 10 (gives (asked Near (askAt (frameOf line)))))) (λ a. onto (answerTo t a) (λ y. gives (answerLine y)))) ≤ 573
+    go true true e =
+        let g = ask-given (frameOf line) e in
+        let m = length-take (askAt (frameOf line) .d) (askAt (frameOf line) .probe) in
+        reply-short t (asked Near (askAt (frameOf line))) (omega (arith, m, g .narrow)) (g .most)
+    go true false e = omega arith
+    go false y e = omega arith
+
+pub office-short : (s : Store) (room : ℕ) (line : List ℕ) → lengthSaid (officeCall s room line) ≤ 573
+unfolding officeCall lengthSaid
+office-short s room line = go (leb 573 room) (fits s) (Tree.sound s)
+  where
+    go : (x y z : Bool) → lengthSaid (must x 12 (must y 1 (must z 2 (served lines (tableOf s) line)))) ≤ 573
+    go true true true = served-short (tableOf s) line
+    go true true false = omega arith
+    go true false z = omega arith
+    go false y z = omega arith
+
+-- ---- every line is answered
+
+module _ (s : Store) (asks : List ℕ) where
+  answers-short : (n : ℕ) → length (answersOf n s asks) ≤ 573 * n
+  unfolding answersOf alone
+  answers-short zero = omega arith
+  answers-short (suc n) =
+      let h = answers-short n in
+      let m = length-append (answersOf n s asks) (lineSaid (alone s asks n)) in
+      omega (arith, m, said-size (alone s asks n), office-short s 573 (nthLine n asks))
+
+start-inside : (asks : List ℕ) (n : ℕ) → startAt n asks ≤ length asks
+unfolding startAt
+start-inside asks zero = omega arith
+start-inside asks (suc n) =
+    let h = start-inside asks n in
+    omega (arith, cut-short (drop (startAt n asks) asks), length-drop (startAt n asks) asks)
+
+start-later : (asks : List ℕ) (n m : ℕ) → startAt n asks ≤ startAt (n + m) asks
+unfolding startAt
+start-later asks n zero = let q : n + 0 ≡ n = omega arith in rw q (omega arith)
+start-later asks n (suc m) =
+    let h = start-later asks n m in
+    let q : n + suc m ≡ suc (n + m) = omega arith in
+    rw q (omega arith)
+
+module _ (s : Store) (asks outcomes out : List ℕ) (count : ℕ) (all : startAt count asks ≡ length asks)
+    (rows : 2 * count ≤ length outcomes) (room : 573 * count ≤ length out) where
+  goes-still : (n : ℕ) → startAt n asks < length asks → goes asks (batchAt n s asks outcomes out) ≡ true
+  unfolding goes batchAt
+  goes-still n h =
+      let before : n < count = earlier (decLe count n) in
+      let a = answers-short s asks n in
+      let x = length-append (rowsOf n s asks) (drop (2 * n) outcomes) in
+      let y = length-append (answersOf n s asks) (drop (length (answersOf n s asks)) out) in
+      let p : 2 * n + 2 ≤ length (rowsOf n s asks ++ drop (2 * n) outcomes) = omega (arith, x, rows-long s asks n, length-drop (2 * n) outcomes) in
+      let q : length (answersOf n s asks) + 573 ≤ length (answersOf n s asks ++ drop (length (answersOf n s asks)) out) = omega (arith, y, a, length-drop (length (answersOf n s asks)) out) in
+      rw (
+        lt-ltb (startAt n asks) (length asks) h,
+        le-leb (2 * n + 2) (length (rowsOf n s asks ++ drop (2 * n) outcomes)) p,
+        le-leb (length (answersOf n s asks) + 573) (length (answersOf n s asks ++ drop (length (answersOf n s asks)) out)) q,
+      )
+    where
+      earlier : Dec (count ≤ n) → n < count
+      earlier (yes le) =
+          let k : count + (n - count) ≡ n = omega arith in
+          let m = start-later asks count (n - count) in
+          let w : startAt count asks ≤ startAt n asks = subst (λ (i : ℕ). startAt count asks ≤ startAt i asks) k m in
+          absurd (omega arith)
+      earlier (no gt) = omega arith
+
+  pub all-lines-answered : answered (length asks) s asks (start outcomes out) .used ≡ length asks
+  unfolding batchAt
+  all-lines-answered =
+      let n = answered (length asks) s asks (start outcomes out) .lines in
+      let is = batch-is s asks outcomes out (length asks) in
+      let u : answered (length asks) s asks (start outcomes out) .used ≡ startAt n asks = ap (λ (b : Batch). b .used) is in
+      let stop : goes asks (batchAt n s asks outcomes out) ≡ false = subst (λ (b : Batch). goes asks b ≡ false) is (stops-for-want s asks outcomes out) in
+      u ∙ end n stop (decLe (length asks) (startAt n asks))
+    where
+      end : (n : ℕ) → goes asks (batchAt n s asks outcomes out) ≡ false → Dec (length asks ≤ startAt n asks) → startAt n asks ≡ length asks
+      end n stop (yes le) = let h = start-inside asks n in omega arith
+      end n stop (no gt) = absurd (let z : _≡_ {A = Bool} true false = sym (goes-still n (omega arith)) ∙ stop in let w : _≡_ {A = ℕ} 0 1 = cc in omega arith)

@@ -1,0 +1,156 @@
+-- A buffer of ask lines answered line after line, each as the office's single call answers it. Definitions only.
+use Prim.Native.Nat.{ℕ, zero, suc, _+_, _*_}
+use mathlib.Core.Path.{_≡_}
+use mathlib.Core.Bool.{Bool, true, cond, _&&_}
+use mathlib.Core.List.{List, [], _∷_, _++_}
+use lib.Dec.{ltb, leb, eqb}
+use lib.ListN.{length, getD, take, drop, set}
+use Rattle.paper.specs.declared.lines.Wrote.{Wrote}
+use Rattle.paper.specs.declared.lines.Wrote.the-variants.{Line, Refused}
+use Rattle.paper.specs.Outcomes.{Outcome, refused, gives, must, number}
+use Rattle.paper.specs.Tree.{Store}
+use Rattle.paper.specs.Ends.{answerRoom}
+use Rattle.paper.specs.Codec.{roomAfter}
+use Rattle.paper.specs.Calls.{onTable, officeCall}
+use Rattle.nearby.specs.Checks.{tableRefusal}
+use Rattle.batch.specs.declared.Answered.{Answered}
+use Rattle.batch.specs.declared.rows.Said.{Said}
+
+-- how long the first line of a buffer is: up to and with its first 0A, or all that there is
+unfoldable pub cutAt : List ℕ → ℕ
+cutAt [] = 0
+cutAt (x ∷ l) = cond (eqb x 10) 1 (suc (cutAt l))
+
+-- the first line of what is left from `at` on
+unfoldable pub lineAt : List ℕ → ℕ → List ℕ
+lineAt asks at = take (cutAt (drop at asks)) (drop at asks)
+
+-- how far the answering is: lines answered, characters of asks used and of answers written, and the two rooms
+pub record Batch : Type 0 where
+  pub lines : ℕ
+  pub used : ℕ
+  pub written : ℕ
+  pub outcomes : List ℕ
+  pub out : List ℕ
+
+abbrev pub start : List ℕ → List ℕ → Batch
+start outcomes out = record { lines = 0; used = 0; written = 0; outcomes = outcomes; out = out }
+
+-- what the single call gives for the line at hand, in the room that is left
+unfoldable pub answerNow : Store → List ℕ → Batch → Outcome (List ℕ)
+answerNow s asks b = officeCall s (length (drop (b .written) (b .out))) (lineAt asks (b .used))
+
+unfoldable pub lengthSaid : Outcome (List ℕ) → ℕ
+lengthSaid (refused n) = 0
+lengthSaid (gives line) = length line
+
+-- row k of the outcomes: the refusal's number, and how long the answer line is
+unfoldable pub rowPut : List ℕ → ℕ → ℕ → ℕ → List ℕ
+rowPut l k refusal size = set (set l (2 * k) refusal) (2 * k + 1) size
+
+unfoldable pub stepBy : Outcome (List ℕ) → List ℕ → Batch → Batch
+stepBy o asks b =
+    record {
+      lines = b .lines + 1;
+      used = b .used + cutAt (drop (b .used) asks);
+      written = b .written + lengthSaid o;
+      outcomes = rowPut (b .outcomes) (b .lines) (number o) (lengthSaid o);
+      out = take (b .written) (b .out) ++ roomAfter o (drop (b .written) (b .out));
+    }
+
+-- one line more
+unfoldable pub step : Store → List ℕ → Batch → Batch
+step s asks b = stepBy (answerNow s asks b) asks b
+
+-- while a byte of the asks is left, a row of the outcomes, and room for the longest line
+unfoldable pub goes : List ℕ → Batch → Bool
+goes asks b =
+    ltb (b .used) (length asks)
+    && (leb (2 * b .lines + 2) (length (b .outcomes)) && leb (b .written + 573) (length (b .out)))
+
+-- the first number bounds the steps
+unfoldable pub answered : ℕ → Store → List ℕ → Batch → Batch
+answered zero s asks b = b
+answered (suc f) s asks b = cond (goes asks b) (answered f s asks (step s asks b)) b
+
+-- "Refusals 12, 1, 2", and then line after line: every line uses a byte, so the bytes bound the steps
+unfoldable pub batchCall : Store → List ℕ → List ℕ → List ℕ → Outcome Batch
+batchCall s asks outcomes out =
+    must (answerRoom (length out)) 12 (onTable s (gives (answered (length asks) s asks (start outcomes out))))
+
+-- a refused call leaves what it found
+unfoldable pub batchAfter : Outcome Batch → Batch → Batch
+batchAfter (refused n) b = b
+batchAfter (gives a) b = a
+
+-- ---- what it comes to, line by line
+
+-- where line k of the asks starts, and the line
+unfoldable pub startAt : ℕ → List ℕ → ℕ
+startAt zero asks = 0
+startAt (suc k) asks = startAt k asks + cutAt (drop (startAt k asks) asks)
+
+unfoldable pub nthLine : ℕ → List ℕ → List ℕ
+nthLine k asks = lineAt asks (startAt k asks)
+
+-- what the single call gives for line k
+unfoldable pub alone : Store → List ℕ → ℕ → Outcome (List ℕ)
+alone s asks k = officeCall s 573 (nthLine k asks)
+
+unfoldable pub lineSaid : Outcome (List ℕ) → List ℕ
+lineSaid (refused n) = []
+lineSaid (gives line) = line
+
+-- the answer lines to the first n lines, one after another, and the rows of their outcomes
+unfoldable pub answersOf : ℕ → Store → List ℕ → List ℕ
+answersOf zero s asks = []
+answersOf (suc n) s asks = answersOf n s asks ++ lineSaid (alone s asks n)
+
+unfoldable pub rowsOf : ℕ → Store → List ℕ → List ℕ
+rowsOf zero s asks = []
+rowsOf (suc n) s asks = rowsOf n s asks ++ (number (alone s asks n) ∷ lengthSaid (alone s asks n) ∷ [])
+
+-- the first n lines answered, into the front of two rooms
+unfoldable pub batchAt : ℕ → Store → List ℕ → List ℕ → List ℕ → Batch
+batchAt n s asks outcomes out =
+    record {
+      lines = n;
+      used = startAt n asks;
+      written = length (answersOf n s asks);
+      outcomes = rowsOf n s asks ++ drop (2 * n) outcomes;
+      out = answersOf n s asks ++ drop (length (answersOf n s asks)) out;
+    }
+
+-- line k stands in the batch as the single call answers it
+pub record AsAlone (s : Store) (asks : List ℕ) (b : Batch) (k : ℕ) : Type 0 where
+  pub refusal : getD (b .outcomes) (2 * k) 0 ≡ number (alone s asks k)
+  pub size : getD (b .outcomes) (2 * k + 1) 0 ≡ lengthSaid (alone s asks k)
+  pub line : take (lengthSaid (alone s asks k)) (drop (length (answersOf k s asks)) (b .out)) ≡ lineSaid (alone s asks k)
+
+-- ---- contracts
+
+-- what a result says, with the two rooms
+abbrev pub batchOf : Answered → List ℕ → List ℕ → Batch
+batchOf r outcomes out = record { lines = r .lines; used = r .used; written = r .written; outcomes = outcomes; out = out }
+
+-- what the call promises, where the definition says o and the call found b
+pub record Promise (o : Outcome Batch) (b : Batch) (r : Answered) (outcomes out : List ℕ) : Type 0 where
+  pub refusal : r .refusal ≡ number o
+  pub batch : batchOf r outcomes out ≡ batchAfter o b
+
+abbrev pub refusedBy : ℕ → Answered
+refusedBy n = record { refusal = n; lines = 0; used = 0; written = 0 }
+
+-- the batch stands at b, and nothing is refused
+pub record Stands (b : Batch) (r : Answered) (outcomes out : List ℕ) : Type 0 where
+  pub refusal : r .refusal ≡ 0
+  pub batch : batchOf r outcomes out ≡ b
+
+-- a table that may be asked, and a line to answer
+pub record Turning (s : Store) (asks : List ℕ) (b : Batch) : Type 0 where
+  pub sound : 0 ≡ tableRefusal s
+  pub more : goes asks b ≡ true
+
+unfoldable pub saidBy : Wrote → Said
+saidBy (Refused n) = record { refusal = n; length = 0 }
+saidBy (Line n) = record { refusal = 0; length = n }

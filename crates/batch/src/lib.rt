@@ -1,0 +1,53 @@
+// A buffer of ask lines in, answer lines out: the table is tested once, and then line after line is answered as the
+// office's single call would answer it.
+mod rows;
+mod turns;
+
+ghost use Rattle.paper.specs.Tree.{store};
+ghost use Rattle.batch.specs.Batch.{start, batchCall, Promise, refusedBy};
+ghost use mathlib.Core.Path.{_≡_};
+use paper::tables::Table;
+use turns::answer_lines;
+
+// How many lines were answered, how many characters of the asks they used, and how many characters of answers were
+// written; all 0 beside a refusal.
+#[repr(C)]
+pub struct Answered {
+    pub refusal: u8,
+    pub lines: usize,
+    pub used: usize,
+    pub written: usize,
+}
+
+fn refused(n: u8) -> Answered
+    ensures { λ r. ⌜ r ≡ refusedBy n ⌝ }
+{
+    Answered {
+        refusal: n,
+        lines: 0,
+        used: 0,
+        written: 0,
+    }
+}
+
+// Refusals 12, 1, 2; a line's own refusals stand beside it.
+pub fn answer_all(
+    t: Table,
+    references: &[u32],
+    coordinates: &[i32],
+    rooms: &[u64],
+    asks: &[u8],
+    outcomes: &mut [u64],
+    out: &mut [u8],
+) -> Answered
+    ensures { λ r. ⌜ Promise (batchCall (store t (now (references .entry)) (now (coordinates .entry)) (now (rooms .entry))) (now (asks .entry)) (now (outcomes .entry)) (now (out .entry))) (start (now (outcomes .entry)) (now (out .entry))) r (now (outcomes .exit)) (now (out .exit)) ⌝ }
+{
+    if out.len() < 573 {
+        return refused(12);
+    }
+    let why = nearby::table_refusal(t, references, coordinates, rooms);
+    if why != 0 {
+        return refused(why);
+    }
+    answer_lines(t, references, coordinates, rooms, asks, outcomes, out)
+}

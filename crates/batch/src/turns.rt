@@ -1,0 +1,91 @@
+// Line after line.
+ghost use mathlib.Core.Path.{_≡_};
+ghost use Prim.Native.Nat.{_+_, _*_};
+ghost use mathlib.Core.Bool.{_&&_};
+ghost use lib.Dec.{ltb, leb};
+ghost use lib.ListN.{length};
+ghost use Rattle.paper.specs.Tree.{store};
+ghost use Rattle.nearby.specs.Checks.{tableRefusal};
+ghost use Rattle.batch.specs.Batch.{start, step, answered, batchOf, Stands, Turning};
+use super::rows::line_end;
+use super::rows::put_row;
+use super::rows::said_of;
+use crate::Answered;
+use paper::tables::Table;
+
+// Whether a byte of the asks is left, a row of the outcomes, and room for the longest line.
+fn goes_on(d: Answered, asks: usize, outcomes: usize, out: usize) -> bool
+    ensures { λ r. ⌜ r ≡ (ltb (d .used) asks && (leb (2 * d .lines + 2) outcomes && leb (d .written + 573) out)) ⌝ }
+{
+    if asks <= d.used {
+        return false;
+    }
+    if outcomes / 2 <= d.lines {
+        return false;
+    }
+    if out < 573 {
+        return false;
+    }
+    d.written <= out - 573
+}
+
+// Answers the next line.
+fn answer_next(
+    t: Table,
+    references: &[u32],
+    coordinates: &[i32],
+    rooms: &[u64],
+    asks: &[u8],
+    d: Answered,
+    outcomes: &mut [u64],
+    out: &mut [u8],
+) -> Answered
+    requires { ⌜ Turning (store t (now references) (now coordinates) (now rooms)) (now asks) (batchOf d (now outcomes) (now out)) ⌝ }
+    ensures { λ r. ⌜ Stands (step (store t (now (references .entry)) (now (coordinates .entry)) (now (rooms .entry))) (now (asks .entry)) (batchOf d (now (outcomes .entry)) (now (out .entry)))) r (now (outcomes .exit)) (now (out .exit)) ⌝ }
+{
+    let at = d.used;
+    let w = d.written;
+    let k = d.lines;
+    let e = line_end(asks, at);
+    let wrote = desk::answer_line(
+        t,
+        references,
+        coordinates,
+        rooms,
+        &asks[at..e],
+        &mut out[w..],
+    );
+    let said = said_of(wrote);
+    put_row(outcomes, k, said);
+    Answered {
+        refusal: 0,
+        lines: k + 1,
+        used: e,
+        written: w + said.length,
+    }
+}
+
+// Answers lines while there is one, and room for it.
+pub fn answer_lines(
+    t: Table,
+    references: &[u32],
+    coordinates: &[i32],
+    rooms: &[u64],
+    asks: &[u8],
+    outcomes: &mut [u64],
+    out: &mut [u8],
+) -> Answered
+    requires { ⌜ 0 ≡ tableRefusal (store t (now references) (now coordinates) (now rooms)) ⌝ }
+    ensures { λ r. ⌜ Stands (answered (length (now (asks .entry))) (store t (now (references .entry)) (now (coordinates .entry)) (now (rooms .entry))) (now (asks .entry)) (start (now (outcomes .entry)) (now (out .entry)))) r (now (outcomes .exit)) (now (out .exit)) ⌝ }
+{
+    let mut d = Answered {
+        refusal: 0,
+        lines: 0,
+        used: 0,
+        written: 0,
+    };
+    while goes_on(d, asks.len(), outcomes.len(), out.len()) {
+        d = answer_next(t, references, coordinates, rooms, asks, d, outcomes, out);
+    }
+    d
+}

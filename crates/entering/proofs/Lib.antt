@@ -1,0 +1,2 @@
+-- What a world enters, and what the call enters.
+pub mod Entering

@@ -1,0 +1,268 @@
+-- One law for each way through the calls for many pages. Assumes nothing.
+use Prim.Native.Nat.{ℕ, suc, _+_, _-_, _*_, _<_, _≤_}
+use mathlib.Core.Path.{_≡_, refl, sym, ap, _∙_}
+use mathlib.Core.Bool.{Bool, true, false, not, cond}
+use mathlib.Core.List.{List, [], _∷_, _++_}
+use native.Mathlib.Nat.{mul-comm}
+use native.Mathlib.Omega.{arith}
+use lib.Dec.{leb, eqb}
+use lib.IntN.{ℤ}
+use lib.ListN.{length, getD, set, take, drop}
+use lib.Seq.{sets, drop-drop}
+use borrow.Author.Tests.{leb-true, eqb-true, eq-eqb, ne-eqb, not-true, not-false}
+use Rattle.paper.specs.declared.orders.Order.the-variants.{Near}
+use Rattle.paper.specs.declared.orders.Mark.{Mark}
+use Rattle.paper.specs.declared.orders.Page as answers
+use Rattle.paper.specs.declared.orders.Paged.{Paged}
+use Rattle.paper.specs.declared.orders.Place.{Place}
+use Rattle.paper.specs.declared.orders.Place.the-variants.{Start, After}
+use Rattle.paper.specs.Points.{point}
+use Rattle.paper.specs.Orders.{markAt, snapshotOf, markHolds}
+use Rattle.paper.specs.Outcomes.{Outcome, refused, gives, must, number}
+use Rattle.paper.specs.Tree.{Store, claimsIn, fits, sound}
+use Rattle.paper.specs.Ends.{sizeHolds}
+use Rattle.paper.specs.Calls.{tableQuery, PageOf, pageTold, counted, pageCall, pageRoom}
+use Rattle.paper.proofs.Tests.{and-first, and-second}
+use Rattle.walk.specs.Asking.{Markable}
+use Rattle.tablet.proofs.TakeLaws.{must-stop, must-go}
+use Rattle.nearby.specs.Checks.{tableRefusal, PagePromise}
+use Rattle.nearby.proofs.CallLaws.{page-7, page-8, page-0, page-markable, number-0}
+use Rattle.many.specs.Rows.{row, each}
+use Rattle.many.specs.Counts.{onMany, manyRefusal}
+use Rattle.many.specs.Pages.{placeAt, pageAt, pageRow, putPage, putItems, Rooms, bothRooms, onPages, pagesRefusal, pagesEach, Pages, Askable, OnePage, AllPages}
+use Rattle.many.proofs.Ways.{part-point, part-length, row-in, many-refused, many-goes}
+
+-- ---- rows
+
+pub three : (l : List ℕ) (a x y z : ℕ) → set (set (set l a x) (a + 1) y) (a + 2) z ≡ sets l a (x ∷ y ∷ z ∷ [])
+three l a x y z =
+    let p : a + 1 ≡ suc a = omega arith in
+    let q : a + 2 ≡ suc (suc a) = omega arith in
+    rw (p, q)
+
+module _ (a : answers.Page) (before after : List ℕ) (at : ℕ) where
+  pub row-refused : (n : ℕ) → a ≡ answers.the-variants.Refused n → after ≡ sets before at (n ∷ 0 ∷ 0 ∷ []) → after ≡ sets before at (pageRow (pageTold a))
+  unfolding pageTold pageRow
+  row-refused n e w = w ∙ sym (ap (λ (x : answers.Page). sets before at (pageRow (pageTold x))) e)
+
+  pub row-filled : (p : Paged) (l : ℕ) → a ≡ answers.the-variants.Filled p → l ≡ cond (p .last) 1 0 → after ≡ sets before at (0 ∷ p .count ∷ l ∷ [])
+      → after ≡ sets before at (pageRow (pageTold a))
+  unfolding pageTold pageRow
+  row-filled p l e f w =
+      w ∙ ap (λ (x : ℕ). sets before at (0 ∷ p .count ∷ x ∷ [])) f ∙ sym (ap (λ (x : answers.Page). sets before at (pageRow (pageTold x))) e)
+
+-- ---- a place as four numbers
+
+module _ (places : List ℕ) (i : ℕ) where
+  pub place-start : getD places (i * 4) 0 ≡ 0 → Start ≡ placeAt places i
+  unfolding placeAt
+  place-start h = rw (eq-eqb (getD places (i * 4) 0) 0 h)
+
+  pub place-after : (getD places (i * 4) 0 ≡ 0 → ⊥) → (m : Mark) → m ≡ markAt (getD places (i * 4 + 2) 0) (getD places (i * 4 + 3) 0)
+      → After (getD places (i * 4 + 1) 0) m ≡ placeAt places i
+  unfolding placeAt
+  place-after h m e = rw (ne-eqb (getD places (i * 4) 0) 0 h, e)
+
+-- ---- 7 and 8, where the table, the probe, the size and the room are right
+
+module _ (s : Store) (probe : List ℤ) (reach : ℕ) (place : Place) (size room : ℕ) (k : Askable s (length probe) size room) (b : Bool)
+    (be : b ≡ leb (snapshotOf place (s .table .count)) (s .table .count)) where
+  pub here-7 : not b ≡ true → _≡_ {A = ℕ} 7 (number (pageCall s Near probe reach place size room))
+  here-7 h = page-7 s probe reach place size room 0 (k .tested) refl (k .aimed) true (sym (k .size)) refl b be h
+
+  module _ (hb : not b ≡ false) where
+    pub here-markable : Markable (s .table) (s .coordinates) probe place
+    here-markable = page-markable s probe reach place size room 0 (k .tested) refl (k .aimed) true (sym (k .size)) refl b be hb
+
+    module _ (e : Bool) (ee : e ≡ markHolds (tableQuery s Near probe reach) (claimsIn s) place) where
+      pub here-8 : not e ≡ true → _≡_ {A = ℕ} 8 (number (pageCall s Near probe reach place size room))
+      here-8 h = page-8 s probe reach place size room 0 (k .tested) refl (k .aimed) true (sym (k .size)) refl b be hb e ee h
+
+      pub here-0 : not e ≡ false → _≡_ {A = ℕ} 0 (number (pageCall s Near probe reach place size room))
+      here-0 h =
+          page-0 s probe reach place size room 0 (k .tested) refl (k .aimed) true (sym (k .size)) refl b be hb e ee h
+          (let r : size * 3 ≤ room = k .room in omega arith)
+
+-- ---- the whole call: 1, 2, 5, 6, 12
+
+module _ (s : Store) (probes n places size outcomes items : ℕ) where
+  abbrev whole : ℕ
+  whole = pagesRefusal s probes n places size outcomes items
+
+  module _ (why : ℕ) (we : why ≡ manyRefusal s probes n) where
+    pub pages-many : (why ≡ 0 → ⊥) → why ≡ whole
+    unfolding pagesRefusal
+    pages-many h = sym (ap number (many-refused s probes n why we _ h))
+
+    module _ (ok : why ≡ 0) (a : Bool) (ae : a ≡ eqb places (4 * n)) where
+      abbrev from-5 : Outcome ℕ
+      from-5 = must (eqb places (4 * n)) 5 (must (sizeHolds size) 6 (must (leb (n * 3) outcomes) 12 (must (leb (n * (size * 3)) items) 12 (gives n))))
+
+      to-5 : whole ≡ number from-5
+      unfolding pagesRefusal
+      to-5 = ap number (many-goes s probes n why we ok from-5)
+
+      pub pages-5 : not a ≡ true → 5 ≡ whole
+      pages-5 h = sym (to-5 ∙ ap number (must-stop (eqb places (4 * n)) 5 _ (sym ae ∙ not-true a h)))
+
+      module _ (ha : not a ≡ false) (b : Bool) (be : b ≡ sizeHolds size) where
+        abbrev from-6 : Outcome ℕ
+        from-6 = must (sizeHolds size) 6 (must (leb (n * 3) outcomes) 12 (must (leb (n * (size * 3)) items) 12 (gives n)))
+
+        to-6 : whole ≡ number from-6
+        to-6 = to-5 ∙ ap number (must-go (eqb places (4 * n)) 5 from-6 (sym ae ∙ not-false a ha))
+
+        pub pages-6 : not b ≡ true → 6 ≡ whole
+        pages-6 h = sym (to-6 ∙ ap number (must-stop (sizeHolds size) 6 _ (sym be ∙ not-true b h)))
+
+        module _ (hb : not b ≡ false) where
+          pub pages-small : size ≤ 16
+          pages-small = leb-true size 16 (and-second (leb 1 size) (leb size 16) (sym be ∙ not-false b hb))
+
+          pub pages-some : 1 ≤ size
+          pages-some = leb-true 1 size (and-first (leb 1 size) (leb size 16) (sym be ∙ not-false b hb))
+
+          module _ (e : Bool) (ee : e ≡ leb (n * 3) outcomes) where
+            abbrev from-12 : Outcome ℕ
+            from-12 = must (leb (n * 3) outcomes) 12 (must (leb (n * (size * 3)) items) 12 (gives n))
+
+            to-12 : whole ≡ number from-12
+            to-12 = to-6 ∙ ap number (must-go (sizeHolds size) 6 from-12 (sym be ∙ not-false b hb))
+
+            pub pages-12 : not e ≡ true → 12 ≡ whole
+            pages-12 h = sym (to-12 ∙ ap number (must-stop (leb (n * 3) outcomes) 12 _ (sym ee ∙ not-true e h)))
+
+            module _ (he : not e ≡ false) (f : Bool) (fe : f ≡ leb (n * (size * 3)) items) where
+              abbrev last : Outcome ℕ
+              last = must (leb (n * (size * 3)) items) 12 (gives n)
+
+              to-last : whole ≡ number last
+              to-last = to-12 ∙ ap number (must-go (leb (n * 3) outcomes) 12 last (sym ee ∙ not-false e he))
+
+              pub pages-12-items : not f ≡ true → 12 ≡ whole
+              pages-12-items h = sym (to-last ∙ ap number (must-stop (leb (n * (size * 3)) items) 12 (gives n) (sym fe ∙ not-true f h)))
+
+              pub pages-0 : not f ≡ false → 0 ≡ whole
+              pages-0 h = sym (to-last ∙ ap number (must-go (leb (n * (size * 3)) items) 12 (gives n) (sym fe ∙ not-false f h)))
+
+-- ---- question i
+
+pub row-askable : (s : Store) (probes : List ℤ) (items : List ℕ) (i size places outcomes : ℕ) → OnePage s (length probes) places i size outcomes (length items)
+    → Askable s (length (take (i * s .table .d + s .table .d - i * s .table .d) (drop (i * s .table .d) probes))) size
+    (length (take (i * (size * 3) + size * 3 - i * (size * 3)) (drop (i * (size * 3)) items)))
+row-askable s probes items i size places outcomes h =
+    record {
+      tested = h .tested;
+      aimed = part-length (s .table .d) i probes (h .aimed);
+      size = h .size;
+      room = let e = part-length (size * 3) i items (h .items) in omega (arith, e);
+    }
+
+module _ (f : List ℤ → Place → ℕ → Outcome PageOf) (d i w : ℕ) (probes : List ℤ) (places : List ℕ) (q : Place) (items outcomes : List ℕ)
+    (qe : q ≡ placeAt places i) (long : i * w + w ≤ length items) where
+  abbrev asked : Outcome PageOf
+  asked = f (take (i * d + d - i * d) (drop (i * d) probes)) q (length (take (i * w + w - i * w) (drop (i * w) items)))
+
+  abbrev meant : Outcome PageOf
+  meant = f (point d probes i) (placeAt places i) w
+
+  asked-is : asked ≡ meant
+  asked-is =
+      ap (λ (x : List ℤ). f x q (length (take (i * w + w - i * w) (drop (i * w) items)))) (part-point d i probes)
+      ∙ ap (λ (x : Place). f (point d probes i) x (length (take (i * w + w - i * w) (drop (i * w) items)))) qe
+      ∙ ap (f (point d probes i) (placeAt places i)) (part-length w i items long)
+
+  pub page-row-is : (p : answers.Page) (after ys : List ℕ) → PagePromise asked p (take (i * w + w - i * w) (drop (i * w) items)) ys
+      → after ≡ sets outcomes (i * 3) (pageRow (pageTold p))
+      → (after ≡ putPage (λ k. meant) i outcomes) × (take (i * w) items ++ (ys ++ drop (i * w + w - i * w) (drop (i * w) items)) ≡ putItems (λ k. meant) w i items)
+  page-row-is p after ys h e =
+      let k : i * w + w - i * w ≡ w = omega arith in (
+        e ∙ ap (λ x. sets outcomes (i * 3) (pageRow x)) (h .answer) ∙ ap (λ x. sets outcomes (i * 3) (pageRow (counted x))) asked-is,
+        ap (λ (x : List ℕ). take (i * w) items ++ (x ++ drop (i * w + w - i * w) (drop (i * w) items)))
+            (h .room ∙ ap (λ x. pageRoom x (take (i * w + w - i * w) (drop (i * w) items))) asked-is)
+            ∙ ap (λ (n : ℕ). take (i * w) items ++ (pageRoom meant (take n (drop (i * w) items)) ++ drop n (drop (i * w) items))) k
+            ∙ ap (λ (x : List ℕ). take (i * w) items ++ (pageRoom meant (row w i items) ++ x)) (drop-drop w (i * w) items),
+      )
+
+-- ---- question after question
+
+pub one-page : (s : Store) (probes n places size outcomes items i told rest : ℕ) → AllPages s probes n places size outcomes items → i < n
+    → told ≡ outcomes → rest ≡ items → OnePage s probes places i size told rest
+one-page s probes n places size outcomes items i told rest m h te re =
+    let e : s .table .d * n ≡ n * s .table .d = mul-comm (s .table .d) n in
+    record {
+      tested = m .tested;
+      aimed = omega (arith, row-in (s .table .d) i n h, m .aimed);
+      place = omega (arith, m .places);
+      size = m .size;
+      outcome = omega (arith, m .outcomes);
+      items = omega (arith, row-in (size * 3) i n h, m .items);
+    }
+
+-- ---- the whole call
+
+lifted : {A B : Type 0} (b : Bool) (n : ℕ) (x : Outcome A) (y : Outcome B) → ((number y ≡ 0 → ⊥) → x ≡ refused (number y))
+    → (number (must b n y) ≡ 0 → ⊥) → must b n x ≡ refused (number (must b n y))
+lifted true n x y h no0 = h no0
+lifted false n x y h no0 = refl
+
+module _ (s : Store) (probes : List ℤ) (reaches places : List ℕ) (size : ℕ) (before : Rooms) (why : ℕ)
+    (we : why ≡ pagesRefusal s (length probes) (length reaches) (length places) size (length (before .outcomes)) (length (before .items))) where
+  abbrev n : ℕ
+  n = length reaches
+
+  abbrev done : Rooms
+  done =
+      bothRooms (each (putPage (pageAt s probes reaches places size)) n (before .outcomes))
+      (each (putItems (pageAt s probes reaches places size) (size * 3)) n (before .items))
+
+  stopped : (why ≡ 0 → ⊥) → pagesEach s probes reaches places size before ≡ refused why
+  unfolding pagesEach pagesRefusal
+  stopped h =
+      lifted (fits s) 1 _ _
+      (lifted (sound s) 2 _ _
+      (lifted (eqb (length probes) (s .table .d * n)) 5 _ _
+      (lifted (eqb (length places) (4 * n)) 5 _ _
+      (lifted (sizeHolds size) 6 _ _
+      (lifted (leb (n * 3) (length (before .outcomes))) 12 _ _
+      (lifted (leb (n * (size * 3)) (length (before .items))) 12 (gives done) (gives n) (λ no0. absurd (no0 refl))))))))
+      (λ e. h (we ∙ e))
+      ∙ ap refused (sym we)
+
+  pub pages-refused : (why ≡ 0 → ⊥) → Pages (pagesEach s probes reaches places size before) before why before
+  pages-refused h = let e = stopped h in record { refusal = rw e; rooms = rw e }
+
+  module _ (ok : why ≡ 0) where
+    passed : AllPages s (length probes) n (length places) size (length (before .outcomes)) (length (before .items))
+        × (pagesEach s probes reaches places size before ≡ gives done)
+    unfolding pagesEach pagesRefusal tableRefusal
+    passed =
+        let p₁ = number-0 (fits s) 0 _ (sym we ∙ ok) in
+        let p₂ = number-0 (sound s) 1 _ (p₁ .1) in
+        let p₅ = number-0 (eqb (length probes) (s .table .d * n)) 4 _ (p₂ .1) in
+        let q₅ = number-0 (eqb (length places) (4 * n)) 4 _ (p₅ .1) in
+        let p₆ = number-0 (sizeHolds size) 5 _ (q₅ .1) in
+        let p₁₂ = number-0 (leb (n * 3) (length (before .outcomes))) 11 _ (p₆ .1) in
+        let q₁₂ = number-0 (leb (n * (size * 3)) (length (before .items))) 11 (gives n) (p₁₂ .1) in (
+          record {
+            tested = rw (p₁ .0, p₂ .0);
+            aimed = eqb-true (length probes) (s .table .d * n) (p₅ .0);
+            places = eqb-true (length places) (4 * n) (q₅ .0);
+            size = p₆ .0;
+            outcomes = leb-true (n * 3) (length (before .outcomes)) (p₁₂ .0);
+            items = leb-true (n * (size * 3)) (length (before .items)) (q₁₂ .0);
+          },
+          must-go (fits s) 1 _ (p₁ .0) ∙ must-go (sound s) 2 _ (p₂ .0) ∙ must-go (eqb (length probes) (s .table .d * n)) 5 _ (p₅ .0)
+              ∙ must-go (eqb (length places) (4 * n)) 5 _ (q₅ .0) ∙ must-go (sizeHolds size) 6 _ (p₆ .0)
+              ∙ must-go (leb (n * 3) (length (before .outcomes))) 12 _ (p₁₂ .0)
+              ∙ must-go (leb (n * (size * 3)) (length (before .items))) 12 (gives done) (q₁₂ .0),
+        )
+
+    pub pages-all : AllPages s (length probes) n (length places) size (length (before .outcomes)) (length (before .items))
+    pages-all = passed .0
+
+    pub pages-done : (told rest : List ℕ) → told ≡ done .outcomes → rest ≡ done .items
+        → Pages (pagesEach s probes reaches places size before) before 0 (bothRooms told rest)
+    pages-done told rest te re =
+        let e = passed .1 in
+        record { refusal = rw e; rooms = rw e (ap (λ (x : List ℕ). bothRooms x rest) te ∙ ap (bothRooms (done .outcomes)) re) }

@@ -1,0 +1,191 @@
+-- One law for each way through a call for many questions. Assumes nothing.
+use Prim.Native.Nat.{ℕ, suc, _+_, _-_, _*_, _/_, _<_, _≤_}
+use mathlib.Core.Path.{_≡_, refl, sym, ap, _∙_}
+use mathlib.Core.Bool.{Bool, true, false, not}
+use mathlib.Core.List.{List, [], _∷_}
+use native.Mathlib.Nat.{div-lt-iff-lt-mul, le-div-iff-mul-le, mul-le-mul-right, suc-mul, mul-comm}
+use native.Mathlib.Omega.{arith}
+use lib.Dec.{leb, eqb}
+use lib.IntN.{ℤ}
+use lib.ListN.{length, set, take, drop, length-drop}
+use lib.Seq.{sets, length-sets, length-take-le}
+use borrow.Author.Tests.{le-leb, lt-leb, leb-true, eqb-true, eq-eqb, ne-eqb, not-true, not-false}
+use Rattle.paper.specs.Points.{point}
+use Rattle.paper.specs.declared.orders.Found as answers
+use Rattle.paper.specs.Orders.{Found, told}
+use Rattle.paper.specs.Outcomes.{Outcome, refused, gives, must, number}
+use Rattle.paper.specs.Tree.{Store, fits, sound}
+use Rattle.tree.specs.Soundness.{Good}
+use Rattle.walk.specs.Asking.{Answerable}
+use Rattle.tablet.proofs.TakeLaws.{must-stop, must-go}
+use Rattle.nearby.specs.Checks.{tableRefusal}
+use Rattle.nearby.proofs.CallLaws.{table-refused, table-good, table-goes, good-answerable}
+use Rattle.many.specs.Rows.{each, foundRow, putFound}
+use Rattle.many.specs.Counts.{onMany, manyRefusal}
+use Rattle.many.specs.Many.{firstsCall, left, Answers, Many, One}
+
+-- ---- rows
+
+pub four : (l : List ℕ) (a w x y z : ℕ) → set (set (set (set l a w) (a + 1) x) (a + 2) y) (a + 3) z ≡ sets l a (w ∷ x ∷ y ∷ z ∷ [])
+four l a w x y z =
+    let p : a + 1 ≡ suc a = omega arith in
+    let q : a + 2 ≡ suc (suc a) = omega arith in
+    let r : a + 3 ≡ suc (suc (suc a)) = omega arith in
+    rw (p, q, r)
+
+pub rows-short : (n w room : ℕ) → 1 ≤ w → room / w < n → false ≡ leb (n * w) room
+rows-short n w room h s = sym (lt-leb (n * w) room (div-lt-iff-lt-mul h .0 s))
+
+pub rows-enough : (n w room : ℕ) → 1 ≤ w → n ≤ room / w → true ≡ leb (n * w) room
+rows-enough n w room h s = sym (le-leb (n * w) room (le-div-iff-mul-le h .0 s))
+
+-- ---- 1, 2, 5
+
+module _ (s : Store) (probes n why : ℕ) (we : why ≡ tableRefusal s) where
+  pub many-table : (why ≡ 0 → ⊥) → why ≡ manyRefusal s probes n
+  unfolding manyRefusal
+  many-table h = sym (ap number (table-refused s why we _ h))
+
+  module _ (ok : why ≡ 0) where
+    pub many-wide : 1 ≤ s .table .d
+    many-wide = table-good s why we ok .fit .range .wide
+
+    module _ (b : Bool) (be : b ≡ eqb probes (s .table .d * n)) where
+      pub many-5 : not b ≡ true → _≡_ {A = ℕ} 5 (manyRefusal s probes n)
+      unfolding manyRefusal
+      many-5 h = sym (ap number (table-goes s why we ok _ ∙ must-stop (eqb probes (s .table .d * n)) 5 _ (sym be ∙ not-true b h)))
+
+      pub many-0 : not b ≡ false → _≡_ {A = ℕ} 0 (manyRefusal s probes n)
+      unfolding manyRefusal
+      many-0 h = sym (ap number (table-goes s why we ok _ ∙ must-go (eqb probes (s .table .d * n)) 5 _ (sym be ∙ not-false b h)))
+
+-- ---- question i
+
+pub part-point : (d i : ℕ) (l : List ℤ) → take (i * d + d - i * d) (drop (i * d) l) ≡ point d l i
+unfolding point
+part-point d i l = let e : i * d + d - i * d ≡ d = omega arith in rw e
+
+pub part-length : {A : Type 0} (d i : ℕ) (l : List A) → i * d + d ≤ length l → length (take (i * d + d - i * d) (drop (i * d) l)) ≡ d
+part-length d i l h =
+    let e : i * d + d - i * d ≡ d = omega arith in
+    let k : length (drop (i * d) l) ≡ length l - i * d = length-drop (i * d) l in
+    rw e (length-take-le d (drop (i * d) l) (omega (arith, k)))
+
+pub row-answerable : (s : Store) (probes : List ℤ) (i w out : ℕ) → One s (length probes) i w out
+    → Answerable (s .table) (s .references) (s .coordinates) (s .rooms) (take (i * s .table .d + s .table .d - i * s .table .d) (drop (i * s .table .d) probes))
+row-answerable s probes i w out h =
+    good-answerable s (table-good s 0 (h .tested) refl) (take (i * s .table .d + s .table .d - i * s .table .d) (drop (i * s .table .d) probes))
+    (part-length (s .table .d) i probes (h .aimed))
+
+pub row-found : (f : List ℤ → Found) (x : Found) (d i : ℕ) (probes : List ℤ) (before after : List ℕ)
+    → x ≡ f (take (i * d + d - i * d) (drop (i * d) probes)) → after ≡ sets before (i * 4) (foundRow x)
+    → after ≡ sets before (i * 4) (foundRow (f (point d probes i)))
+row-found f x d i probes before after e w =
+    w ∙ ap (λ (y : Found). sets before (i * 4) (foundRow y)) (e ∙ ap f (part-point d i probes))
+
+-- ---- rows one after another
+
+pub record Going (f : ℕ → List ℕ → List ℕ) (n i : ℕ) (before now : List ℕ) : Type 0 where
+  pub low : i ≤ n
+  pub same : now ≡ each f i before
+  pub long : length now ≡ length before
+
+pub going-start : (f : ℕ → List ℕ → List ℕ) (n : ℕ) (before : List ℕ) → Going f n 0 before before
+unfolding each
+going-start f n before = record { low = omega arith; same = refl; long = refl }
+
+pub going-on : (f : ℕ → List ℕ → List ℕ) (n i : ℕ) (before now after : List ℕ) → Going f n i before now → i < n
+    → after ≡ f i now → length after ≡ length now → Going f n (i + 1) before after
+unfolding each
+going-on f n i before now after g h e l =
+    let p : i + 1 ≡ suc i = omega arith in
+    record { low = omega arith; same = rw p (e ∙ ap (f i) (g .same)); long = l ∙ g .long }
+
+pub going-done : (f : ℕ → List ℕ → List ℕ) (n i : ℕ) (before now : List ℕ) → Going f n i before now → n ≤ i → now ≡ each f n before
+going-done f n i before now g h =
+    let e : i ≡ n = omega (arith, g .low) in
+    g .same ∙ ap (λ (k : ℕ). each f k before) e
+
+-- a row of those that are asked for
+pub row-in : (w i n : ℕ) → i < n → i * w + w ≤ n * w
+row-in w i n h = let e : suc i * w ≤ n * w = mul-le-mul-right w h in rw (suc-mul i w) at e
+
+pub one-of : (s : Store) (probes n i w out : ℕ) → Many s probes n w out → i < n → One s probes i w out
+one-of s probes n i w out m h =
+    let e : s .table .d * n ≡ n * s .table .d = mul-comm (s .table .d) n in
+    record {
+      tested = m .tested;
+      aimed = omega (arith, row-in (s .table .d) i n h, m .aimed);
+      room = omega (arith, row-in w i n h, m .room);
+    }
+
+-- ---- n questions for an item each: 1, 2, 5, 12
+
+abbrev chain : {A : Type 0} → Bool → Bool → Bool → Outcome A → Outcome A
+chain a b c x = must a 1 (must b 2 (must c 5 x))
+
+chain-stops : {A B : Type 0} (a b c : Bool) (y : B) (x : Outcome A) → (number (chain a b c (gives y)) ≡ 0 → ⊥)
+    → chain a b c x ≡ refused (number (chain a b c (gives y)))
+chain-stops true true true y x h = absurd (h refl)
+chain-stops true true false y x h = refl
+chain-stops true false c y x h = refl
+chain-stops false b c y x h = refl
+
+chain-goes : {B : Type 0} (a b c : Bool) (y : B) → number (chain a b c (gives y)) ≡ 0 → (a ≡ true) × (b ≡ true) × (c ≡ true)
+chain-goes true true true y h = (refl, refl, refl)
+chain-goes true true false y h = absurd (omega arith)
+chain-goes true false c y h = absurd (omega arith)
+chain-goes false b c y h = absurd (omega arith)
+
+tested-by : (s : Store) → fits s ≡ true → sound s ≡ true → 0 ≡ tableRefusal s
+unfolding tableRefusal
+tested-by s f e = rw (f, e)
+
+module _ (s : Store) (probes n why : ℕ) (we : why ≡ manyRefusal s probes n) where
+  pub many-refused : {A : Type 0} (x : Outcome A) → (why ≡ 0 → ⊥) → onMany s probes n x ≡ refused why
+  unfolding manyRefusal
+  many-refused x h =
+      chain-stops (fits s) (sound s) (eqb probes (s .table .d * n)) n x (λ e. h (we ∙ e)) ∙ ap refused (sym we)
+
+  module _ (ok : why ≡ 0) where
+    all : (fits s ≡ true) × (sound s ≡ true) × (eqb probes (s .table .d * n) ≡ true)
+    unfolding manyRefusal
+    all = chain-goes (fits s) (sound s) (eqb probes (s .table .d * n)) n (sym we ∙ ok)
+
+    pub many-goes : {A : Type 0} (x : Outcome A) → onMany s probes n x ≡ x
+    many-goes x = must-go (fits s) 1 _ (all .0) ∙ must-go (sound s) 2 _ (all .1) ∙ must-go (eqb probes (s .table .d * n)) 5 _ (all .2)
+
+    pub many-asked : (w out : ℕ) → n * w ≤ out → Many s probes n w out
+    many-asked w out h = record { tested = tested-by s (all .0) (all .1); aimed = eqb-true probes (s .table .d * n) (all .2); room = h }
+
+  module _ (answer : ℕ → Found) (out : List ℕ) where
+    pub firsts-refused : (why ≡ 0 → ⊥) → Answers (firstsCall s probes n answer out) out why out
+    unfolding firstsCall
+    firsts-refused h = let e = many-refused (must (leb (n * 4) (length out)) 12 (gives (each (putFound answer) n out))) h in record { refusal = rw e; room = rw e }
+
+    module _ (ok : why ≡ 0) (b : Bool) (be : b ≡ leb (n * 4) (length out)) where
+      pub firsts-12 : not b ≡ true → Answers (firstsCall s probes n answer out) out 12 out
+      unfolding firstsCall
+      firsts-12 h =
+          let e : firstsCall s probes n answer out ≡ refused 12 = many-goes ok _ ∙ must-stop (leb (n * 4) (length out)) 12 _ (sym be ∙ not-true b h) in
+          record { refusal = rw e; room = rw e }
+
+      pub firsts-many : not b ≡ false → Many s probes n 4 (length out)
+      firsts-many h = many-asked ok 4 (length out) (leb-true (n * 4) (length out) (sym be ∙ not-false b h))
+
+      pub firsts-answered : not b ≡ false → (after : List ℕ) → after ≡ each (putFound answer) n out → Answers (firstsCall s probes n answer out) out 0 after
+      unfolding firstsCall
+      firsts-answered h after w =
+          let e : firstsCall s probes n answer out ≡ gives (each (putFound answer) n out) = many-goes ok _ ∙ must-go (leb (n * 4) (length out)) 12 _ (sym be ∙ not-false b h) in
+          record { refusal = rw e; room = rw e w }
+
+-- ---- the cases of what was found
+
+module _ (a : answers.Found) (before after : List ℕ) (at : ℕ) where
+  pub row-nothing : a ≡ answers.the-variants.Nothing → after ≡ sets before at (0 ∷ 0 ∷ 0 ∷ 0 ∷ []) → after ≡ sets before at (foundRow (told a))
+  unfolding told foundRow
+  row-nothing e w = w ∙ sym (ap (λ (x : answers.Found). sets before at (foundRow (told x))) e)
+
+  pub row-item : (k y x : ℕ) → a ≡ answers.the-variants.Item k y x → after ≡ sets before at (1 ∷ k ∷ y ∷ x ∷ []) → after ≡ sets before at (foundRow (told a))
+  unfolding told foundRow
+  row-item k y x e w = w ∙ sym (ap (λ (z : answers.Found). sets before at (foundRow (told z))) e)

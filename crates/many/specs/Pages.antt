@@ -1,0 +1,108 @@
+-- Many pages of one table. Definitions only.
+use Prim.Native.Nat.{ℕ, _+_, _*_, _≤_}
+use mathlib.Core.Path.{_≡_}
+use mathlib.Core.Bool.{true, cond}
+use mathlib.Core.List.{List, [], _∷_, _++_}
+use lib.Dec.{leb, eqb}
+use lib.IntN.{ℤ}
+use lib.ListN.{length, getD, take, drop}
+use lib.Seq.{sets}
+use Rattle.paper.specs.declared.orders.Order.the-variants.{Near}
+use Rattle.paper.specs.declared.orders.Place.{Place}
+use Rattle.paper.specs.declared.orders.Place.the-variants.{Start, After}
+use Rattle.paper.specs.Orders.{markAt}
+use Rattle.paper.specs.Outcomes.{Outcome, refused, gives, must, number}
+use Rattle.paper.specs.Tree.{Store}
+use Rattle.paper.specs.Ends.{sizeHolds}
+use Rattle.paper.specs.Calls.{PageOf, Counted, counted, pageCall, pageRoom}
+use Rattle.nearby.specs.Checks.{tableRefusal}
+use Rattle.many.specs.Counts.{onMany}
+use Rattle.many.specs.Rows.{row, each}
+use Rattle.many.specs.Many.{probeAt}
+
+-- the place of question i, four numbers: 0 for the start, or another number, the snapshot, and the mark's distance and number
+unfoldable pub placeAt : List ℕ → ℕ → Place
+placeAt places i =
+    cond (eqb (getD places (i * 4) 0) 0) Start
+    (After (getD places (i * 4 + 1) 0) (markAt (getD places (i * 4 + 2) 0) (getD places (i * 4 + 3) 0)))
+
+-- what the single call gives for question i, in a room for one page
+abbrev pub pageAt : Store → List ℤ → List ℕ → List ℕ → ℕ → ℕ → Outcome PageOf
+pageAt s probes reaches places size i =
+    pageCall s Near (probeAt s probes i) (getD reaches i 0) (placeAt places i) size (size * 3)
+
+-- its outcome as three numbers: the refusal, how many items, and 1 where they are the last
+unfoldable pub pageRow : Outcome Counted → List ℕ
+pageRow (refused n) = n ∷ 0 ∷ 0 ∷ []
+pageRow (gives p) = 0 ∷ p .count ∷ cond (p .last) 1 0 ∷ []
+
+abbrev pub putPage : (ℕ → Outcome PageOf) → ℕ → List ℕ → List ℕ
+putPage page i l = sets l (i * 3) (pageRow (counted (page i)))
+
+-- its items at the front of row i, whose rest keeps its contents
+abbrev pub putItems : (ℕ → Outcome PageOf) → ℕ → ℕ → List ℕ → List ℕ
+putItems page w i l = take (i * w) l ++ (pageRoom (page i) (row w i l) ++ drop (i * w + w) l)
+
+-- the two rooms of the call
+pub record Rooms : Type 0 where
+  pub outcomes : List ℕ
+  pub items : List ℕ
+
+abbrev pub bothRooms : List ℕ → List ℕ → Rooms
+bothRooms outcomes items = record { outcomes = outcomes; items = items }
+
+-- 1, 2; 5: not d coordinates or not four numbers of a place for each question; 6; 12: under three numbers of outcome or under a page of
+-- items for each question
+abbrev pub onPages : {A : Type 0} → Store → (probes n places size outcomes items : ℕ) → Outcome A → Outcome A
+onPages s probes n places size outcomes items x =
+    onMany s probes n
+    (must (eqb places (4 * n)) 5
+    (must (sizeHolds size) 6
+    (must (leb (n * 3) outcomes) 12
+    (must (leb (n * (size * 3)) items) 12 x))))
+
+unfoldable pub pagesRefusal : Store → (probes n places size outcomes items : ℕ) → ℕ
+pagesRefusal s probes n places size outcomes items = number (onPages s probes n places size outcomes items (gives n))
+
+unfoldable pub pagesEach : Store → List ℤ → List ℕ → List ℕ → ℕ → Rooms → Outcome Rooms
+pagesEach s probes reaches places size before =
+    onPages s (length probes) (length reaches) (length places) size (length (before .outcomes)) (length (before .items))
+    (gives
+    (bothRooms
+    (each (putPage (pageAt s probes reaches places size)) (length reaches) (before .outcomes))
+    (each (putItems (pageAt s probes reaches places size) (size * 3)) (length reaches) (before .items))))
+
+abbrev pub leftRooms : Outcome Rooms → Rooms → Rooms
+leftRooms (refused n) before = before
+leftRooms (gives after) before = after
+
+pub record Pages (o : Outcome Rooms) (before : Rooms) (r : ℕ) (after : Rooms) : Type 0 where
+  pub refusal : r ≡ number o
+  pub rooms : after ≡ leftRooms o before
+
+-- ---- what the layers below ask
+
+-- a page may be asked for, but for its place
+pub record Askable (s : Store) (probe n rest : ℕ) : Type 0 where
+  pub tested : 0 ≡ tableRefusal s
+  pub aimed : probe ≡ s .table .d
+  pub size : sizeHolds n ≡ true
+  pub room : n * 3 ≤ rest
+
+-- question i of n
+pub record OnePage (s : Store) (probes places i n outcomes rest : ℕ) : Type 0 where
+  pub tested : 0 ≡ tableRefusal s
+  pub aimed : i * s .table .d + s .table .d ≤ probes
+  pub place : i * 4 + 4 ≤ places
+  pub size : sizeHolds n ≡ true
+  pub outcome : i * 3 + 3 ≤ outcomes
+  pub items : i * (n * 3) + n * 3 ≤ rest
+
+-- all n
+pub record AllPages (s : Store) (probes n spots k told rest : ℕ) : Type 0 where
+  pub tested : 0 ≡ tableRefusal s
+  pub aimed : probes ≡ s .table .d * n
+  pub places : spots ≡ 4 * n
+  pub size : sizeHolds k ≡ true
+  pub outcomes : n * 3 ≤ told
+  pub items : n * (k * 3) ≤ rest

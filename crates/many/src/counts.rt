@@ -1,0 +1,39 @@
+// Whether many questions may be asked.
+ghost use mathlib.Core.Path.{_≡_};
+ghost use Prim.Native.Nat.{_*_, _≤_};
+ghost use lib.Dec.{leb};
+ghost use Rattle.paper.specs.Tree.{store};
+ghost use Rattle.many.specs.Counts.{manyRefusal};
+use paper::tables::Table;
+
+// Whether a room has w numbers for each of n rows.
+pub fn has_rows(n: usize, w: usize, room: usize) -> bool
+    requires { ⌜ 1 ≤ w ⌝ }
+    ensures { λ r. ⌜ r ≡ leb (n * w) room ⌝ }
+{
+    if room / w < n {
+        return false;
+    }
+    true
+}
+
+// Why n questions may not be asked with so many probe coordinates: 1, 2, 5, or 0 where they may.
+pub fn many_refusal(
+    t: Table,
+    references: &[u32],
+    coordinates: &[i32],
+    rooms: &[u64],
+    probes: usize,
+    n: usize,
+) -> u8
+    ensures { λ r. ⌜ r ≡ manyRefusal (store t (now (references .entry)) (now (coordinates .entry)) (now (rooms .entry))) probes n ⌝ }
+{
+    let why = nearby::table_refusal(t, references, coordinates, rooms);
+    if why != 0 {
+        return why;
+    }
+    if !tree::runs::is_whole(t.d, n, probes) {
+        return 5;
+    }
+    0
+}

@@ -1,0 +1,157 @@
+// Many questions for the nearest or the farthest claim.
+ghost use mathlib.Core.Path.{_≡_};
+ghost use lib.ListN.{length};
+ghost use lib.Seq.{sets};
+ghost use Prim.Native.Nat.{_*_};
+ghost use Rattle.paper.specs.declared.orders.Order.the-variants.{Near};
+ghost use Rattle.paper.specs.Points.{point};
+ghost use Rattle.paper.specs.Orders.{nearestOf, farthestOf};
+ghost use Rattle.paper.specs.Tree.{store, claimsIn};
+ghost use Rattle.paper.specs.Calls.{tableQuery};
+ghost use Rattle.many.specs.Rows.{each, putFound, foundRow};
+ghost use Rattle.many.specs.Many.{nearestAt, farthestAt, nearestEach, farthestEach, Answers, Many, One};
+use crate::counts::has_rows;
+use crate::counts::many_refusal;
+use crate::rows::put_found;
+use paper::tables::Table;
+
+// Question i for the nearest claim.
+fn nearest_row(
+    t: Table,
+    references: &[u32],
+    coordinates: &[i32],
+    rooms: &[u64],
+    probes: &[i32],
+    i: usize,
+    reach: u64,
+    out: &mut [u64],
+)
+    requires { ⌜ One (store t (now references) (now coordinates) (now rooms)) (length (now probes)) i 4 (length (now out)) ⌝ }
+    ensures { λ _. ⌜ now (out .exit) ≡ sets (now (out .entry)) (i * 4) (foundRow (nearestOf (tableQuery (store t (now (references .entry)) (now (coordinates .entry)) (now (rooms .entry))) Near (point (t .d) (now (probes .entry)) i) reach) (claimsIn (store t (now (references .entry)) (now (coordinates .entry)) (now (rooms .entry)))))) ⌝ }
+{
+    let d = t.d;
+    let a = i * d;
+    let e = a + d;
+    let found = walk::questions::nearest(t, references, coordinates, rooms, &probes[a..e], reach);
+    put_found(out, i, found);
+}
+
+// Question i for the farthest claim.
+fn farthest_row(
+    t: Table,
+    references: &[u32],
+    coordinates: &[i32],
+    rooms: &[u64],
+    probes: &[i32],
+    i: usize,
+    out: &mut [u64],
+)
+    requires { ⌜ One (store t (now references) (now coordinates) (now rooms)) (length (now probes)) i 4 (length (now out)) ⌝ }
+    ensures { λ _. ⌜ now (out .exit) ≡ putFound (farthestAt (store t (now (references .entry)) (now (coordinates .entry)) (now (rooms .entry))) (now (probes .entry))) i (now (out .entry)) ⌝ }
+{
+    let d = t.d;
+    let a = i * d;
+    let e = a + d;
+    let found = walk::questions::farthest(t, references, coordinates, rooms, &probes[a..e]);
+    put_found(out, i, found);
+}
+
+fn nearest_rows(
+    t: Table,
+    references: &[u32],
+    coordinates: &[i32],
+    rooms: &[u64],
+    probes: &[i32],
+    reaches: &[u64],
+    out: &mut [u64],
+)
+    requires { ⌜ Many (store t (now references) (now coordinates) (now rooms)) (length (now probes)) (length (now reaches)) 4 (length (now out)) ⌝ }
+    ensures { λ _. ⌜ now (out .exit) ≡ each (putFound (nearestAt (store t (now (references .entry)) (now (coordinates .entry)) (now (rooms .entry))) (now (probes .entry)) (now (reaches .entry)))) (length (now (reaches .entry))) (now (out .entry)) ⌝ }
+{
+    let mut i = 0;
+    while i < reaches.len() {
+        nearest_row(
+            t,
+            references,
+            coordinates,
+            rooms,
+            probes,
+            i,
+            reaches[i],
+            out,
+        );
+        i += 1;
+    }
+}
+
+fn farthest_rows(
+    t: Table,
+    references: &[u32],
+    coordinates: &[i32],
+    rooms: &[u64],
+    probes: &[i32],
+    n: usize,
+    out: &mut [u64],
+)
+    requires { ⌜ Many (store t (now references) (now coordinates) (now rooms)) (length (now probes)) n 4 (length (now out)) ⌝ }
+    ensures { λ _. ⌜ now (out .exit) ≡ each (putFound (farthestAt (store t (now (references .entry)) (now (coordinates .entry)) (now (rooms .entry))) (now (probes .entry)))) n (now (out .entry)) ⌝ }
+{
+    let mut i = 0;
+    while i < n {
+        farthest_row(t, references, coordinates, rooms, probes, i, out);
+        i += 1;
+    }
+}
+
+// Refusals 1, 2, 5, 12. There is a probe of d coordinates for each reach, and a row of four numbers for each answer.
+pub fn nearest_each(
+    t: Table,
+    references: &[u32],
+    coordinates: &[i32],
+    rooms: &[u64],
+    probes: &[i32],
+    reaches: &[u64],
+    out: &mut [u64],
+) -> u8
+    ensures { λ r. ⌜ Answers (nearestEach (store t (now (references .entry)) (now (coordinates .entry)) (now (rooms .entry))) (now (probes .entry)) (now (reaches .entry)) (now (out .entry))) (now (out .entry)) r (now (out .exit)) ⌝ }
+{
+    let why = many_refusal(
+        t,
+        references,
+        coordinates,
+        rooms,
+        probes.len(),
+        reaches.len(),
+    );
+    if why != 0 {
+        return why;
+    }
+    if !has_rows(reaches.len(), 4, out.len()) {
+        return 12;
+    }
+    nearest_rows(t, references, coordinates, rooms, probes, reaches, out);
+    0
+}
+
+// Refusals 1, 2, 5, 12. There are n probes of d coordinates, and a row of four numbers for each answer.
+pub fn farthest_each(
+    t: Table,
+    references: &[u32],
+    coordinates: &[i32],
+    rooms: &[u64],
+    probes: &[i32],
+    n: usize,
+    out: &mut [u64],
+) -> u8
+    ensures { λ r. ⌜ Answers (farthestEach (store t (now (references .entry)) (now (coordinates .entry)) (now (rooms .entry))) (now (probes .entry)) n (now (out .entry))) (now (out .entry)) r (now (out .exit)) ⌝ }
+{
+    let why = many_refusal(t, references, coordinates, rooms, probes.len(), n);
+    if why != 0 {
+        return why;
+    }
+    if !has_rows(n, 4, out.len()) {
+        return 12;
+    }
+    farthest_rows(t, references, coordinates, rooms, probes, n, out);
+    0
+}

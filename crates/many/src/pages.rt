@@ -1,0 +1,170 @@
+// Many pages.
+ghost use mathlib.Core.Path.{_≡_};
+ghost use Prim.Native.Nat.{_*_};
+ghost use lib.ListN.{length};
+ghost use Rattle.paper.specs.declared.orders.Order.the-variants.{Near};
+ghost use Rattle.paper.specs.Points.{point};
+ghost use Rattle.paper.specs.Tree.{store};
+ghost use Rattle.paper.specs.Calls.{pageCall};
+ghost use Rattle.many.specs.Rows.{each};
+ghost use Rattle.many.specs.Pages.{placeAt, pageAt, putPage, putItems, bothRooms, pagesRefusal, pagesEach, Pages, OnePage, AllPages};
+use crate::counts::has_rows;
+use crate::counts::many_refusal;
+use crate::paging::page_here;
+use crate::paging::place_at;
+use crate::rows::put_page;
+use paper::tables::Table;
+
+// Question i: its page in row i of the items, and its outcome in row i of the outcomes.
+fn page_row(
+    t: Table,
+    references: &[u32],
+    coordinates: &[i32],
+    rooms: &[u64],
+    probes: &[i32],
+    i: usize,
+    reach: u64,
+    places: &[u64],
+    size: usize,
+    outcomes: &mut [u64],
+    items: &mut [u64],
+)
+    requires { ⌜ OnePage (store t (now references) (now coordinates) (now rooms)) (length (now probes)) (length (now places)) i size (length (now outcomes)) (length (now items)) ⌝ }
+    ensures told { λ _. ⌜ now (outcomes .exit) ≡ putPage (λ k. pageCall (store t (now (references .entry)) (now (coordinates .entry)) (now (rooms .entry))) Near (point (t .d) (now (probes .entry)) i) reach (placeAt (now (places .entry)) i) size (size * 3)) i (now (outcomes .entry)) ⌝ }
+    ensures filled { λ _. ⌜ now (items .exit) ≡ putItems (λ k. pageCall (store t (now (references .entry)) (now (coordinates .entry)) (now (rooms .entry))) Near (point (t .d) (now (probes .entry)) i) reach (placeAt (now (places .entry)) i) size (size * 3)) (size * 3) i (now (items .entry)) ⌝ }
+{
+    let d = t.d;
+    let a = i * d;
+    let e = a + d;
+    let w = size * 3;
+    let b = i * w;
+    let f = b + w;
+    let place = place_at(places, i);
+    let page = page_here(
+        t,
+        references,
+        coordinates,
+        rooms,
+        &probes[a..e],
+        reach,
+        place,
+        size,
+        &mut items[b..f],
+    );
+    put_page(outcomes, i, page);
+}
+
+fn page_rows(
+    t: Table,
+    references: &[u32],
+    coordinates: &[i32],
+    rooms: &[u64],
+    probes: &[i32],
+    reaches: &[u64],
+    places: &[u64],
+    size: usize,
+    outcomes: &mut [u64],
+    items: &mut [u64],
+)
+    requires { ⌜ AllPages (store t (now references) (now coordinates) (now rooms)) (length (now probes)) (length (now reaches)) (length (now places)) size (length (now outcomes)) (length (now items)) ⌝ }
+    ensures told { λ _. ⌜ now (outcomes .exit) ≡ each (putPage (pageAt (store t (now (references .entry)) (now (coordinates .entry)) (now (rooms .entry))) (now (probes .entry)) (now (reaches .entry)) (now (places .entry)) size)) (length (now (reaches .entry))) (now (outcomes .entry)) ⌝ }
+    ensures filled { λ _. ⌜ now (items .exit) ≡ each (putItems (pageAt (store t (now (references .entry)) (now (coordinates .entry)) (now (rooms .entry))) (now (probes .entry)) (now (reaches .entry)) (now (places .entry)) size) (size * 3)) (length (now (reaches .entry))) (now (items .entry)) ⌝ }
+{
+    let mut i = 0;
+    while i < reaches.len() {
+        page_row(
+            t,
+            references,
+            coordinates,
+            rooms,
+            probes,
+            i,
+            reaches[i],
+            places,
+            size,
+            outcomes,
+            items,
+        );
+        i += 1;
+    }
+}
+
+// Why n pages of a size are not given, by its number, or 0 where they are: 1, 2, 5, 6, 12.
+fn pages_refusal(
+    t: Table,
+    references: &[u32],
+    coordinates: &[i32],
+    rooms: &[u64],
+    probes: usize,
+    n: usize,
+    places: usize,
+    size: usize,
+    outcomes: usize,
+    items: usize,
+) -> u8
+    ensures { λ r. ⌜ r ≡ pagesRefusal (store t (now (references .entry)) (now (coordinates .entry)) (now (rooms .entry))) probes n places size outcomes items ⌝ }
+{
+    let why = many_refusal(t, references, coordinates, rooms, probes, n);
+    if why != 0 {
+        return why;
+    }
+    if !tree::runs::is_whole(4, n, places) {
+        return 5;
+    }
+    if !nearby::size_holds(size) {
+        return 6;
+    }
+    if !has_rows(n, 3, outcomes) {
+        return 12;
+    }
+    if !has_rows(n, size * 3, items) {
+        return 12;
+    }
+    0
+}
+
+// Refusals 1, 2, 5, 6, 12, and 7, 8 of each question. For each reach there are a probe of d coordinates, a place of four numbers, an
+// outcome of three numbers and room for a page of items.
+pub fn pages_each(
+    t: Table,
+    references: &[u32],
+    coordinates: &[i32],
+    rooms: &[u64],
+    probes: &[i32],
+    reaches: &[u64],
+    places: &[u64],
+    size: usize,
+    outcomes: &mut [u64],
+    items: &mut [u64],
+) -> u8
+    ensures { λ r. ⌜ Pages (pagesEach (store t (now (references .entry)) (now (coordinates .entry)) (now (rooms .entry))) (now (probes .entry)) (now (reaches .entry)) (now (places .entry)) size (bothRooms (now (outcomes .entry)) (now (items .entry)))) (bothRooms (now (outcomes .entry)) (now (items .entry))) r (bothRooms (now (outcomes .exit)) (now (items .exit))) ⌝ }
+{
+    let why = pages_refusal(
+        t,
+        references,
+        coordinates,
+        rooms,
+        probes.len(),
+        reaches.len(),
+        places.len(),
+        size,
+        outcomes.len(),
+        items.len(),
+    );
+    if why != 0 {
+        return why;
+    }
+    page_rows(
+        t,
+        references,
+        coordinates,
+        rooms,
+        probes,
+        reaches,
+        places,
+        size,
+        outcomes,
+        items,
+    );
+    0
+}

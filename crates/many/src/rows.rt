@@ -1,0 +1,67 @@
+// A row of the output room.
+ghost use mathlib.Core.Path.{_≡_};
+ghost use Prim.Native.Nat.{_+_, _*_, _≤_};
+ghost use mathlib.Core.Bool.{cond};
+ghost use mathlib.Core.List.{[], _∷_};
+ghost use lib.ListN.{length};
+ghost use lib.Seq.{sets};
+ghost use Rattle.paper.specs.Orders.{told};
+ghost use Rattle.paper.specs.Calls.{pageTold};
+ghost use Rattle.many.specs.Rows.{foundRow};
+ghost use Rattle.many.specs.Pages.{pageRow};
+use paper::orders::Found;
+use paper::orders::Page;
+
+// Puts four numbers at a.
+fn put_four(out: &mut [u64], a: usize, w: u64, x: u64, y: u64, z: u64)
+    requires { ⌜ a + 4 ≤ length (now out) ⌝ }
+    ensures { λ _. ⌜ now (out .exit) ≡ sets (now (out .entry)) a (w ∷ x ∷ y ∷ z ∷ []) ⌝ }
+{
+    out[a] = w;
+    out[a + 1] = x;
+    out[a + 2] = y;
+    out[a + 3] = z;
+}
+
+// Puts three numbers at a.
+fn put_three(out: &mut [u64], a: usize, x: u64, y: u64, z: u64)
+    requires { ⌜ a + 3 ≤ length (now out) ⌝ }
+    ensures { λ _. ⌜ now (out .exit) ≡ sets (now (out .entry)) a (x ∷ y ∷ z ∷ []) ⌝ }
+{
+    out[a] = x;
+    out[a + 1] = y;
+    out[a + 2] = z;
+}
+
+// Row i: whether an item was found, and the item.
+pub fn put_found(out: &mut [u64], i: usize, f: Found)
+    requires { ⌜ i * 4 + 4 ≤ length (now out) ⌝ }
+    ensures { λ _. ⌜ now (out .exit) ≡ sets (now (out .entry)) (i * 4) (foundRow (told f)) ⌝ }
+{
+    match f {
+        Found::Nothing => put_four(out, i * 4, 0, 0, 0, 0),
+        Found::Item(number, reference, distance) => {
+            put_four(out, i * 4, 1, number, reference, distance)
+        }
+    }
+}
+
+fn flag(b: bool) -> u64
+    ensures { λ r. ⌜ r ≡ cond b 1 0 ⌝ }
+{
+    if b { 1 } else { 0 }
+}
+
+// Row i: the refusal, how many items, and whether they are the last.
+pub fn put_page(outcomes: &mut [u64], i: usize, p: Page)
+    requires { ⌜ i * 3 + 3 ≤ length (now outcomes) ⌝ }
+    ensures { λ _. ⌜ now (outcomes .exit) ≡ sets (now (outcomes .entry)) (i * 3) (pageRow (pageTold p)) ⌝ }
+{
+    match p {
+        Page::Refused(n) => put_three(outcomes, i * 3, n as u64, 0, 0),
+        Page::Filled(paged) => {
+            let last = flag(paged.last);
+            put_three(outcomes, i * 3, 0, paged.count as u64, last)
+        }
+    }
+}

@@ -1,0 +1,21 @@
+-- `nearby_c::bare::nearby_write_answer_line` meets its contract: what `nearby::write_answer_line` gives. Assumes nothing.
+use Rattle.nearby_c.proofs.Exports.{printing}
+use borrow.Author.Needs.{needs}
+use Rattle.nearby_c.proofs.bare.nearby_write_answer_line.Statement.{statement}
+use Rattle.nearby_c.proofs.bare.nearby_write_answer_line.Tie as tie
+
+write-answer-line-requires : tie.Need-write-answer-line-requires
+write-answer-line-requires c κs = search needs
+
+line-of-requires : tie.Need-line-of-requires
+line-of-requires c κs = search needs
+
+same-length : tie.Need-same-length
+same-length c = search needs
+
+returns : tie.Need-returns
+returns c = printing _ _ _ _ _ _ _ (c .before .before .before .write-answer-line .ensures) (c .line-of .ensures)
+
+pub nearby-write-answer-line-spec : {M : Type 1} → statement M
+nearby-write-answer-line-spec =
+    tie.close (tie.spec write-answer-line-requires line-of-requires same-length returns)

@@ -1,0 +1,27 @@
+-- `nearby_c::lists::nearby_take` meets its contract: what `nearby::take` gives. Assumes nothing.
+use Rattle.paper.specs.declared.orders.Order.the-variants.{Near}
+use Rattle.paper.specs.Lists.{takingHeld}
+use Rattle.paper.specs.Codec.{lines}
+use Rattle.nearby_c.proofs.Exports.{taking-of}
+use borrow.Author.Needs.{needs}
+use Rattle.nearby_c.proofs.lists.nearby_take.Statement.{statement}
+use Rattle.nearby_c.proofs.lists.nearby_take.Tie as tie
+
+list-in-requires : tie.Need-list-in-requires
+list-in-requires c κs = search needs
+
+take-requires : tie.Need-take-requires
+take-requires c κs = search needs
+
+list-out-requires : tie.Need-list-out-requires
+list-out-requires c κs = search needs
+
+same-length : tie.Need-same-length
+same-length c = search needs
+
+returns : tie.Need-returns
+returns c = taking-of (λ s. takingHeld lines Near s (c .before .before .before .before .before .before .before .before .before .args .line .now)) _ _ _ _ _ _ (c .before .before .before .before .before .before .list-in .ensures) (c .before .before .before .before .take .ensures) (rw (c .list-out .ensures))
+
+pub nearby-take-spec : {M : Type 1} → statement M
+nearby-take-spec =
+    tie.close (tie.spec list-in-requires take-requires list-out-requires same-length returns)

@@ -1,0 +1,21 @@
+-- `nearby_c::values::line_of` meets its contract: a line's length, or a refusal's number. Assumes nothing.
+use mathlib.Core.Path.{sym, ap}
+use Rattle.nearby_c.specs.Values.{writtenOf}
+use borrow.Author.Needs.{needs}
+use Rattle.nearby_c.proofs.values.line_of.Statement.{statement}
+use Rattle.nearby_c.proofs.values.line_of.Tie as tie
+
+enum-known-w : tie.Need-enum-known-w
+enum-known-w c = search needs
+
+enum-known-w-2 : tie.Need-enum-known-w-2
+enum-known-w-2 c = search needs
+
+returns : tie.Need-returns
+returns c = sym (ap writtenOf (c .before .w .given .1))
+
+returns-2 : tie.Need-returns-2
+returns-2 c = sym (ap writtenOf (c .before .w2 .given .1))
+
+pub line-of-spec : {M : Type 1} → statement M
+line-of-spec = tie.close (tie.spec enum-known-w enum-known-w-2 returns returns-2)

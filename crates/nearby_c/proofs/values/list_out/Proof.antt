@@ -1,0 +1,16 @@
+-- `nearby_c::values::list_out` meets its contract: the fields, with flags as numbers. Assumes nothing.
+use borrow.Author.Needs.{needs}
+use Rattle.nearby_c.proofs.values.list_out.Statement.{statement}
+use Rattle.nearby_c.proofs.values.list_out.Tie as tie
+
+flag-requires : tie.Need-flag-requires
+flag-requires c κs = search needs
+
+flag-requires-2 : tie.Need-flag-requires-2
+flag-requires-2 c κs = search needs
+
+returns : tie.Need-returns
+returns c = rw (c .before .flag .ensures, c .flag2 .ensures)
+
+pub list-out-spec : {M : Type 1} → statement M
+list-out-spec = tie.close (tie.spec flag-requires flag-requires-2 returns)

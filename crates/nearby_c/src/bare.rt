@@ -1,0 +1,86 @@
+// The bare writers and readers of the three kinds of line.
+ghost use mathlib.Core.Path.{_≡_};
+ghost use Rattle.paper.specs.Lines.{askFits, askFrame, askOf, answerFits, answerFrame, answerOf, claimFits, claimFrame, claimOf};
+ghost use Rattle.nearby_c.specs.Values.{Prints};
+use crate::values::Written;
+use crate::values::line_of;
+use paper::lines::AnswerRead;
+use paper::lines::AskRead;
+use paper::lines::ClaimRead;
+use paper::lines::Scope;
+
+// Refusals 10, 12.
+#[no_mangle]
+pub extern "C" fn nearby_write_ask_line(
+    table: u32,
+    measure: u8,
+    d: u8,
+    probe: &[i32],
+    p: Scope,
+    size: u8,
+    out: &mut [u8],
+) -> Written
+    ensures { λ r. ⌜ Prints (askFits measure d (now (probe .entry)) p size) 123 (askFrame 1 table measure d (now (probe .entry)) p size) (now (out .entry)) r (now (out .exit)) ⌝ }
+{
+    let wrote = nearby::write_ask_line(table, measure, d, probe, p, size, out);
+    line_of(wrote)
+}
+
+// Refusals 10, 12.
+#[no_mangle]
+pub extern "C" fn nearby_write_answer_line(
+    table: u32,
+    measure: u8,
+    d: u8,
+    probe: &[i32],
+    p: Scope,
+    last: u8,
+    count: u8,
+    items: &[u64],
+    out: &mut [u8],
+) -> Written
+    ensures { λ r. ⌜ Prints (answerFits measure d (now (probe .entry)) p last count (now (items .entry))) 573 (answerFrame 2 table measure d (now (probe .entry)) p last count (now (items .entry))) (now (out .entry)) r (now (out .exit)) ⌝ }
+{
+    let wrote = nearby::write_answer_line(table, measure, d, probe, p, last, count, items, out);
+    line_of(wrote)
+}
+
+// Refusals 10, 12.
+#[no_mangle]
+pub extern "C" fn nearby_write_claim_line(
+    table: u32,
+    measure: u8,
+    d: u8,
+    reference: u32,
+    coordinates: &[i32],
+    out: &mut [u8],
+) -> Written
+    ensures { λ r. ⌜ Prints (claimFits measure d (now (coordinates .entry))) 87 (claimFrame table measure d reference (now (coordinates .entry))) (now (out .entry)) r (now (out .exit)) ⌝ }
+{
+    let wrote = nearby::write_claim_line(table, measure, d, reference, coordinates, out);
+    line_of(wrote)
+}
+
+// Refusals 9, 10.
+#[no_mangle]
+pub extern "C" fn nearby_read_ask_line(line: &[u8]) -> AskRead
+    ensures { λ r. ⌜ r ≡ askOf 1 (now (line .entry)) ⌝ }
+{
+    nearby::read_ask_line(line)
+}
+
+// Refusals 9, 10.
+#[no_mangle]
+pub extern "C" fn nearby_read_answer_line(line: &[u8]) -> AnswerRead
+    ensures { λ r. ⌜ r ≡ answerOf 2 (now (line .entry)) ⌝ }
+{
+    nearby::read_answer_line(line)
+}
+
+// Refusals 9, 10.
+#[no_mangle]
+pub extern "C" fn nearby_read_claim_line(line: &[u8]) -> ClaimRead
+    ensures { λ r. ⌜ r ≡ claimOf (now (line .entry)) ⌝ }
+{
+    nearby::read_claim_line(line)
+}

@@ -1,0 +1,9 @@
+// The public calls for C, and for whatever calls C. Each promises what its call of `nearby` promises, with cases as numbers.
+// A slice is a pointer and a length; a null pointer goes with length 0.
+mod bare;
+mod lists;
+mod office;
+mod questions;
+mod several;
+mod tables;
+mod values;

@@ -1,0 +1,57 @@
+// A tablet's list: opened, asking, taking.
+ghost use mathlib.Core.Path.{_≡_};
+ghost use lib.ListN.{length};
+ghost use Rattle.paper.specs.declared.orders.Order.the-variants.{Near};
+ghost use Rattle.paper.specs.Lists.{held, openingHeld, openedTold, askingHeld, takingHeld};
+ghost use Rattle.paper.specs.Codec.{lines};
+ghost use Rattle.tablet.specs.Holding.{asNear};
+ghost use Rattle.nearby_c.specs.Values.{listIn, listedBy, Tells, Takes};
+use crate::values::Listed;
+use crate::values::Listing;
+use crate::values::Written;
+use crate::values::line_of;
+use crate::values::list_in;
+use crate::values::list_out;
+
+// Refusals 1, 5.
+#[no_mangle]
+pub extern "C" fn nearby_open_list(
+    table: u32,
+    measure: u8,
+    d: usize,
+    probe: &[i32],
+    reach: u64,
+) -> Listed
+    ensures { λ r. ⌜ r ≡ listedBy (openedTold (openingHeld (asNear table measure d (now (probe .entry)) reach))) ⌝ }
+{
+    let opened = nearby::open_list(table, measure, d, probe, reach);
+    let list = opened.list;
+    Listed {
+        refusal: opened.refusal,
+        list: list_out(list),
+    }
+}
+
+// Refusals 2, 16, 6, 12.
+#[no_mangle]
+pub extern "C" fn nearby_write_ask(l: Listing, room: &[u64], size: usize, out: &mut [u8]) -> Written
+    ensures { λ r. ⌜ Tells (askingHeld lines Near (held (listIn l) (now (room .entry))) size (length (now (out .entry)))) (now (out .entry)) r (now (out .exit)) ⌝ }
+{
+    let list = list_in(l);
+    let wrote = nearby::write_ask(list, room, size, out);
+    line_of(wrote)
+}
+
+// Refusals 2, 9, 10, 16, 13, 14, 15.
+#[no_mangle]
+pub extern "C" fn nearby_take(l: Listing, room: &mut [u64], line: &[u8]) -> Listed
+    ensures { λ r. ⌜ Takes (held (listIn l) (now (room .entry))) (takingHeld lines Near (held (listIn l) (now (room .entry))) (now (line .entry))) r (now (room .exit)) ⌝ }
+{
+    let list = list_in(l);
+    let taken = nearby::take(list, room, line);
+    let after = taken.list;
+    Listed {
+        refusal: taken.refusal,
+        list: list_out(after),
+    }
+}

@@ -1,0 +1,25 @@
+// The office: one ask line in, one answer line out.
+ghost use mathlib.Core.Path.{_≡_};
+ghost use lib.ListN.{length};
+ghost use Rattle.paper.specs.Tree.{store};
+ghost use Rattle.paper.specs.Calls.{officeCall};
+ghost use Rattle.nearby_c.specs.Values.{Tells};
+use crate::values::Written;
+use crate::values::line_of;
+use paper::tables::Table;
+
+// Refusals 12, 1, 2, 9, 10, 11, 7, 8.
+#[no_mangle]
+pub extern "C" fn nearby_answer(
+    t: Table,
+    references: &[u32],
+    coordinates: &[i32],
+    rooms: &[u64],
+    line: &[u8],
+    out: &mut [u8],
+) -> Written
+    ensures { λ r. ⌜ Tells (officeCall (store t (now (references .entry)) (now (coordinates .entry)) (now (rooms .entry))) (length (now (out .entry))) (now (line .entry))) (now (out .entry)) r (now (out .exit)) ⌝ }
+{
+    let wrote = nearby::answer(t, references, coordinates, rooms, line, out);
+    line_of(wrote)
+}

@@ -1,0 +1,73 @@
+// The three questions to a table, each of which tests the table first.
+ghost use mathlib.Core.Path.{_≡_};
+ghost use lib.ListN.{length};
+ghost use Rattle.paper.specs.declared.orders.Order.the-variants.{Near};
+ghost use Rattle.paper.specs.Tree.{store};
+ghost use Rattle.paper.specs.Calls.{nearestCall, farthestCall, pageCall};
+ghost use Rattle.nearby_c.specs.Values.{foundOf, placeOf, Fills};
+use crate::values::Filled;
+use crate::values::Item;
+use crate::values::Start;
+use crate::values::item_of;
+use crate::values::page_of;
+use crate::values::place_of;
+use paper::tables::Table;
+
+// Refusals 1, 2, 5.
+#[no_mangle]
+pub extern "C" fn nearby_nearest(
+    t: Table,
+    references: &[u32],
+    coordinates: &[i32],
+    rooms: &[u64],
+    probe: &[i32],
+    reach: u64,
+) -> Item
+    ensures { λ r. ⌜ r ≡ foundOf (nearestCall (store t (now (references .entry)) (now (coordinates .entry)) (now (rooms .entry))) (now (probe .entry)) reach) ⌝ }
+{
+    item_of(nearby::nearest(t, references, coordinates, rooms, probe, reach))
+}
+
+// Refusals 1, 2, 5.
+#[no_mangle]
+pub extern "C" fn nearby_farthest(
+    t: Table,
+    references: &[u32],
+    coordinates: &[i32],
+    rooms: &[u64],
+    probe: &[i32],
+) -> Item
+    ensures { λ r. ⌜ r ≡ foundOf (farthestCall (store t (now (references .entry)) (now (coordinates .entry)) (now (rooms .entry))) (now (probe .entry))) ⌝ }
+{
+    item_of(nearby::farthest(t, references, coordinates, rooms, probe))
+}
+
+// Refusals 1, 2, 5, 6, 7, 8, 12.
+#[no_mangle]
+pub extern "C" fn nearby_page(
+    t: Table,
+    references: &[u32],
+    coordinates: &[i32],
+    rooms: &[u64],
+    probe: &[i32],
+    reach: u64,
+    start: Start,
+    size: usize,
+    room: &mut [u64],
+) -> Filled
+    ensures { λ r. ⌜ Fills (pageCall (store t (now (references .entry)) (now (coordinates .entry)) (now (rooms .entry))) Near (now (probe .entry)) reach (placeOf start) size (length (now (room .entry)))) (now (room .entry)) r (now (room .exit)) ⌝ }
+{
+    let place = place_of(start);
+    let page = nearby::page(
+        t,
+        references,
+        coordinates,
+        rooms,
+        probe,
+        reach,
+        place,
+        size,
+        room,
+    );
+    page_of(page)
+}

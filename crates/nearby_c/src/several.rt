@@ -1,0 +1,86 @@
+// Many questions and many lines, for which the table is tested once.
+ghost use mathlib.Core.Path.{_≡_};
+ghost use Rattle.paper.specs.Tree.{store};
+ghost use Rattle.many.specs.Many.{nearestEach, farthestEach, Answers};
+ghost use Rattle.many.specs.Pages.{bothRooms, pagesEach, Pages};
+ghost use Rattle.batch.specs.Batch.{start, batchCall, Promise};
+use batch::Answered;
+use paper::tables::Table;
+
+// Refusals 1, 2, 5, 12.
+#[no_mangle]
+pub extern "C" fn nearby_many_nearest(
+    t: Table,
+    references: &[u32],
+    coordinates: &[i32],
+    rooms: &[u64],
+    probes: &[i32],
+    reaches: &[u64],
+    out: &mut [u64],
+) -> u8
+    ensures { λ r. ⌜ Answers (nearestEach (store t (now (references .entry)) (now (coordinates .entry)) (now (rooms .entry))) (now (probes .entry)) (now (reaches .entry)) (now (out .entry))) (now (out .entry)) r (now (out .exit)) ⌝ }
+{
+    many::nearest_each(t, references, coordinates, rooms, probes, reaches, out)
+}
+
+// Refusals 1, 2, 5, 12.
+#[no_mangle]
+pub extern "C" fn nearby_many_farthest(
+    t: Table,
+    references: &[u32],
+    coordinates: &[i32],
+    rooms: &[u64],
+    probes: &[i32],
+    n: usize,
+    out: &mut [u64],
+) -> u8
+    ensures { λ r. ⌜ Answers (farthestEach (store t (now (references .entry)) (now (coordinates .entry)) (now (rooms .entry))) (now (probes .entry)) n (now (out .entry))) (now (out .entry)) r (now (out .exit)) ⌝ }
+{
+    many::farthest_each(t, references, coordinates, rooms, probes, n, out)
+}
+
+// Refusals 1, 2, 5, 6, 12; and 7, 8 of each question.
+#[no_mangle]
+pub extern "C" fn nearby_many_pages(
+    t: Table,
+    references: &[u32],
+    coordinates: &[i32],
+    rooms: &[u64],
+    probes: &[i32],
+    reaches: &[u64],
+    places: &[u64],
+    size: usize,
+    outcomes: &mut [u64],
+    items: &mut [u64],
+) -> u8
+    ensures { λ r. ⌜ Pages (pagesEach (store t (now (references .entry)) (now (coordinates .entry)) (now (rooms .entry))) (now (probes .entry)) (now (reaches .entry)) (now (places .entry)) size (bothRooms (now (outcomes .entry)) (now (items .entry)))) (bothRooms (now (outcomes .entry)) (now (items .entry))) r (bothRooms (now (outcomes .exit)) (now (items .exit))) ⌝ }
+{
+    many::pages_each(
+        t,
+        references,
+        coordinates,
+        rooms,
+        probes,
+        reaches,
+        places,
+        size,
+        outcomes,
+        items,
+    )
+}
+
+// Refusals 12, 1, 2; and 9, 10, 11, 7, 8 of each line.
+#[no_mangle]
+pub extern "C" fn nearby_many_answers(
+    t: Table,
+    references: &[u32],
+    coordinates: &[i32],
+    rooms: &[u64],
+    asks: &[u8],
+    outcomes: &mut [u64],
+    out: &mut [u8],
+) -> Answered
+    ensures { λ r. ⌜ Promise (batchCall (store t (now (references .entry)) (now (coordinates .entry)) (now (rooms .entry))) (now (asks .entry)) (now (outcomes .entry)) (now (out .entry))) (start (now (outcomes .entry)) (now (out .entry))) r (now (outcomes .exit)) (now (out .exit)) ⌝ }
+{
+    batch::answer_all(t, references, coordinates, rooms, asks, outcomes, out)
+}

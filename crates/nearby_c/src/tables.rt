@@ -1,0 +1,55 @@
+// Making a table, testing it, and entering claims.
+ghost use mathlib.Core.Path.{_≡_};
+ghost use Rattle.paper.specs.Tree.{store};
+ghost use Rattle.paper.specs.Runs.{emptyTable, makeCall, enterCall};
+ghost use Rattle.nearby.specs.Checks.{tableRefusal};
+ghost use Rattle.nearby_c.specs.Values.{tabled, Enters};
+use crate::values::Tabled;
+use crate::values::table_entered;
+use crate::values::table_made;
+use paper::tables::Table;
+
+// Refusal 1.
+#[no_mangle]
+pub extern "C" fn nearby_make_table(
+    number: u32,
+    measure: u8,
+    d: usize,
+    capacity: usize,
+    references: &[u32],
+    coordinates: &[i32],
+    rooms: &[u64],
+) -> Tabled
+    ensures { λ r. ⌜ r ≡ tabled (makeCall (store (emptyTable number measure d capacity) (now (references .entry)) (now (coordinates .entry)) (now (rooms .entry)))) ⌝ }
+{
+    table_made(nearby::make_table(number, measure, d, capacity, references, coordinates, rooms))
+}
+
+// Refusals 1, 2: as every call on a table tests it.
+#[no_mangle]
+pub extern "C" fn nearby_test_table(
+    t: Table,
+    references: &[u32],
+    coordinates: &[i32],
+    rooms: &[u64],
+) -> u8
+    ensures { λ r. ⌜ r ≡ tableRefusal (store t (now (references .entry)) (now (coordinates .entry)) (now (rooms .entry))) ⌝ }
+{
+    nearby::table_refusal(t, references, coordinates, rooms)
+}
+
+// Refusals 1, 2, 5, 3, 4.
+#[no_mangle]
+pub extern "C" fn nearby_enter(
+    t: Table,
+    references: &mut [u32],
+    coordinates: &mut [i32],
+    rooms: &mut [u64],
+    given: &[u32],
+    places: &[i32],
+) -> Tabled
+    ensures { λ r. ⌜ Enters (store t (now (references .entry)) (now (coordinates .entry)) (now (rooms .entry))) (enterCall (store t (now (references .entry)) (now (coordinates .entry)) (now (rooms .entry))) (now (given .entry)) (now (places .entry))) r (now (references .exit)) (now (coordinates .exit)) (now (rooms .exit)) ⌝ }
+{
+    let e = nearby::enter(t, references, coordinates, rooms, given, places);
+    table_entered(e)
+}

@@ -1,0 +1,231 @@
+// What goes to C and comes back: numbers, and structs of numbers. A refusal's number stands beside the values, 0 where nothing was
+// refused; where a case is not given its values are 0. A flag from C is off when it is 0 and on otherwise; a flag to C is 0 or 1.
+ghost use mathlib.Core.Path.{_≡_};
+ghost use Rattle.paper.specs.Outcomes.{refused};
+ghost use Rattle.paper.specs.Runs.{madeTold, enteredTold};
+ghost use Rattle.paper.specs.Calls.{nearestTold, pageTold};
+ghost use Rattle.nearby_c.specs.Values.{flagOf, tabled, foundOf, filledOf, writtenOf, placeOf, listIn, listOut};
+use paper::lines::Wrote;
+use paper::lists::List;
+use paper::orders::Found;
+use paper::orders::Mark;
+use paper::orders::Nearest;
+use paper::orders::Page;
+use paper::orders::Place;
+use paper::tables::Entered;
+use paper::tables::Made;
+use paper::tables::Table;
+
+// A table after making or entering.
+#[repr(C)]
+pub struct Tabled {
+    pub refusal: u8,
+    pub table: Table,
+}
+
+// What nearest and farthest found.
+#[repr(C)]
+pub struct Item {
+    pub refusal: u8,
+    pub found: u8,
+    pub number: u64,
+    pub reference: u64,
+    pub distance: u64,
+}
+
+// Where a page starts: at the start where `from` is 0, and otherwise after the mark, in the first `snapshot` claims.
+#[repr(C)]
+pub struct Start {
+    pub from: u8,
+    pub snapshot: u64,
+    pub distance: u64,
+    pub number: u64,
+}
+
+// How many items stand at the front of the room, and whether they are the last.
+#[repr(C)]
+pub struct Filled {
+    pub refusal: u8,
+    pub last: u8,
+    pub count: usize,
+}
+
+// The length of the line at the front of the output room.
+#[repr(C)]
+pub struct Written {
+    pub refusal: u8,
+    pub length: usize,
+}
+
+// A tablet's list: `paper::lists::List` with flags as numbers.
+#[repr(C)]
+pub struct Listing {
+    pub table: u32,
+    pub measure: u8,
+    pub started: u8,
+    pub complete: u8,
+    pub d: usize,
+    pub probe: [i32; 8],
+    pub reach: u64,
+    pub snapshot: u64,
+    pub count: usize,
+}
+
+// A list after opening or taking.
+#[repr(C)]
+pub struct Listed {
+    pub refusal: u8,
+    pub list: Listing,
+}
+
+fn flag(b: bool) -> u8
+    ensures { λ r. ⌜ r ≡ flagOf b ⌝ }
+{
+    if b { 1 } else { 0 }
+}
+
+// A table of zeros stands beside a refusal.
+fn no_table(n: u8) -> Tabled
+    ensures { λ r. ⌜ r ≡ tabled (refused n) ⌝ }
+{
+    Tabled {
+        refusal: n,
+        table: Table {
+            number: 0,
+            measure: 0,
+            d: 0,
+            capacity: 0,
+            count: 0,
+            used: 0,
+        },
+    }
+}
+
+pub fn table_made(m: Made) -> Tabled
+    ensures { λ r. ⌜ r ≡ tabled (madeTold m) ⌝ }
+{
+    match m {
+        Made::Table(t) => Tabled {
+            refusal: 0,
+            table: t,
+        },
+        Made::Refused(n) => no_table(n),
+    }
+}
+
+pub fn table_entered(e: Entered) -> Tabled
+    ensures { λ r. ⌜ r ≡ tabled (enteredTold e) ⌝ }
+{
+    match e {
+        Entered::Table(t) => Tabled {
+            refusal: 0,
+            table: t,
+        },
+        Entered::Refused(n) => no_table(n),
+    }
+}
+
+pub fn item_of(a: Nearest) -> Item
+    ensures { λ r. ⌜ r ≡ foundOf (nearestTold a) ⌝ }
+{
+    match a {
+        Nearest::Refused(n) => Item {
+            refusal: n,
+            found: 0,
+            number: 0,
+            reference: 0,
+            distance: 0,
+        },
+        Nearest::Answer(f) => match f {
+            Found::Nothing => Item {
+                refusal: 0,
+                found: 0,
+                number: 0,
+                reference: 0,
+                distance: 0,
+            },
+            Found::Item(number, reference, distance) => Item {
+                refusal: 0,
+                found: 1,
+                number,
+                reference,
+                distance,
+            },
+        },
+    }
+}
+
+pub fn place_of(s: Start) -> Place
+    ensures { λ r. ⌜ r ≡ placeOf s ⌝ }
+{
+    if s.from == 0 {
+        return Place::Start;
+    }
+    Place::After(s.snapshot, Mark::at(s.distance, s.number))
+}
+
+pub fn page_of(p: Page) -> Filled
+    ensures { λ r. ⌜ r ≡ filledOf (pageTold p) ⌝ }
+{
+    match p {
+        Page::Refused(n) => Filled {
+            refusal: n,
+            last: 0,
+            count: 0,
+        },
+        Page::Filled(paged) => Filled {
+            refusal: 0,
+            last: flag(paged.last),
+            count: paged.count,
+        },
+    }
+}
+
+pub fn line_of(w: Wrote) -> Written
+    ensures { λ r. ⌜ r ≡ writtenOf w ⌝ }
+{
+    match w {
+        Wrote::Line(n) => Written {
+            refusal: 0,
+            length: n,
+        },
+        Wrote::Refused(n) => Written {
+            refusal: n,
+            length: 0,
+        },
+    }
+}
+
+pub fn list_in(l: Listing) -> List
+    ensures { λ r. ⌜ r ≡ listIn l ⌝ }
+{
+    let probe = l.probe;
+    List {
+        table: l.table,
+        measure: l.measure,
+        d: l.d,
+        probe,
+        reach: l.reach,
+        started: l.started != 0,
+        snapshot: l.snapshot,
+        count: l.count,
+        complete: l.complete != 0,
+    }
+}
+
+pub fn list_out(l: List) -> Listing
+    ensures { λ r. ⌜ r ≡ listOut l ⌝ }
+{
+    let probe = l.probe;
+    Listing {
+        table: l.table,
+        measure: l.measure,
+        started: flag(l.started),
+        complete: flag(l.complete),
+        d: l.d,
+        probe,
+        reach: l.reach,
+        snapshot: l.snapshot,
+        count: l.count,
+    }
+}
