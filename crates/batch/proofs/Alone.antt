@@ -14,7 +14,7 @@ use Rattle.paper.specs.Outcomes.{Outcome, refused, gives, number}
 use Rattle.paper.specs.Tree.{Store}
 use Rattle.paper.specs.Codec.{roomAfter}
 use Rattle.paper.specs.Calls.{officeCall}
-use Rattle.tablet.proofs.TakeLaws.{must-go}
+use Rattle.paper.proofs.Outcomes.{must-go}
 use Rattle.batch.specs.Batch.{lineAt, Batch, start, answerNow, lengthSaid, rowPut, stepBy, step, goes, answered, startAt, nthLine, alone, lineSaid, answersOf, rowsOf, batchAt, AsAlone}
 use Rattle.batch.proofs.Cutting.{cut-on}
 use Rattle.batch.proofs.Steps.{goes-room-for, same-batch}

@@ -2,14 +2,14 @@
 use Prim.Native.Nat.{ℕ, zero, suc, _+_, _*_, _-_, _<_, _≤_}
 use mathlib.Core.Path.{_≡_, refl, sym, ap, _∙_, subst}
 use mathlib.Core.Bool.{Bool, true, false, cond}
-use mathlib.Core.List.{List, [], _∷_, _++_}
+use mathlib.Core.List.{List, _++_}
 use native.Mathlib.Omega.{arith}
 use native.Mathlib.Decide.{decLe}
 use lib.Dec.{leb}
 use lib.ListN.{length, take, drop, length-append, length-drop, length-take}
 use borrow.Author.Tests.{lt-ltb, le-leb}
 use Rattle.paper.specs.declared.orders.Order.the-variants.{Near}
-use Rattle.paper.specs.Orders.{Item, flat, following, pageOf, snapshotHolds, markHolds}
+use Rattle.paper.specs.Orders.{flat, following, pageOf, snapshotHolds, markHolds}
 use Rattle.paper.specs.Outcomes.{gives, must, onto}
 use Rattle.paper.specs.Tree.{Store, fits}
 use Rattle.paper.specs.Tree as Tree
@@ -19,6 +19,7 @@ use Rattle.paper.specs.Ends.{Ask, tableOf, matches, answerOf, answerTo, served}
 use Rattle.paper.specs.Ends as Ends
 use Rattle.paper.specs.Codec.{asked, answerLine, readAsk, scopeOf, lines}
 use Rattle.paper.specs.Calls.{officeCall}
+use Rattle.orders.proofs.Rooms.{flat-length}
 use Rattle.digits.proofs.Laws.{length-line}
 use Rattle.lines.proofs.Tests.{length-answer}
 use Rattle.desk.proofs.Ways.{ask-given}
@@ -27,11 +28,6 @@ use Rattle.batch.proofs.Cutting.{cut-short}
 use Rattle.batch.proofs.Alone.{said-size, rows-long, batch-is, stops-for-want}
 
 -- ---- an answer line is short
-
-flat-length : (l : List Item) → length (flat l) ≡ 3 * length l
-unfolding flat
-flat-length [] = refl
-flat-length (a ∷ l) = let h = flat-length l in omega arith
 
 answer-short : (t : Ends.Table) (a : Ask) → length (a .query .probe) ≤ 8 → a .size ≤ 16 → length (answerLine (answerOf t a)) ≤ 573
 unfolding answerLine answerOf pageOf

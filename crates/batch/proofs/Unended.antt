@@ -1,6 +1,6 @@
 -- The lines of a buffer: an example, and that one without 0A is a line too, which the reader refuses under 9. Assumes nothing.
 use Prim.Native.Nat.{ℕ, suc}
-use mathlib.Core.Path.{_≡_, refl, sym, ap, _∙_}
+use mathlib.Core.Path.{_≡_, refl, ap, _∙_}
 use mathlib.Core.Bool.{Bool, true, false, _&&_}
 use mathlib.Core.List.{List, [], _∷_}
 use lib.Dec.{ltb, leb}
@@ -12,7 +12,7 @@ use Rattle.paper.specs.Frames.{digit, ended, sound}
 use Rattle.paper.specs.Ends.{Ask, tableOf, answerTo, served}
 use Rattle.paper.specs.Codec.{lines, readAsk, answerLine}
 use Rattle.paper.specs.Calls.{officeCall}
-use Rattle.tablet.proofs.TakeLaws.{must-stop}
+use Rattle.paper.proofs.Outcomes.{must-stop}
 use Rattle.nearby.specs.Checks.{tableRefusal}
 use Rattle.nearby.proofs.CallLaws.{table-goes}
 use Rattle.batch.specs.Batch.{cutAt, lineAt, startAt, nthLine, alone}

@@ -7,7 +7,7 @@ use lib.ListN.{length}
 use borrow.Author.Tests.{le-leb, lt-leb}
 use Rattle.paper.specs.Outcomes.{Outcome, refused, gives}
 use Rattle.paper.specs.Tree.{Store}
-use Rattle.tablet.proofs.TakeLaws.{must-stop, must-go}
+use Rattle.paper.proofs.Outcomes.{must-stop, must-go}
 use Rattle.nearby.specs.Checks.{tableRefusal}
 use Rattle.nearby.proofs.CallLaws.{table-refused, table-goes}
 use Rattle.batch.specs.declared.Answered.{Answered}

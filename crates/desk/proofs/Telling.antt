@@ -26,9 +26,12 @@ use Rattle.paper.specs.Ends.{answerOf, tableOf}
 use Rattle.paper.specs.Codec.{placeIn, scopeOf, answerLine, wroteOf, roomAfter}
 use Rattle.paper.proofs.Tests.{and-first, and-both}
 use Rattle.tree.specs.Soundness.{InRange, Good}
-use Rattle.tree.proofs.Known.{lent-located, good-few, good-tree}
-use Rattle.walk.specs.Asking.{queryOf, Measurable, Answerable, Pageable, Markable, PageIs}
-use Rattle.walk.proofs.Bridge.{claims-length, claims-at}
+use Rattle.tree.proofs.Known.{good-few}
+use Rattle.walk.specs.Asking.{queryOf, Pageable, Markable, PageIs}
+use Rattle.tree.proofs.Places.{claims-length}
+use Rattle.orders.proofs.Rooms.{flat-length}
+use Rattle.walk.proofs.Bridge.{claims-at}
+use Rattle.walk.proofs.Answers.{good-measurable}
 use Rattle.desk.specs.Desk.{Says, Paging, askFor, flagged, pageLine}
 
 -- ---- items that an answer can tell
@@ -72,11 +75,6 @@ take-small : (n : ℕ) (l : List Item) → AllSmall l → AllSmall (take n l)
 take-small zero l all = tt
 take-small (suc n) [] all = tt
 take-small (suc n) (a ∷ l) all = (all .0, take-small n l (all .1))
-
-flat-length : (l : List Item) → length (flat l) ≡ 3 * length l
-unfolding flat
-flat-length [] = refl
-flat-length (a ∷ l) = omega (arith, flat-length l)
 
 flat-references : (l : List Item) → AllSmall l → referencesOk (flat l) ≡ true
 unfolding flat referencesOk
@@ -124,20 +122,9 @@ scope-repeats p n e h = go (p .from) refl
 
 -- ---- what the walk asks of the table
 
-module _ (s : Store) (probe : List ℤ) (g : Good s) (aim : length probe ≡ s .table .d) where
-  pub measurable : Measurable (s .table) (s .coordinates) probe
-  measurable =
-      record {
-        located = lent-located (s .table) (s .coordinates) (length (s .rooms)) (s .table .count) (g .fit .lent) (g .count);
-        aimed = omega arith;
-      }
-
-  pub answerable : Answerable (s .table) (s .references) (s .coordinates) (s .rooms) probe
-  answerable = record { tree = good-tree s g; measurable = measurable; named = omega (arith, g .count, g .fit .references) }
-
-  pub markable : (p : Scope) (place : Place) → place ≡ placeIn p → snapshotOf (placeIn p) (s .table .count) ≤ s .table .count
-      → Markable (s .table) (s .coordinates) probe place
-  markable p place e h = record { measurable = measurable; stored = rw e h }
+pub markable : (s : Store) (probe : List ℤ) → Good s → length probe ≡ s .table .d → (p : Scope) (place : Place) → place ≡ placeIn p
+    → snapshotOf (placeIn p) (s .table .count) ≤ s .table .count → Markable (s .table) (s .coordinates) probe place
+markable s probe g aim p place e h = record { measurable = good-measurable s g probe aim; stored = rw e h }
 
 -- ---- the page, written
 

@@ -28,11 +28,11 @@ use Rattle.paper.specs.Program.{replyTo}
 use Rattle.paper.proofs.Tests.{and-first, and-second}
 use Rattle.lines.proofs.Tests.{is-ask}
 use Rattle.walk.specs.Asking.{queryOf}
-use Rattle.walk.proofs.Bridge.{claims-length}
+use Rattle.tree.proofs.Places.{claims-length}
 use Rattle.desk.specs.Desk.{Says, Given, Answering, Asking, askFor, pageLine, pageReply}
 use Rattle.desk.proofs.Telling.{place-start, place-after}
 
-says-refused : (o : Outcome (List ℕ)) (n : ℕ) (before : List ℕ) → o ≡ refused n → Says o before (Refused n) before
+pub says-refused : (o : Outcome (List ℕ)) (n : ℕ) (before : List ℕ) → o ≡ refused n → Says o before (Refused n) before
 unfolding wroteOf roomAfter
 says-refused o n before e = rw e (record { answer = refl; room = refl })
 

@@ -24,7 +24,7 @@ use Rattle.digits.proofs.Laws.{Bytes, bytes-drop, num-lt}
 use Rattle.fields.proofs.Round.{Fit, ScopeFit}
 use Rattle.fields.proofs.ItemLaws.{Distances}
 use Rattle.orders.specs.Laws.{PlaceOk, ItemOk}
-use Rattle.orders.proofs.Tests.{and-left, and-right, and-both}
+use Rattle.paper.proofs.Tests.{and-first, and-second, and-both}
 use Rattle.orders.proofs.Lists.{All}
 
 -- "measure 1 to 3, d 1 to 8", in a call and in a line
@@ -79,9 +79,9 @@ scope-asks reach (After n m) = refl
 pub place-ok : (s : Scope) → scopeOk s ≡ true → s .distance < 2 ^ 64 → PlaceOk (placeIn s)
 unfolding scopeOk placeIn
 place-ok s e far =
-    let e1 = and-right (leb (s .from) 1) _ e in
-    let e2 = and-right (leb (s .snapshot) 4096) _ e1 in
-    go (eqb (s .from) 0) (leb-true _ _ (and-left _ _ e1)) (leb-true _ _ (and-left _ _ e2))
+    let e1 = and-second (leb (s .from) 1) _ e in
+    let e2 = and-second (leb (s .snapshot) 4096) _ e1 in
+    go (eqb (s .from) 0) (leb-true _ _ (and-first _ _ e1)) (leb-true _ _ (and-first _ _ e2))
   where
     go : (b : Bool) → s .snapshot ≤ 4096 → s .number ≤ 4095
         → PlaceOk (cond b Start (After (s .snapshot) (record { distance = s .distance; number = s .number })))
@@ -98,7 +98,7 @@ place-used s = go (eqb (s .from) 0)
 
 pub scope-small : (s : Scope) → scopeOk s ≡ true → s .snapshot ≤ 4096
 unfolding scopeOk
-scope-small s e = leb-true _ _ (and-left _ _ (and-right (leb (s .from) 1) _ e))
+scope-small s e = leb-true _ _ (and-first _ _ (and-second (leb (s .from) 1) _ e))
 
 -- coordinates of 32 bits
 pub probe-fit : (cs : List ℤ) → ((x : ℤ) → List·Memᴰ x cs → mag x < 2 ^ 31) → Fit cs
@@ -132,9 +132,9 @@ unfolding itemsIn numbersOk lists.itemsIn
 items-ok zero g r b e = tt
 items-ok (suc k) g r b e = (
   record {
-    number = omega (arith, leb-true (num 2 g) 4095 (and-left _ _ e));
+    number = omega (arith, leb-true (num 2 g) 4095 (and-first _ _ e));
     reference = num-lt 4 (drop 2 g) (bytes-drop 2 g b);
     distance = num-lt 8 (drop 6 g) (bytes-drop 6 g b);
   },
-  items-ok k (drop 14 g) r (bytes-drop 14 g b) (and-right (leb (num 2 g) 4095) _ e),
+  items-ok k (drop 14 g) r (bytes-drop 14 g b) (and-second (leb (num 2 g) 4095) _ e),
 )

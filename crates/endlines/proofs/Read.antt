@@ -17,7 +17,6 @@ use Rattle.paper.specs.Fields as fields
 use Rattle.paper.specs.Lines.{behind, askRanges, askOk, askAt, anAsk, noAsk, askOf, answerRanges, countIn, answerOk, answerAt, anAnswer, noAnswer, answerOf}
 use Rattle.paper.specs.Outcomes.{gives}
 use Rattle.paper.specs.Ends.{Ask, Answer}
-use Rattle.paper.specs.Lists.{itemsIn}
 use Rattle.paper.specs.Codec.{queryIn, asked, answered, readAsk, readAnswer}
 use Rattle.paper.proofs.Reading.{ask-by-refusal, answer-by-refusal}
 use Rattle.digits.proofs.Laws.{Bytes, bytes-drop, bytes-frame, num-lt}
@@ -26,7 +25,8 @@ use Rattle.fields.proofs.Round.{take-places}
 use Rattle.lines.proofs.Ways.{reads, accepted}
 use Rattle.lines.proofs.Tests.{is-ask, is-answer}
 use Rattle.orders.specs.Laws.{QueryOk, AskOk, AnswerOk}
-use Rattle.orders.proofs.Tests.{and-left, and-right, must-test, must-rest, same-given}
+use Rattle.paper.proofs.Tests.{and-first, and-second}
+use Rattle.paper.proofs.Outcomes.{must-test, must-rest, same-given}
 use Rattle.orders.proofs.Lists.{all-mem}
 use Rattle.orders.proofs.Rooms.{length-in}
 use Rattle.endlines.proofs.Parts.{same-range, place-ok, place-used, scope-small, probe-read, items-ok}
@@ -64,20 +64,20 @@ module _ (f : List ℕ) (b : Bytes f) where
   frame-ask e =
       let q = is-ask 1 f e in
       let r = q .rest in
-      let r1 = and-right (scopeOk (scopeIn (behind f))) _ r in
-      let r2 = and-right (eqb (scopeIn (behind f) .from) 1 || eqb (scopeIn (behind f) .snapshot) 0) _ r1 in
+      let r1 = and-second (scopeOk (scopeIn (behind f))) _ r in
+      let r2 = and-second (eqb (scopeIn (behind f) .from) 1 || eqb (scopeIn (behind f) .snapshot) 0) _ r1 in
       record {
         query = query-ok (q .headed .test);
-        place = place-ok (scopeIn (behind f)) (and-left (scopeOk (scopeIn (behind f))) _ r) far;
-        one = leb-true _ _ (and-left _ _ r2);
-        most = leb-true _ _ (and-right (leb 1 (num 1 (drop 21 (behind f)))) _ r2);
+        place = place-ok (scopeIn (behind f)) (and-first (scopeOk (scopeIn (behind f))) _ r) far;
+        one = leb-true _ _ (and-first _ _ r2);
+        most = leb-true _ _ (and-second (leb 1 (num 1 (drop 21 (behind f)))) _ r2);
       }
 
   pub frame-answer : answerOk 2 f ≡ true → AnswerOk (answered Near (answerAt f))
   unfolding answered answerAt answerRanges itemPlaces
   frame-answer e =
       let q = is-answer 2 f e in
-      let s = and-left (scopeOk (scopeIn (behind f))) _ (q .rest) in
+      let s = and-first (scopeOk (scopeIn (behind f))) _ (q .rest) in
       let n = countIn f in
       let room = itemPlaces n (fields.itemsIn n (drop 23 (behind f))) in
       record {

@@ -14,7 +14,7 @@ use Rattle.paper.specs.Codec.{askLine, answerLine, readAnswer, isNear, lines}
 use Rattle.paper.proofs.Reading.{answer-by-refusal}
 use Rattle.lines.proofs.OneKind.{OfKind, ask-kind, not-answer}
 use Rattle.orders.specs.Laws.{AskOk, AnswerOk, Lawful}
-use Rattle.orders.proofs.Tests.{never}
+use Rattle.paper.proofs.Tests.{no-way}
 use Rattle.endlines.proofs.Written as written
 use Rattle.endlines.proofs.Read as read
 
@@ -32,7 +32,7 @@ far-never l y e = far-unread (sound l) y e
 
 answer-back : (o : Order) (y : Answer) → AnswerOk y → y .query .order ≡ o → isNear o ≡ true → readAnswer o (answerLine y) ≡ gives y
 answer-back Near y ok e o = written.answer-back y ok (ap isNear e)
-answer-back Far y ok e o = absurd (never (sym o))
+answer-back Far y ok e o = absurd (no-way (sym o))
 
 answer-ok : (o : Order) (l : List ℕ) (y : Answer) → readAnswer o l ≡ gives y → AnswerOk y × (y .query .order ≡ o)
 answer-ok Near l y e = read.answer-ok l y e
@@ -40,7 +40,7 @@ answer-ok Far l y e = absurd (far-never l y e)
 
 answer-kind : (o p : Order) (l : List ℕ) (z : Answer) → isNear p ≡ true → readAnswer o l ≡ gives z → o ≡ p
 answer-kind Near Near l z s e = refl
-answer-kind Near Far l z s e = absurd (never (sym s))
+answer-kind Near Far l z s e = absurd (no-way (sym s))
 answer-kind Far p l z s e = absurd (far-never l z e)
 
 -- an ask's line is of kind 01, so it reads as no answer

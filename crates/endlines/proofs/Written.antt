@@ -22,14 +22,14 @@ use Rattle.paper.proofs.Reading.{ask-by-refusal, answer-by-refusal}
 use Rattle.lines.proofs.AskRound.{ask-reads-back}
 use Rattle.lines.proofs.AnswerRound.{answer-reads-back}
 use Rattle.orders.specs.Laws.{QueryOk, AskOk, AnswerOk}
-use Rattle.orders.proofs.Tests.{never, and-both}
+use Rattle.paper.proofs.Tests.{no-way, and-both}
 use Rattle.orders.proofs.Lists.{all-of-mem}
 use Rattle.orders.proofs.Rooms.{read-flat, flat-length}
 use Rattle.endlines.proofs.Parts.{same-range, scope-reach, scope-place, scope-snapshot, asked-small, asked-used, scope-ok, scope-fit, scope-asks, probe-fit, flat-numbers, flat-references, flat-distances}
 
 near : (o : Order) → isNear o ≡ true → Near ≡ o
 near Near e = refl
-near Far e = absurd (never (sym e))
+near Far e = absurd (no-way (sym e))
 
 probe-back : (d : ℕ) (cs : List ℤ) → length cs ≡ d → take d (places d cs) ≡ cs
 unfolding places

@@ -11,27 +11,21 @@ use lib.Seq.{take-at, drop-append-add}
 use lib.Dec.{leb, eqb}
 use borrow.Author.Tests.{leb-true, leb-false, le-leb, lt-leb, eq-eqb, eqb-true}
 use Rattle.paper.specs.Points.{Claim, point}
-use Rattle.paper.specs.Outcomes.{Outcome, refused, gives, must, onto, number}
+use Rattle.paper.specs.Outcomes.{Outcome, refused, gives, onto, number}
 use Rattle.paper.specs.Tree.{Store, fits, sound, claimsFrom}
 use Rattle.paper.specs.Runs.{addedRun, enterCall}
 use Rattle.paper.specs.Ends.{count, tableOf, every}
-use Rattle.orders.proofs.Tests.{must-pass}
+use Rattle.paper.proofs.Outcomes.{must-go, must-stop}
 use Rattle.orders.proofs.Lists.{All, all-append, all-map, every-true, every-all}
 use Rattle.tree.specs.Soundness.{Good, Roomy}
+use Rattle.tree.proofs.Places.{claims-length}
 use Rattle.tree.proofs.Known.{fits-fit, fit-fits, sound-good, good-sound}
 use Rattle.tree.proofs.Adding.{in-run, point-length, Kept, run-claims, run-kept}
 use Rattle.tree.proofs.Calls.{enters-gives, zero-enters}
 use Rattle.journey.specs.World.{entering}
 use Rattle.entering.specs.Runs.{runOf, referencesOf, placesOf, callEnters}
 
--- as many claims are cut out of a run as it has references
-claims-length : (d n : ℕ) (given : List ℕ) (places : List ℤ) → length (claimsFrom d n given places) ≡ n
-unfolding claimsFrom
-claims-length d zero given places = refl
-claims-length d (suc n) given places =
-    omega (arith, claims-length d n given places, length-append (claimsFrom d n given places) (record { reference = getD given n 0; place = point d places n } ∷ []))
-
--- and each has d coordinates, where the run has them
+-- each claim that is cut out of a run has d coordinates, where the run has them
 claims-whole : (d n m : ℕ) (given : List ℕ) (places : List ℤ) → length places ≡ d * m → n ≤ m
     → All (λ (k : Claim). eqb (length (k .place)) d ≡ true) (claimsFrom d n given places)
 unfolding claimsFrom
@@ -39,9 +33,6 @@ claims-whole d zero m given places e h = tt
 claims-whole d (suc n) m given places e h =
     all-append _ (claimsFrom d n given places) _ (claims-whole d n m given places e (omega arith))
     (eq-eqb _ d (point-length d places n (in-run d n m places e (omega arith))), tt)
-
-must-fail : {A : Type 0} (b : Bool) (n : ℕ) (x : Outcome A) → b ≡ false → must b n x ≡ refused n
-must-fail b n x p = rw p
 
 module _ (s : Store) (given : List ℕ) (places : List ℤ) where
   -- the claims of a whole run have d coordinates each
@@ -65,8 +56,8 @@ module _ (s : Store) (given : List ℕ) (places : List ℤ) where
       let r : Roomy s (length given) = record { good = g; free = free } in
       let k : Kept (s .table) (addedRun given places (length given) s .table) (length given) = run-kept s given places (length given) r whole in
       let c = run-claims s given places (length given) r whole in
-      must-pass _ 5 _ (run-whole whole)
-      ∙ must-pass _ 3 _ (le-leb _ (s .table .capacity) (omega (arith, run-count)))
+      must-go _ 5 _ (run-whole whole)
+      ∙ must-go _ 3 _ (le-leb _ (s .table .capacity) (omega (arith, run-count)))
       ∙ (λ i. gives (record { number = sym (k .number) i; measure = sym (k .measure) i; d = sym (k .d) i; capacity = sym (k .capacity) i; claims = sym c i }))
       ∙ ap (λ (o : Outcome Store). onto o (λ x. gives (tableOf x))) (sym (enters-gives s given places g whole free))
 
@@ -86,8 +77,8 @@ module _ (s : Store) (given : List ℕ) (places : List ℤ) where
       → entering (tableOf s) (runOf s given places) ≡ callEnters s given places
   unfolding entering callEnters
   refuses g whole full =
-      must-pass _ 5 _ (run-whole whole)
-      ∙ must-fail _ 3 _ (lt-leb _ (s .table .capacity) (omega (arith, run-count)))
+      must-go _ 5 _ (run-whole whole)
+      ∙ must-stop _ 3 _ (lt-leb _ (s .table .capacity) (omega (arith, run-count)))
       ∙ ap (λ (o : Outcome Store). onto o (λ x. gives (tableOf x))) (sym (enters-3 g whole full))
 
   good-alike : Good s → length places ≡ s .table .d * length given → entering (tableOf s) (runOf s given places) ≡ callEnters s given places

@@ -14,7 +14,8 @@ use Rattle.paper.specs.Orders.{Item, noItem, Query, itemOf, listed, snapshotOf,
 use Rattle.paper.specs.Tree.{inRange}
 use Rattle.paper.specs.Outcomes.{gives}
 use Rattle.paper.specs.Ends.{Ask, Answer, Table, count, matches, answerOf, answerTo, Listing, lastItem, markOf, presentPlace, presentAsk, rising, every, fitting, startedWell, soundIn, toPresent, pageHolds, joinedTo, taken}
-use Rattle.orders.proofs.Tests.{and-left, and-right, and-both, or-right, or-left, false-not, must-test, must-rest, must-pass, same-given}
+use Rattle.paper.proofs.Tests.{and-first, and-second, and-both, or-right, or-left, false-not}
+use Rattle.paper.proofs.Outcomes.{must-test, must-rest, must-go, same-given}
 use Rattle.orders.proofs.Lists.{All, all-map, all-take, all-getD, all-mem, all-of-mem, every-true, every-all}
 use Rattle.orders.proofs.Sorted.{rising-take, rising-rest, rising-test, IsOf, listed-are, listed-rising, rest-follows, all-rest}
 use Rattle.orders.proofs.Page.{last-some}
@@ -32,15 +33,15 @@ record Parts (L : Listing) : Type 0 where
 parts : (room : ℕ) (L : Listing) → soundIn room L ≡ true → Parts L
 unfolding soundIn startedWell
 parts room L e =
-    let e1 = and-right (inRange (L .query .measure) (L .query .d)) _ e in
-    let e2 = and-right (eqb (length (L .query .probe)) (L .query .d)) _ e1 in
-    let e3 = and-right (leb (L .snapshot) 4096) _ e2 in
-    let e4 = and-right (leb (length (L .items)) room) _ e3 in
-    let e5 = and-right (rising (L .query .order) (L .items)) _ e4 in
-    let e6 = and-right (every (fitting (L .query .reach) (L .snapshot)) (L .items)) _ e5 in
+    let e1 = and-second (inRange (L .query .measure) (L .query .d)) _ e in
+    let e2 = and-second (eqb (length (L .query .probe)) (L .query .d)) _ e1 in
+    let e3 = and-second (leb (L .snapshot) 4096) _ e2 in
+    let e4 = and-second (leb (length (L .items)) room) _ e3 in
+    let e5 = and-second (rising (L .query .order) (L .items)) _ e4 in
+    let e6 = and-second (every (fitting (L .query .reach) (L .snapshot)) (L .items)) _ e5 in
     record {
-      small = leb-true (L .snapshot) 4096 (and-left _ _ e2);
-      fit = every-all _ (L .items) (and-left _ _ e5);
+      small = leb-true (L .snapshot) 4096 (and-first _ _ e2);
+      fit = every-all _ (L .items) (and-first _ _ e5);
       some = λ p c. let e7 : (leb 1 (length (L .items)) || L .complete) ≡ true = rw p at e6 in leb-true _ _ (or-left _ _ e7 c);
     }
 
@@ -53,8 +54,8 @@ present-ok room L ok e c = go (L .started) refl (parts room L e)
     go true p s =
         let j : 1 ≤ length (L .items) = s .some p c in
         let f = all-getD _ (L .items) (length (L .items) - 1) noItem (s .fit) (omega arith) in
-        let f1 : lastItem (L .items) .distance ≤ L .query .reach = leb-true _ _ (and-left _ _ f) in
-        let f2 : lastItem (L .items) .number < L .snapshot = ltb-true _ _ (and-right (leb (lastItem (L .items) .distance) (L .query .reach)) _ f) in
+        let f1 : lastItem (L .items) .distance ≤ L .query .reach = leb-true _ _ (and-first _ _ f) in
+        let f2 : lastItem (L .items) .number < L .snapshot = ltb-true _ _ (and-second (leb (lastItem (L .items) .distance) (L .query .reach)) _ f) in
         subst PlaceOk (sym (present-after L p))
         (record { snapshot = s .small; distance = omega (arith, ok .typed .reach); number = omega (arith, s .small) })
 
@@ -144,7 +145,7 @@ module _ (t : Table) (L : Listing) (k : Kept t L) (c : L .complete ≡ false) wh
 
   pub present-answered : (n : ℕ) → matches t (L .query) ≡ true → answerTo t (presentAsk L n) ≡ gives (answerOf t (presentAsk L n))
   unfolding answerTo snapshotHolds
-  present-answered n ours = must-pass _ _ _ ours ∙ must-pass _ _ _ (le-leb _ _ present-held) ∙ must-pass _ _ _ mark-holds
+  present-answered n ours = must-go _ _ _ ours ∙ must-go _ _ _ (le-leb _ _ present-held) ∙ must-go _ _ _ mark-holds
 
 -- the answer passes 14
 page-holds : (t : Table) (a : Ask) → 1 ≤ a .size → pageHolds (answerOf t a) ≡ true
@@ -177,4 +178,4 @@ module _ (t : Table) (L : Listing) (n : ℕ) where
   reply-taken room c one fits =
       let y : Answer = answerOf t (presentAsk L n) in
       let f : length (L .items) + length (y .items) ≤ room = omega (arith, length-append (L .items) (y .items)) in
-      must-pass _ _ _ (false-not _ c) ∙ must-pass _ _ _ to-present ∙ must-pass _ _ _ (page-holds t (presentAsk L n) one) ∙ must-pass _ _ _ (le-leb _ _ f)
+      must-go _ _ _ (false-not _ c) ∙ must-go _ _ _ to-present ∙ must-go _ _ _ (page-holds t (presentAsk L n) one) ∙ must-go _ _ _ (le-leb _ _ f)

@@ -10,7 +10,8 @@ use borrow.Author.Tests.{le-leb}
 use Rattle.paper.specs.Orders.{Item, listed, snapshotOf, following, pageOf, lastOf}
 use Rattle.paper.specs.Outcomes.{Outcome, gives, onto}
 use Rattle.paper.specs.Ends.{Ask, Answer, Codec, Table, count, matches, answerOf, answerTo, served, office, Listing, presentPlace, presentAsk, asking, joinedTo, taken, taking}
-use Rattle.orders.proofs.Tests.{and-both, false-not, must-pass}
+use Rattle.paper.proofs.Tests.{and-both, false-not}
+use Rattle.paper.proofs.Outcomes.{must-go}
 use Rattle.orders.specs.Laws.{AskOk, AnswerOk, Lawful}
 use Rattle.journey.specs.World.{World, noListing, theList, sent, moved, TableOk, next}
 use Rattle.journey.specs.Promise.{askOf, replyTo, Answered, Grows}
@@ -47,20 +48,20 @@ module _ (c : Codec) (law : Lawful c) (t : Table) (L : Listing) (size : ℕ) (r 
   pub asks-line : (room out : ℕ) → length (L .items) ≤ room → 123 ≤ out → asking c room size out L ≡ gives (askOf c L size)
   unfolding asking
   asks-line room out h g =
-      must-pass _ _ _ (kept-sound t L room (r .kept) few h) ∙ must-pass _ _ _ (false-not _ (r .unfinished))
-      ∙ must-pass _ _ _ (and-both _ _ (le-leb 1 size (r .one)) (le-leb size 16 (r .most))) ∙ must-pass _ _ _ (le-leb 123 out g)
+      must-go _ _ _ (kept-sound t L room (r .kept) few h) ∙ must-go _ _ _ (false-not _ (r .unfinished))
+      ∙ must-go _ _ _ (and-both _ _ (le-leb 1 size (r .one)) (le-leb size 16 (r .most))) ∙ must-go _ _ _ (le-leb 123 out g)
 
   pub office-line : (out : ℕ) → 573 ≤ out → office c t out (askOf c L size) ≡ gives (replyTo c t L size)
   unfolding office served
   office-line out h =
-      must-pass _ _ _ (le-leb 573 out h)
+      must-go _ _ _ (le-leb 573 out h)
       ∙ ap (λ (x : Outcome Ask). onto x (λ a. onto (answerTo t a) (λ y. gives (c .answerLine y)))) (law .ask-back (presentAsk L size) ask-ok (r .spoken))
       ∙ ap (λ (x : Outcome Answer). onto x (λ y. gives (c .answerLine y))) (present-answered t L (r .kept) (r .unfinished) size (r .ours))
 
   pub takes-line : (room : ℕ) → length (joinedTo L reply .items) ≤ room → taking c room L (replyTo c t L size) ≡ gives (joinedTo L reply)
   unfolding taking joinedTo answerOf
   takes-line room h =
-      must-pass _ _ _ (kept-sound t L room (r .kept) few (omega (arith, length-append (L .items) (reply .items))))
+      must-go _ _ _ (kept-sound t L room (r .kept) few (omega (arith, length-append (L .items) (reply .items))))
       ∙ ap (λ (x : Outcome Answer). onto x (λ y. taken room L y)) (law .answer-back reply reply-ok (r .spoken))
       ∙ reply-taken t L size room (r .unfinished) (r .one) h
 

@@ -14,7 +14,8 @@ use Rattle.paper.specs.Orders.{Query}
 use Rattle.paper.specs.Tree.{inRange}
 use Rattle.paper.specs.Outcomes.{Outcome, refused, gives}
 use Rattle.paper.specs.Ends.{Ask, Answer, Codec, Table, count, answerOf, answerTo, served, answerRoom, office, Listing, fresh, opening, presentAsk, every, soundIn, sizeHolds, askRoom, asking, taking}
-use Rattle.orders.proofs.Tests.{and-left, and-right, must-test, must-rest, through, same-given}
+use Rattle.paper.proofs.Tests.{and-first, and-second}
+use Rattle.paper.proofs.Outcomes.{must-test, must-rest, through, same-given}
 use Rattle.orders.proofs.Lists.{All, all-map, all-append, all-set, all-getD, all-mem}
 use Rattle.orders.proofs.Taking.{took, took-query, fits-present}
 use Rattle.orders.specs.Laws.{Typed, QueryOk, AskOk, AnswerOk, Lawful}
@@ -112,7 +113,7 @@ module _ (c : Codec) (law : Lawful c) (Elsewhere : List ℕ → Type 0) where
       let ranged = must-test (sizeHolds size) 6 _ _ e2 in
       let is : c .askLine (presentAsk L size) ≡ s = same-given _ _ (must-rest (askRoom out) 12 _ _ e3) in
       let ask : AskOk (presentAsk L size) =
-      asked-ok room size L ok sound unfinished (leb-true _ _ (and-left _ _ ranged)) (leb-true _ _ (and-right (leb 1 size) _ ranged)) in
+      asked-ok room size L ok sound unfinished (leb-true _ _ (and-first _ _ ranged)) (leb-true _ _ (and-second (leb 1 size) _ ranged)) in
       sent-inv w s i (λ o y r. absurd (law .ask-kind o (presentAsk L size) y ask (rw is r)))
 
   -- a line that the office wrote reads as what it wrote

@@ -12,7 +12,7 @@ use Rattle.paper.specs.declared.orders.Place.{Place}
 use Rattle.paper.specs.Points.{Claim}
 use Rattle.paper.specs.Orders.{Item, noItem, Query, listed, rest, lastOf}
 use Rattle.paper.specs.Ends.{Answer, Table, count, matches, Listing, fresh, presentPlace, fitting, startedWell, soundIn, joinedTo}
-use Rattle.orders.proofs.Tests.{never, and-both, or-right}
+use Rattle.paper.proofs.Tests.{no-way, and-both, or-right}
 use Rattle.orders.proofs.Lists.{All, all-map, all-take, every-true, front-length, join-front, last-of-front}
 use Rattle.orders.proofs.Sorted.{Rising, rising-take, rising-test, IsOf, listed-are, listed-rising, listed-grown, rest-start, rest-next}
 use Rattle.orders.proofs.Page.{last-all, last-more}
@@ -48,11 +48,11 @@ kept-fresh t q ok =
     record {
       query = ok;
       unstarted = λ p. refl;
-      ours = λ p. absurd (never (sym p));
+      ours = λ p. absurd (no-way (sym p));
       held = omega arith;
       front = refl;
-      whole = λ p. absurd (never (sym p));
-      going = λ p. absurd (never (sym p));
+      whole = λ p. absurd (no-way (sym p));
+      going = λ p. absurd (no-way (sym p));
     }
 
 -- a table that only grew
@@ -160,7 +160,7 @@ kept-joined t L y k v c f =
     let lo = longer t L (y .snapshot) (v .size) (continues t L (y .snapshot) k c (f .snapshot)) (v .one) in
     record {
       query = k .query;
-      unstarted = λ z. absurd (never z);
+      unstarted = λ z. absurd (no-way z);
       ours = λ z. rw (f .query) (v .ours);
       held = v .held;
       front = front-length _ (length (L .items) + v .size) _ (rw pg (lo .items));

@@ -10,11 +10,9 @@ use lib.Seq.{take-all}
 use native.Mathlib.Omega.{arith}
 use native.Mathlib.Nat.{le-refl, eq-or-lt-of-le}
 use borrow.Author.Tests.{ltb-true, ltb-false, eqb-true, eqb-false}
+use Rattle.paper.proofs.Tests.{no-way}
 use Rattle.keep.specs.Page.{ahead, sooner, insert, sortedOf, firstSorted}
 use Rattle.keep.specs.Kept.{key, Rising, none, more, Covered, full, there, past, Kept}
-
-pub no-way : true ≡ false → ⊥
-no-way z = let y : _≡_ {A = ℕ} 0 1 = cc in omega arith
 
 -- the order as a key
 pub sooner-true : (rank : ℕ → ℕ) (j k : ℕ) → j < 2 ^ 64 → k < 2 ^ 64 → sooner rank j k ≡ true → key rank j < key rank k

@@ -14,7 +14,8 @@ use Rattle.paper.specs.declared.orders.Order.{Order}
 use Rattle.paper.specs.Orders.{rank, before}
 use Rattle.keep.specs.Page.{ranks, ahead, sooner, insert, items, filled}
 use Rattle.keep.specs.Kept.{key, Rising, none, more, Holding, Roomy, PlaceIs, shifted, written, heldAt, KeepIs}
-use Rattle.keep.proofs.Keeping.{no-way, sooner-true, key-sooner, rising-at, rising-few, rising-take, insert-rising}
+use Rattle.paper.proofs.Tests.{no-way}
+use Rattle.keep.proofs.Keeping.{sooner-true, key-sooner, rising-at, rising-few, rising-take, insert-rising}
 use Rattle.keep.proofs.Moving.{moved-in}
 
 -- the loop of `place`

@@ -12,7 +12,8 @@ use Rattle.paper.specs.declared.orders.Order.{Order}
 use Rattle.paper.specs.Orders.{rank}
 use Rattle.keep.specs.Page.{ranks}
 use Rattle.keep.specs.Kept.{Covered, Holding, Walked, KeepIs}
-use Rattle.keep.proofs.Keeping.{no-way, still, one, then, fewer, rising-few, rising-past, rising-last, rising-at}
+use Rattle.paper.proofs.Tests.{no-way}
+use Rattle.keep.proofs.Keeping.{still, one, then, fewer, rising-few, rising-past, rising-last, rising-at}
 use Rattle.keep.proofs.Placing.{item-at}
 
 module _ (order : Order) (ref dist : ℕ → ℕ) (ok : ℕ → Bool) (n size : ℕ) where

@@ -23,14 +23,15 @@ use Rattle.paper.specs.Tree.{Store, claimsIn, fits, sound}
 use Rattle.paper.specs.Ends.{sizeHolds}
 use Rattle.paper.specs.Calls.{tableQuery, PageOf, pageTold, counted, pageCall, pageRoom}
 use Rattle.paper.proofs.Tests.{and-first, and-second}
+use Rattle.tree.proofs.Places.{before-next}
 use Rattle.walk.specs.Asking.{Markable}
-use Rattle.tablet.proofs.TakeLaws.{must-stop, must-go}
+use Rattle.paper.proofs.Outcomes.{must-stop, must-go, number-0}
 use Rattle.nearby.specs.Checks.{tableRefusal, PagePromise}
-use Rattle.nearby.proofs.CallLaws.{page-7, page-8, page-0, page-markable, number-0}
+use Rattle.nearby.proofs.CallLaws.{page-7, page-8, page-0, page-markable}
 use Rattle.many.specs.Rows.{row, each}
-use Rattle.many.specs.Counts.{onMany, manyRefusal}
-use Rattle.many.specs.Pages.{placeAt, pageAt, pageRow, putPage, putItems, Rooms, bothRooms, onPages, pagesRefusal, pagesEach, Pages, Askable, OnePage, AllPages}
-use Rattle.many.proofs.Ways.{part-point, part-length, row-in, many-refused, many-goes}
+use Rattle.many.specs.Counts.{manyRefusal}
+use Rattle.many.specs.Pages.{placeAt, pageAt, pageRow, putPage, putItems, Rooms, bothRooms, pagesRefusal, pagesEach, Pages, Askable, OnePage, AllPages}
+use Rattle.many.proofs.Ways.{part-point, part-length, many-refused, many-goes}
 
 -- ---- rows
 
@@ -192,11 +193,11 @@ one-page s probes n places size outcomes items i told rest m h te re =
     let e : s .table .d * n ≡ n * s .table .d = mul-comm (s .table .d) n in
     record {
       tested = m .tested;
-      aimed = omega (arith, row-in (s .table .d) i n h, m .aimed);
+      aimed = omega (arith, before-next (s .table .d) i n h, m .aimed);
       place = omega (arith, m .places);
       size = m .size;
       outcome = omega (arith, m .outcomes);
-      items = omega (arith, row-in (size * 3) i n h, m .items);
+      items = omega (arith, before-next (size * 3) i n h, m .items);
     }
 
 -- ---- the whole call
@@ -258,11 +259,14 @@ module _ (s : Store) (probes : List ℤ) (reaches places : List ℕ) (size : ℕ
               ∙ must-go (leb (n * (size * 3)) (length (before .items))) 12 (gives done) (q₁₂ .0),
         )
 
+    pub pages-gives : pagesEach s probes reaches places size before ≡ gives done
+    pages-gives = passed .1
+
     pub pages-all : AllPages s (length probes) n (length places) size (length (before .outcomes)) (length (before .items))
     pages-all = passed .0
 
     pub pages-done : (told rest : List ℕ) → told ≡ done .outcomes → rest ≡ done .items
         → Pages (pagesEach s probes reaches places size before) before 0 (bothRooms told rest)
     pages-done told rest te re =
-        let e = passed .1 in
+        let e = pages-gives in
         record { refusal = rw e; rooms = rw e (ap (λ (x : List ℕ). bothRooms x rest) te ∙ ap (bothRooms (done .outcomes)) re) }

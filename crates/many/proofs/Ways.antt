@@ -3,26 +3,27 @@ use Prim.Native.Nat.{ℕ, suc, _+_, _-_, _*_, _/_, _<_, _≤_}
 use mathlib.Core.Path.{_≡_, refl, sym, ap, _∙_}
 use mathlib.Core.Bool.{Bool, true, false, not}
 use mathlib.Core.List.{List, [], _∷_}
-use native.Mathlib.Nat.{div-lt-iff-lt-mul, le-div-iff-mul-le, mul-le-mul-right, suc-mul, mul-comm}
+use native.Mathlib.Nat.{div-lt-iff-lt-mul, le-div-iff-mul-le, mul-comm}
 use native.Mathlib.Omega.{arith}
 use lib.Dec.{leb, eqb}
 use lib.IntN.{ℤ}
 use lib.ListN.{length, set, take, drop, length-drop}
-use lib.Seq.{sets, length-sets, length-take-le}
-use borrow.Author.Tests.{le-leb, lt-leb, leb-true, eqb-true, eq-eqb, ne-eqb, not-true, not-false}
+use lib.Seq.{sets, length-take-le}
+use borrow.Author.Tests.{le-leb, lt-leb, leb-true, eqb-true, not-true, not-false}
 use Rattle.paper.specs.Points.{point}
 use Rattle.paper.specs.declared.orders.Found as answers
 use Rattle.paper.specs.Orders.{Found, told}
 use Rattle.paper.specs.Outcomes.{Outcome, refused, gives, must, number}
 use Rattle.paper.specs.Tree.{Store, fits, sound}
-use Rattle.tree.specs.Soundness.{Good}
+use Rattle.tree.proofs.Places.{before-next}
 use Rattle.walk.specs.Asking.{Answerable}
-use Rattle.tablet.proofs.TakeLaws.{must-stop, must-go}
+use Rattle.walk.proofs.Answers.{good-answerable}
+use Rattle.paper.proofs.Outcomes.{must-stop, must-go}
 use Rattle.nearby.specs.Checks.{tableRefusal}
-use Rattle.nearby.proofs.CallLaws.{table-refused, table-good, table-goes, good-answerable}
+use Rattle.nearby.proofs.CallLaws.{table-refused, table-good, table-goes}
 use Rattle.many.specs.Rows.{each, foundRow, putFound}
 use Rattle.many.specs.Counts.{onMany, manyRefusal}
-use Rattle.many.specs.Many.{firstsCall, left, Answers, Many, One}
+use Rattle.many.specs.Many.{firstsCall, Answers, Many, One}
 
 -- ---- rows
 
@@ -106,17 +107,13 @@ going-done f n i before now g h =
     let e : i ≡ n = omega (arith, g .low) in
     g .same ∙ ap (λ (k : ℕ). each f k before) e
 
--- a row of those that are asked for
-pub row-in : (w i n : ℕ) → i < n → i * w + w ≤ n * w
-row-in w i n h = let e : suc i * w ≤ n * w = mul-le-mul-right w h in rw (suc-mul i w) at e
-
 pub one-of : (s : Store) (probes n i w out : ℕ) → Many s probes n w out → i < n → One s probes i w out
 one-of s probes n i w out m h =
     let e : s .table .d * n ≡ n * s .table .d = mul-comm (s .table .d) n in
     record {
       tested = m .tested;
-      aimed = omega (arith, row-in (s .table .d) i n h, m .aimed);
-      room = omega (arith, row-in w i n h, m .room);
+      aimed = omega (arith, before-next (s .table .d) i n h, m .aimed);
+      room = omega (arith, before-next w i n h, m .room);
     }
 
 -- ---- n questions for an item each: 1, 2, 5, 12

@@ -13,7 +13,7 @@ use Rattle.paper.specs.Tree.{Store, claimsIn}
 use Rattle.paper.specs.Calls.{tableQuery}
 use Rattle.nearby.specs.Checks.{tableRefusal}
 use Rattle.many.specs.Counts.{onMany}
-use Rattle.many.specs.Rows.{each, putFound}
+use Rattle.many.specs.Rows.{each, foundRow, putFound}
 
 -- the probe of question i: probes stand one after another
 abbrev pub probeAt : Store → List ℤ → ℕ → List ℤ
@@ -44,6 +44,14 @@ left (gives after) before = after
 pub record Answers (o : Outcome (List ℕ)) (before : List ℕ) (r : ℕ) (after : List ℕ) : Type 0 where
   pub refusal : r ≡ number o
   pub room : after ≡ left o before
+
+-- a row beside the single call for its question: the call gives an answer, and the row tells it
+pub record AsAlone (single : Outcome Found) (r : List ℕ) : Type 0 where
+  pub answer : Found
+  pub given : single ≡ gives answer
+  pub told : r ≡ foundRow answer
+
+-- ---- what the layers below ask
 
 -- a tested table, n questions, and room for n rows of w numbers
 pub record Many (s : Store) (probes n w out : ℕ) : Type 0 where

@@ -80,6 +80,11 @@ pub record Pages (o : Outcome Rooms) (before : Rooms) (r : ℕ) (after : Rooms) 
   pub refusal : r ≡ number o
   pub rooms : after ≡ leftRooms o before
 
+-- a row beside the single call for its question, in a room for one page: what it tells, and the row of items before and after
+pub record PageAlone (single : Outcome PageOf) (told before after : List ℕ) : Type 0 where
+  pub outcome : told ≡ pageRow (counted single)
+  pub items : after ≡ pageRoom single before
+
 -- ---- what the layers below ask
 
 -- a page may be asked for, but for its place

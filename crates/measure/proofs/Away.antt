@@ -1,14 +1,14 @@
 -- |x - y| of two integers as a number, by their signs, and what a subtraction at 64 bits of two 32-bit numbers is. Assumes nothing.
 use mathlib.Core.Path.{_≡_, refl, sym, ap, subst, _∙_}
 use mathlib.Core.Bool.{Bool, true, false, cond}
-use Prim.Native.Nat.{ℕ, zero, suc, _+_, _-_, _*_, _^_, _≤_, _<_}
+use Prim.Native.Nat.{ℕ, zero, suc, _+_, _-_, _≤_, _<_}
 use native.Mathlib.Omega.{arith}
-use lib.Dec.{T, leb, ltb}
-use lib.IntN.{ℤ, pos, negsuc, subℕ, negℤ, _-ℤ_, natAbs}
+use lib.Dec.{T, ltb}
+use lib.IntN.{ℤ, pos, negsuc, subℕ, _-ℤ_, natAbs}
 use lib.Signed.{mag, nonNeg, ltZ}
-use borrow.Author.Tests.{ltb-true, ltb-false, le-ltb}
-use mir.Syntax.{Width, w32, w64}
-use mir.Val.{hbits, Fits, SFits, toZ, ofZ}
+use borrow.Author.Tests.{ltb-true, ltb-false}
+use mir.Syntax.{w32, w64}
+use mir.Val.{Fits, SFits, toZ, ofZ}
 use mir.Facts.{sfits-widen, toZ-ofZ, fits-natAbs}
 
 abbrev pub away : ℤ → ℤ → ℕ

@@ -2,7 +2,7 @@
 -- That equal points are at distance zero is no law here: nothing above may lean on it. Assumes nothing.
 use mathlib.Core.Path.{_≡_, refl, sym, ap, _∙_}
 use mathlib.Core.List.{List}
-use Prim.Native.Nat.{ℕ, zero, suc, _+_, _*_, _≤_, _<_, min, max}
+use Prim.Native.Nat.{ℕ, zero, suc, _+_, _≤_, min}
 use native.Mathlib.Omega.{arith}
 use lib.ListN.{getD}
 use lib.IntN.{ℤ, pos, _-ℤ_, natAbs}
@@ -11,7 +11,7 @@ use mir.Val.{SFits}
 use Rattle.paper.specs.Points.{weigh, joined, distance, greatestOf}
 use Rattle.paper.specs.declared.points.Measure.{Measure}
 use Rattle.paper.specs.declared.points.Measure.the-variants.{CityBlock, Maximum, Hamming}
-use Rattle.measure.proofs.Away.{away, abs-away, away-sym, away-triangle, away-bound}
+use Rattle.measure.proofs.Away.{abs-away, away-sym, away-triangle, away-bound}
 
 abs-sym : (x y : ℤ) → natAbs (x -ℤ y) ≡ natAbs (y -ℤ x)
 abs-sym x y = abs-away x y ∙ away-sym x y ∙ sym (abs-away y x)

@@ -1,5 +1,5 @@
 -- One law for each way through a public call on a table. Assumes nothing.
-use Prim.Native.Nat.{ℕ, zero, suc, _+_, _*_, _/_, _<_, _≤_}
+use Prim.Native.Nat.{ℕ, _*_, _/_, _<_, _≤_}
 use mathlib.Core.Path.{_≡_, refl, sym, ap, _∙_}
 use mathlib.Core.Bool.{Bool, true, false, not, cond, _&&_}
 use mathlib.Core.List.{List}
@@ -10,7 +10,6 @@ use lib.ListN.{length}
 use borrow.Author.Tests.{le-leb, lt-leb, leb-true, eqb-true, eq-eqb, ne-eqb, not-true, not-false}
 use Rattle.paper.specs.declared.lines.Wrote.{Wrote}
 use Rattle.paper.specs.declared.lines.Wrote.the-variants.{Refused}
-use Rattle.paper.specs.declared.orders.Order.{Order}
 use Rattle.paper.specs.declared.orders.Order.the-variants.{Near}
 use Rattle.paper.specs.declared.orders.Found as answers
 use Rattle.paper.specs.declared.orders.Nearest as Answers
@@ -19,19 +18,22 @@ use Rattle.paper.specs.declared.orders.Paged.{Paged}
 use Rattle.paper.specs.declared.orders.Place.{Place}
 use Rattle.paper.specs.Orders.{Found, told, snapshotOf, snapshotHolds, markHolds}
 use Rattle.paper.specs.Outcomes.{Outcome, refused, gives, must, number}
-use Rattle.paper.specs.Tree.{Store, store, claimsIn, claimsFrom, fits, sound}
+use Rattle.paper.specs.Tree.{Store, claimsIn, fits, sound}
 use Rattle.paper.specs.Ends.{sizeHolds, tableOf, served, soundIn, asking, taking}
 use Rattle.paper.specs.Lists.{Held, listing, roomFor, unusedZero, soundHeld, askingHeld, takingHeld}
-use Rattle.paper.specs.Codec.{lines, wroteOf, roomAfter}
+use Rattle.paper.specs.Codec.{lines}
 use Rattle.paper.specs.Calls.{tableQuery, onTable, aimed, nearestTold, PageOf, thePage, pageCall, pageTold, counted, pageRoom, officeCall}
 use Rattle.paper.proofs.Tests.{and-first, and-second}
 use Rattle.tree.specs.Soundness.{Good, Lent}
-use Rattle.tree.proofs.Known.{fits-fit, sound-good, good-tree, lent-located}
-use Rattle.walk.proofs.Bridge.{claims-length}
-use Rattle.walk.specs.Asking.{Measurable, Answerable, Pageable, Markable, PageIs}
+use Rattle.tree.proofs.Known.{fits-fit, sound-good}
+use Rattle.tree.proofs.Places.{claims-length}
+use Rattle.walk.specs.Asking.{Answerable, Pageable, Markable, PageIs}
+use Rattle.walk.proofs.Answers.{good-measurable, good-answerable}
 use Rattle.desk.specs.Desk.{Says, Open}
+use Rattle.desk.proofs.Ways.{says-refused}
 use Rattle.tablet.specs.Holding.{TakenIs}
-use Rattle.tablet.proofs.TakeLaws.{must-stop, must-go, refuse-is}
+use Rattle.paper.proofs.Outcomes.{must-stop, must-go, number-0}
+use Rattle.tablet.proofs.TakeLaws.{refuse-is}
 use Rattle.nearby.specs.Checks.{tableRefusal, PagePromise}
 
 -- ---- 1 and 2
@@ -79,16 +81,6 @@ module _ (s : Store) (n : ℕ) (we : n ≡ tableRefusal s) where
 
     pub table-goes : {A : Type 0} (x : Outcome A) → onTable s x ≡ x
     table-goes x = must-go (fits s) 1 _ (both .0) ∙ must-go (sound s) 2 _ (both .1)
-
--- ---- a sound table can be asked
-
-module _ (s : Store) (g : Good s) (probe : List ℤ) (h : length probe ≡ s .table .d) where
-  pub good-measurable : Measurable (s .table) (s .coordinates) probe
-  good-measurable =
-      record { located = lent-located (s .table) (s .coordinates) (length (s .rooms)) (s .table .count) (g .fit .lent) (g .count); aimed = omega arith }
-
-  pub good-answerable : Answerable (s .table) (s .references) (s .coordinates) (s .rooms) probe
-  good-answerable = record { tree = good-tree s g; measurable = good-measurable; named = omega (arith, g .count, g .fit .references) }
 
 -- ---- nearest and farthest: 1, 2, 5
 
@@ -174,10 +166,6 @@ module _ (s : Store) (probe : List ℤ) (reach : ℕ) (place : Place) (size room
               page-0 h = sym (ap number (past-8 ∙ must-go (leb (size * 3) room) 12 _ (le-leb (size * 3) room (omega arith))))
 
 -- a call whose number is 0 gives its page, and everything was in range
-pub number-0 : {A : Type 0} (b : Bool) (k : ℕ) (x : Outcome A) → number (must b (suc k) x) ≡ 0 → (b ≡ true) × (number x ≡ 0)
-number-0 true k x h = (refl, h)
-number-0 false k x h = absurd (omega arith)
-
 pub number-is : {A : Type 0} (x : Outcome A) (n : ℕ) → n ≡ number x → (n ≡ 0 → ⊥) → x ≡ refused n
 number-is (refused m) n e h = ap refused (sym e)
 number-is (gives a) n e h = absurd (h e)
@@ -228,10 +216,6 @@ module _ (s : Store) (probe : List ℤ) (reach : ℕ) (place : Place) (size : �
     page-filled p after w = record { answer = rw (parts .7, w .count, w .last); room = rw (parts .7) (w .room) }
 
 -- ---- calls that write a line
-
-says-refused : (x : Outcome (List ℕ)) (n : ℕ) (out : List ℕ) → x ≡ refused n → Says x out (Refused n) out
-unfolding wroteOf roomAfter
-says-refused x n out e = record { answer = rw e; room = rw e }
 
 -- the office: 12, 1, 2
 module _ (s : Store) (out line : List ℕ) where

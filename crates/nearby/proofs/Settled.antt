@@ -15,12 +15,12 @@ use Rattle.paper.specs.declared.orders.Found as answers
 use Rattle.paper.specs.declared.orders.Nearest as Answers
 use Rattle.paper.specs.declared.orders.Page as Pages
 use Rattle.paper.specs.Orders.{Item, Found, told}
-use Rattle.paper.specs.Outcomes.{Outcome, refused, gives}
+use Rattle.paper.specs.Outcomes.{Outcome, refused}
 use Rattle.paper.specs.Frames.{lineOf, written}
 use Rattle.paper.specs.Lines.{Writes, wrote, room}
 use Rattle.paper.specs.Ends.{Listing}
 use Rattle.paper.specs.Lists.{Held, held, put}
-use Rattle.paper.specs.Codec.{wroteOf, roomAfter}
+use Rattle.paper.specs.Codec.{roomAfter}
 use Rattle.paper.specs.Calls.{nearestTold, PageOf, Counted, pageTold, counted, pageRoom}
 use Rattle.desk.specs.Desk.{Says}
 use Rattle.tablet.specs.Holding.{TakenIs}

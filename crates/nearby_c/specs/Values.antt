@@ -1,6 +1,6 @@
 -- Cases as numbers, for C: the refusal's number, 0 where nothing is refused, beside the values, 0 where there are none. Definitions only.
 use Prim.Native.Nat.{ℕ}
-use mathlib.Core.Bool.{Bool, true, false, cond, not}
+use mathlib.Core.Bool.{Bool, cond, not}
 use mathlib.Core.List.{List}
 use mathlib.Core.Path.{_≡_}
 use lib.Dec.{eqb}

@@ -1,5 +1,4 @@
 -- Laws of the orders, of pages, and of lists that take them.
-pub mod Tests
 pub mod Lists
 pub mod Sorted
 pub mod Page

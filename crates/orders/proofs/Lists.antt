@@ -8,7 +8,7 @@ use lib.ListN.{length, take, drop, getD, set, length-take}
 use lib.Seq.{take-add, getD-take}
 use Rattle.paper.specs.Orders.{Item, noItem}
 use Rattle.paper.specs.Ends.{every, lastItem}
-use Rattle.orders.proofs.Tests.{and-left, and-right, and-both}
+use Rattle.paper.proofs.Tests.{and-first, and-second, and-both}
 
 abbrev pub All : {A : Type 0} → (A → Type 0) → List A → Type 0
 All P [] = Unit {0}
@@ -59,9 +59,9 @@ module _ {A : Type 0} where
   pub every-all : (p : A → Bool) (l : List A) → every p l ≡ true → All (λ x. p x ≡ true) l
   unfolding every
   every-all p [] e = tt
-  every-all p (x ∷ l) e = (and-left _ _ e, every-all p l (and-right (p x) _ e))
+  every-all p (x ∷ l) e = (and-first _ _ e, every-all p l (and-second (p x) _ e))
 
-  take-again : (n : ℕ) (l : List A) → take (length (take n l)) l ≡ take n l
+  pub take-again : (n : ℕ) (l : List A) → take (length (take n l)) l ≡ take n l
   take-again zero l = refl
   take-again (suc n) [] = refl
   take-again (suc n) (x ∷ l) = ap (λ (y : List A). x ∷ y) (take-again n l)

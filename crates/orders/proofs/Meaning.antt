@@ -1,19 +1,20 @@
 -- What is listed is just the claims below the snapshot and within reach, each once, in order. Assumes nothing.
 use Prim.Native.Nat.{ℕ, zero, suc, _<_, _≤_}
-use mathlib.Core.Path.{_≡_, refl, sym, _∙_, subst, subst⁻¹}
+use mathlib.Core.Path.{_≡_, refl, sym, ap, _∙_, subst, subst⁻¹}
 use mathlib.Core.Logic.{_⊎_, inl, inr, ⊎-elim}
 use mathlib.Core.Bool.{Bool, true, false, cond}
 use mathlib.Core.List.{List, [], _∷_, List·Memᴰ, List·Memᴰ·head, List·Memᴰ·tail, List·Memᴰ·cases-cons, List·Memᴰ·not-nil}
 use native.Mathlib.Omega.{arith}
 use native.Mathlib.Nat.{eq-or-lt-of-le}
 use lib.Dec.{leb}
+use lib.ListN.{length, getD}
 use borrow.Author.Tests.{le-leb}
 use Rattle.paper.specs.declared.orders.Order.{Order}
 use Rattle.paper.specs.Points.{Claim}
 use Rattle.paper.specs.Orders.{Item, Query, earlier, insert, itemOf, listed}
-use Rattle.orders.proofs.Tests.{never}
-use Rattle.orders.proofs.Lists.{all-mem}
-use Rattle.orders.proofs.Sorted.{Rising, before-same, before-not, IsOf, listed-are, listed-rising}
+use Rattle.paper.proofs.Tests.{no-way}
+use Rattle.orders.proofs.Lists.{all-mem, all-getD}
+use Rattle.orders.proofs.Sorted.{Rising, rising-at, before-same, before-not, IsOf, listed-are, listed-rising}
 
 -- next to listed-are and listed-rising: no claim is missing
 insert-has : (o : Order) (x : Item) (l : List Item) → List·Memᴰ x (insert o x l)
@@ -53,7 +54,7 @@ listed-has q cs (suc s) k p r =
 
 -- an item that rises is not before itself
 not-self : (o : Order) (x z : Item) → earlier o x z ≡ true → z ≡ x → ⊥
-not-self o x z p e = never (sym (rw e at p) ∙ before-same o (x .distance) (x .number))
+not-self o x z p e = no-way (sym (rw e at p) ∙ before-same o (x .distance) (x .number))
 
 -- two rising lists with the same items are the same
 sorted-same : (o : Order) (a b : List Item) → Rising o a → Rising o b → ((z : Item) → List·Memᴰ z a → List·Memᴰ z b)
@@ -65,7 +66,7 @@ sorted-same o (x ∷ a) (y ∷ b) p q f g =
     let e : x ≡ y =
     ⊎-elim (λ s. s)
     (λ m. ⊎-elim (λ s. sym s)
-    (λ n. absurd (never (sym (all-mem _ y a (p .0) n) ∙ before-not o _ _ _ _ (all-mem _ x b (q .0) m))))
+    (λ n. absurd (no-way (sym (all-mem _ y a (p .0) n) ∙ before-not o _ _ _ _ (all-mem _ x b (q .0) m))))
     (List·Memᴰ·cases-cons (g y (List·Memᴰ·head refl))))
     (List·Memᴰ·cases-cons (f x (List·Memᴰ·head refl))) in
     let t : a ≡ b =
@@ -83,3 +84,13 @@ listed-only q cs s l rises are has =
     subst⁻¹ (λ (x : Item). List·Memᴰ x (listed q cs s)) (p .is) (listed-has q cs s (z .number) (p .below) (subst (λ (x : Item). x .distance ≤ q .reach) (p .is) (p .within))))
     (λ z m. let p = all-mem _ z (listed q cs s) (listed-are q cs s) m in
     subst⁻¹ (λ (x : Item). List·Memᴰ x l) (p .is) (has (z .number) (p .below) (subst (λ (x : Item). x .distance ≤ q .reach) (p .is) (p .within))))
+
+module _ (q : Query) (cs : List Claim) where
+  -- each claim is listed once: no two items have one number
+  pub listed-once : (s i j : ℕ) (z : Item) → i < j → j < length (listed q cs s) → getD (listed q cs s) i z .number ≡ getD (listed q cs s) j z .number → ⊥
+  listed-once s i j z p r e =
+      let a = all-getD (IsOf q cs s) (listed q cs s) i z (listed-are q cs s) (omega arith) in
+      let b = all-getD (IsOf q cs s) (listed q cs s) j z (listed-are q cs s) r in
+      let same : getD (listed q cs s) i z ≡ getD (listed q cs s) j z = a .is ∙ ap (itemOf q cs) e ∙ sym (b .is) in
+      let x = rising-at (q .order) (listed q cs s) i j z (listed-rising q cs s) p r in
+      no-way (sym (rw same at x) ∙ before-same (q .order) _ _)

@@ -13,7 +13,8 @@ use Rattle.paper.specs.Outcomes.{gives}
 use Rattle.paper.specs.Ends.{Codec, Listing, fresh, every, sameZ, soundIn, taking}
 use Rattle.paper.specs.Lists.{Held, held, itemsIn, roomFor, queryOf, listing, unusedZero, soundHeld, openedAs, takingHeld, put}
 use Rattle.orders.specs.Laws.{Lawful}
-use Rattle.orders.proofs.Tests.{and-both, must-test, must-rest, through}
+use Rattle.paper.proofs.Tests.{and-both}
+use Rattle.paper.proofs.Outcomes.{must-test, must-rest, through}
 use Rattle.orders.proofs.Taking.{took, took-query}
 use Rattle.orders.proofs.Sound.{soundness, stays-sound}
 

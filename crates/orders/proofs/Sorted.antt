@@ -14,7 +14,7 @@ use Rattle.paper.specs.declared.orders.Place.the-variants.{Start, After}
 use Rattle.paper.specs.Points.{Claim, noClaim}
 use Rattle.paper.specs.Orders.{Item, Query, rank, before, earlier, insert, itemOf, listed, follows, rest}
 use Rattle.paper.specs.Ends.{markOf, rising}
-use Rattle.orders.proofs.Tests.{never, and-both}
+use Rattle.paper.proofs.Tests.{no-way, and-both}
 use Rattle.orders.proofs.Lists.{All, all-map, all-take, all-getD}
 
 -- rank a and number k stand before rank b and number j
@@ -27,8 +27,8 @@ first-cases a k b j p = go (ltb a b) (eqb a b) (ltb k j) refl refl refl p
     go : (x y z : Bool) → ltb a b ≡ x → eqb a b ≡ y → ltb k j ≡ z → (x || (y && z)) ≡ true → (a < b) ⊎ ((a ≡ b) × (k < j))
     go true y z e f g q = inl (ltb-true a b e)
     go false true true e f g q = inr (eqb-true a b f, ltb-true k j g)
-    go false true false e f g q = absurd (never (sym q))
-    go false false z e f g q = absurd (never (sym q))
+    go false true false e f g q = absurd (no-way (sym q))
+    go false false z e f g q = absurd (no-way (sym q))
 
 by-rank : (a k b j : ℕ) → a < b → first a k b j ≡ true
 by-rank a k b j p = rw (lt-ltb a b p)
@@ -57,8 +57,8 @@ first-total : (a k b j : ℕ) → first a k b j ≡ false → (k ≡ j → ⊥) 
 first-total a k b j p n = go (ltb a b) (eqb a b) (ltb k j) refl refl refl p
   where
     go : (x y z : Bool) → ltb a b ≡ x → eqb a b ≡ y → ltb k j ≡ z → (x || (y && z)) ≡ false → first b j a k ≡ true
-    go true y z e f g q = absurd (never q)
-    go false true true e f g q = absurd (never q)
+    go true y z e f g q = absurd (no-way q)
+    go false true true e f g q = absurd (no-way q)
     go false true false e f g q = by-number b j a k (sym (eqb-true a b f)) (omega (arith, ltb-false k j g))
     go false false z e f g q = by-rank b j a k (omega (arith, ltb-false a b e, eqb-false a b f))
 
@@ -76,7 +76,7 @@ module _ (o : Order) where
   before-not d k e j p = go (before o e j d k) refl
     where
       go : (x : Bool) → before o e j d k ≡ x → x ≡ false
-      go true q = absurd (never (sym (before-trans d k e j d k p q) ∙ before-same d k))
+      go true q = absurd (no-way (sym (before-trans d k e j d k p q) ∙ before-same d k))
       go false q = refl
 
   pub before-total : (d k e j : ℕ) → before o d k e j ≡ false → (k ≡ j → ⊥) → before o e j d k ≡ true
@@ -93,6 +93,13 @@ module _ (o : Order) where
   rising-take zero l h = tt
   rising-take (suc n) [] h = tt
   rising-take (suc n) (x ∷ l) h = (all-take _ n l (h .0), rising-take n l (h .1))
+
+  -- an earlier place holds an earlier item
+  pub rising-at : (l : List Item) (i j : ℕ) (z : Item) → Rising o l → i < j → j < length l → earlier o (getD l i z) (getD l j z) ≡ true
+  rising-at [] i j z h p q = absurd (omega arith)
+  rising-at (a ∷ l) i zero z h p q = absurd (omega arith)
+  rising-at (a ∷ l) zero (suc j) z h p q = all-getD (λ b. earlier o a b ≡ true) l j z (h .0) (omega arith)
+  rising-at (a ∷ l) (suc i) (suc j) z h p q = rising-at l i j z (h .1) (omega arith) (omega arith)
 
   -- the test passes
   pub rising-test : (l : List Item) → Rising o l → rising o l ≡ true
@@ -178,6 +185,28 @@ module _ (o : Order) where
   rest-next n (x ∷ l) (suc j) z h p =
       let i : j < length l = omega arith in
       rw (before-not o _ _ _ _ (all-getD (λ y. earlier o x y ≡ true) l j z (h .0) i)) (rest-next n l j z (h .1) i)
+
+  pub follows-later : (p : Place) (a b : Item) → follows o p a ≡ true → earlier o a b ≡ true → follows o p b ≡ true
+  unfolding follows
+  follows-later Start a b p q = refl
+  follows-later (After n m) a b p q = before-trans o _ _ _ _ _ _ p q
+
+  -- the rest of a list with one item more
+  pub rest-insert : (p : Place) (a : Item) (l : List Item) → rest o p (insert o a l) ≡ cond (follows o p a) (insert o a (rest o p l)) (rest o p l)
+  unfolding rest insert
+  rest-insert p a [] = refl
+  rest-insert p a (b ∷ l) = go (earlier o a b) (follows o p a) (follows o p b) refl refl refl (rest-insert p a l)
+    where
+      go : (e f g : Bool) → earlier o a b ≡ e → follows o p a ≡ f → follows o p b ≡ g
+          → rest o p (insert o a l) ≡ cond (follows o p a) (insert o a (rest o p l)) (rest o p l)
+          → rest o p (cond e (a ∷ b ∷ l) (b ∷ insert o a l)) ≡ cond f (insert o a (cond g (b ∷ rest o p l) (rest o p l))) (cond g (b ∷ rest o p l) (rest o p l))
+      go true true true x y z ih = rw (y, z, x)
+      go true true false x y z ih = absurd (no-way (sym (follows-later p a b y x) ∙ z))
+      go true false g x y z ih = rw (y, z)
+      go false true true x y z ih = rw (z, ih, y, x)
+      go false true false x y z ih = rw (z, ih, y)
+      go false false true x y z ih = rw (z, ih, y)
+      go false false false x y z ih = rw (z, ih, y)
 
   pub rest-follows : (p : Place) (l : List Item) → All (λ x. follows o p x ≡ true) (rest o p l)
   unfolding rest

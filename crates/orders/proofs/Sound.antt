@@ -13,7 +13,8 @@ use Rattle.paper.specs.Orders.{Item, follows, earlier}
 use Rattle.paper.specs.Tree.{inRange}
 use Rattle.paper.specs.Outcomes.{gives}
 use Rattle.paper.specs.Ends.{Answer, Codec, Listing, lastItem, markOf, leads, rising, every, fitting, startedWell, soundIn, pageHolds, joinedTo, taking}
-use Rattle.orders.proofs.Tests.{and-left, and-right, and-both, or-left, or-right, must-test, must-rest, through}
+use Rattle.paper.proofs.Tests.{and-first, and-second, and-both, or-left, or-right}
+use Rattle.paper.proofs.Outcomes.{must-test, must-rest, through}
 use Rattle.orders.proofs.Lists.{All, all-append, every-all, every-true}
 use Rattle.orders.specs.Laws.{AnswerOk, Lawful}
 use Rattle.orders.proofs.Taking.{Took, took, Fits, fits-present, present-after}
@@ -30,7 +31,7 @@ rising-join : (o : Order) (x : Item) (a b : List Item) → rising o (x ∷ a) �
 unfolding rising
 rising-join o x [] b p q r = and-both _ _ r q
 rising-join o x (y ∷ a) b p q r =
-    and-both (earlier o x y) _ (and-left (earlier o x y) _ p) (rising-join o y a b (and-right (earlier o x y) _ p) q (rw (last-cons x y a) at r))
+    and-both (earlier o x y) _ (and-first (earlier o x y) _ p) (rising-join o y a b (and-second (earlier o x y) _ p) q (rw (last-cons x y a) at r))
 
 leads-first : (o : Order) (n : ℕ) (x : Item) (l : List Item) → All (λ y. follows o (After n (markOf x)) y ≡ true) l → leads o x l ≡ true
 unfolding follows
@@ -66,19 +67,19 @@ pub record Soundness (room : ℕ) (L : Listing) : Type 0 where
 pub soundness : (room : ℕ) (L : Listing) → soundIn room L ≡ true → Soundness room L
 unfolding soundIn
 soundness room L e =
-    let e1 = and-right (inRange (L .query .measure) (L .query .d)) _ e in
-    let e2 = and-right (eqb (length (L .query .probe)) (L .query .d)) _ e1 in
-    let e3 = and-right (leb (L .snapshot) 4096) _ e2 in
-    let e4 = and-right (leb (length (L .items)) room) _ e3 in
-    let e5 = and-right (rising (L .query .order) (L .items)) _ e4 in
+    let e1 = and-second (inRange (L .query .measure) (L .query .d)) _ e in
+    let e2 = and-second (eqb (length (L .query .probe)) (L .query .d)) _ e1 in
+    let e3 = and-second (leb (L .snapshot) 4096) _ e2 in
+    let e4 = and-second (leb (length (L .items)) room) _ e3 in
+    let e5 = and-second (rising (L .query .order) (L .items)) _ e4 in
     record {
-      range = and-left _ _ e;
-      long = eqb-true _ _ (and-left _ _ e1);
-      small = leb-true (L .snapshot) 4096 (and-left _ _ e2);
-      roomy = leb-true (length (L .items)) room (and-left _ _ e3);
-      rises = and-left (rising (L .query .order) (L .items)) _ e4;
-      fit = every-all _ (L .items) (and-left _ _ e5);
-      well = and-right (every (fitting (L .query .reach) (L .snapshot)) (L .items)) _ e5;
+      range = and-first _ _ e;
+      long = eqb-true _ _ (and-first _ _ e1);
+      small = leb-true (L .snapshot) 4096 (and-first _ _ e2);
+      roomy = leb-true (length (L .items)) room (and-first _ _ e3);
+      rises = and-first (rising (L .query .order) (L .items)) _ e4;
+      fit = every-all _ (L .items) (and-first _ _ e5);
+      well = and-second (every (fitting (L .query .reach) (L .snapshot)) (L .items)) _ e5;
     }
 
 pub sound-of : (room : ℕ) (L : Listing) → Soundness room L → soundIn room L ≡ true
@@ -97,13 +98,13 @@ record Passes (y : Answer) : Type 0 where
 passes : (y : Answer) → pageHolds y ≡ true → Passes y
 unfolding pageHolds
 passes y e =
-    let e1 = and-right (rising (y .query .order) (y .items)) _ e in
-    let e2 = and-right (every (follows (y .query .order) (y .place)) (y .items)) _ e1 in
+    let e1 = and-second (rising (y .query .order) (y .items)) _ e in
+    let e2 = and-second (every (follows (y .query .order) (y .place)) (y .items)) _ e1 in
     record {
-      rises = and-left (rising (y .query .order) (y .items)) _ e;
-      after = every-all _ (y .items) (and-left _ _ e1);
-      fit = every-all _ (y .items) (and-left _ _ e2);
-      some = and-right (every (fitting (y .query .reach) (y .snapshot)) (y .items)) _ e2;
+      rises = and-first (rising (y .query .order) (y .items)) _ e;
+      after = every-all _ (y .items) (and-first _ _ e1);
+      fit = every-all _ (y .items) (and-first _ _ e2);
+      some = and-second (every (fitting (y .query .reach) (y .snapshot)) (y .items)) _ e2;
     }
 
 none-nil : (l : List Item) → length l ≡ 0 → l ≡ []
@@ -114,7 +115,7 @@ unstarted-empty : (L : Listing) → startedWell L ≡ true → L .started ≡ fa
 unfolding startedWell
 unstarted-empty L w p =
     let e : (eqb (length (L .items)) 0 && (eqb (L .snapshot) 0 && not (L .complete))) ≡ true = rw p at w in
-    none-nil (L .items) (eqb-true _ _ (and-left _ _ e))
+    none-nil (L .items) (eqb-true _ _ (and-first _ _ e))
 
 -- what rises and fits, joined
 record Joins (L : Listing) (y : Answer) : Type 0 where

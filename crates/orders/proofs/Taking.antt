@@ -19,7 +19,8 @@ use Rattle.paper.specs.Orders.{Query, snapshotOf}
 use Rattle.paper.specs.Outcomes.{gives}
 use Rattle.paper.specs.Ends.{Answer, Listing, lastItem, markOf, presentPlace, sameZ, sameProbe, sameQuery, samePlace, toPresent, pageHolds, joinedTo, taken}
 use Rattle.orders.specs.Laws.{AnswerOk}
-use Rattle.orders.proofs.Tests.{never, and-left, and-right, and-both, must-test, must-rest, same-given}
+use Rattle.paper.proofs.Tests.{no-way, and-first, and-second, and-both}
+use Rattle.paper.proofs.Outcomes.{must-test, must-rest, same-given}
 
 -- where a list stands
 pub present-start : (L : Listing) → L .started ≡ false → presentPlace L ≡ Start
@@ -33,8 +34,8 @@ present-after L p = rw p
 -- the fields that 13 compares
 same-z : (x y : ℤ) → sameZ x y ≡ true → x ≡ y
 same-z (pos a) (pos b) p = ap pos (eqb-true a b p)
-same-z (pos a) (negsuc b) p = absurd (never (sym p))
-same-z (negsuc a) (pos b) p = absurd (never (sym p))
+same-z (pos a) (negsuc b) p = absurd (no-way (sym p))
+same-z (negsuc a) (pos b) p = absurd (no-way (sym p))
 same-z (negsuc a) (negsuc b) p = ap negsuc (eqb-true a b p)
 
 z-same : (x : ℤ) → sameZ x x ≡ true
@@ -46,8 +47,8 @@ unfolding sameProbe
 same-places zero p q e i h = absurd (omega arith)
 same-places (suc d) p q e i h =
     ⊎-elim
-    (λ s. rw s (same-z _ _ (and-right (sameProbe d p q) _ e)))
-    (λ s. same-places d p q (and-left (sameProbe d p q) _ e) i s)
+    (λ s. rw s (same-z _ _ (and-second (sameProbe d p q) _ e)))
+    (λ s. same-places d p q (and-first (sameProbe d p q) _ e) i s)
     (eq-or-lt-of-le (le-of-suc-le-suc h))
 
 probe-same : (d : ℕ) (p : List ℤ) → sameProbe d p p ≡ true
@@ -63,14 +64,14 @@ query-of o o' a a' b b' c c' e e' p p' q0 q1 q2 q3 q4 q5 =
 same-query : (q r : Query) → q .order ≡ r .order → length (q .probe) ≡ q .d → length (r .probe) ≡ r .d → sameQuery q r ≡ true → q ≡ r
 unfolding sameQuery
 same-query q r o lq lr e =
-    let e1 = and-right (eqb (q .table) (r .table)) _ e in
-    let e2 = and-right (eqb (q .measure) (r .measure)) _ e1 in
-    let e3 = and-right (eqb (q .d) (r .d)) _ e2 in
-    let d : q .d ≡ r .d = eqb-true _ _ (and-left _ _ e2) in
+    let e1 = and-second (eqb (q .table) (r .table)) _ e in
+    let e2 = and-second (eqb (q .measure) (r .measure)) _ e1 in
+    let e3 = and-second (eqb (q .d) (r .d)) _ e2 in
+    let d : q .d ≡ r .d = eqb-true _ _ (and-first _ _ e2) in
     let p : q .probe ≡ r .probe =
-    ext-getD (pos 0) (q .probe) (r .probe) (omega arith) (λ i h. same-places (q .d) (q .probe) (r .probe) (and-left _ _ e3) i (omega arith)) in
-    query-of _ _ _ _ _ _ _ _ _ _ _ _ o (eqb-true _ _ (and-left _ _ e)) (eqb-true _ _ (and-left _ _ e1)) d p
-    (eqb-true _ _ (and-right (sameProbe (q .d) (q .probe) (r .probe)) _ e3))
+    ext-getD (pos 0) (q .probe) (r .probe) (omega arith) (λ i h. same-places (q .d) (q .probe) (r .probe) (and-first _ _ e3) i (omega arith)) in
+    query-of _ _ _ _ _ _ _ _ _ _ _ _ o (eqb-true _ _ (and-first _ _ e)) (eqb-true _ _ (and-first _ _ e1)) d p
+    (eqb-true _ _ (and-second (sameProbe (q .d) (q .probe) (r .probe)) _ e3))
 
 pub query-same : (q : Query) → sameQuery q q ≡ true
 unfolding sameQuery
@@ -86,11 +87,11 @@ same-mark n k l m a b c = λ i. After (a i) (record { distance = b i; number = c
 same-place : (p q : Place) → samePlace p q ≡ true → p ≡ q
 unfolding samePlace
 same-place Start Start e = refl
-same-place Start (After k m) e = absurd (never (sym e))
-same-place (After n l) Start e = absurd (never (sym e))
+same-place Start (After k m) e = absurd (no-way (sym e))
+same-place (After n l) Start e = absurd (no-way (sym e))
 same-place (After n l) (After k m) e =
-    let e1 = and-right (eqb n k) _ e in
-    same-mark n k l m (eqb-true n k (and-left _ _ e)) (eqb-true _ _ (and-left _ _ e1)) (eqb-true _ _ (and-right (eqb (l .distance) (m .distance)) _ e1))
+    let e1 = and-second (eqb n k) _ e in
+    same-mark n k l m (eqb-true n k (and-first _ _ e)) (eqb-true _ _ (and-first _ _ e1)) (eqb-true _ _ (and-second (eqb (l .distance) (m .distance)) _ e1))
 
 pub place-same : (p : Place) → samePlace p p ≡ true
 unfolding samePlace
@@ -109,9 +110,9 @@ used-snapshot p s n m e q = sym e ∙ ap (λ (r : Place). snapshotOf r s) q
 pub fits-present : (L : Listing) (y : Answer) → length (L .query .probe) ≡ L .query .d → AnswerOk y → y .query .order ≡ L .query .order → toPresent L y ≡ true → Fits L y
 unfolding toPresent
 fits-present L y long ok o e =
-    let p : presentPlace L ≡ y .place = same-place _ _ (and-right (sameQuery (L .query) (y .query)) _ e) in
+    let p : presentPlace L ≡ y .place = same-place _ _ (and-second (sameQuery (L .query) (y .query)) _ e) in
     record {
-      query = same-query (L .query) (y .query) (sym o) long (ok .query .long) (and-left _ _ e);
+      query = same-query (L .query) (y .query) (sym o) long (ok .query .long) (and-first _ _ e);
       place = p;
       snapshot = λ q. used-snapshot (y .place) (y .snapshot) _ _ (ok .used) (sym p ∙ present-after L q);
     }

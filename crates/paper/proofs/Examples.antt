@@ -1,19 +1,17 @@
 -- Document 01's marked examples, as far as points, orders and the tree say them: each computes. Assumes nothing.
-use Prim.Native.Nat.{ℕ, _+_, _*_, _^_}
+use Prim.Native.Nat.{ℕ, _+_}
 use mathlib.Core.Path.{_≡_, refl}
 use mathlib.Core.Bool.{true, false}
 use mathlib.Core.List.{List, [], _∷_, _++_, map}
 use lib.IntN.{ℤ, pos, negsuc}
-use lib.ListN.{length, replicate}
-use Rattle.paper.specs.declared.orders.Mark.{Mark}
-use Rattle.paper.specs.declared.orders.Order.{Order}
+use lib.ListN.{replicate}
 use Rattle.paper.specs.declared.orders.Order.the-variants.{Near}
 use Rattle.paper.specs.declared.orders.Place.{Place}
 use Rattle.paper.specs.declared.orders.Place.the-variants.{Start, After}
 use Rattle.paper.specs.declared.points.Measure.the-variants.{CityBlock, Maximum, Hamming}
-use Rattle.paper.specs.Points.{measureOf, weigh, joined, distance, greatestOf, Claim, noClaim}
-use Rattle.paper.specs.Orders.{Item, Query, rank, before, insert, itemOf, listed, follows, rest, following, pageOf, lastOf, Found, nothing, found, firstOf, nearestOf, farthestOf, markHolds, snapshotHolds}
-use Rattle.paper.specs.Tree.{Grown, grown, apart, fresh, cleared, nearSide, raise, placed, entered, built}
+use Rattle.paper.specs.Points.{measureOf, weigh, joined, distance, greatestOf, Claim}
+use Rattle.paper.specs.Orders.{Item, Query, rank, before, insert, itemOf, listed, follows, rest, following, pageOf, lastOf, nothing, found, firstOf, nearestOf, farthestOf, markHolds, snapshotHolds}
+use Rattle.paper.specs.Tree.{grown, apart, fresh, cleared, nearSide, raise, placed, entered, built}
 
 -- "Claims 2, 3, 9, 6, 5 as above (document 000, figure 3), probe 4, reach 5 unless said"; d = 1, measure 1
 coordinates : List ℤ

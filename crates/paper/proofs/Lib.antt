@@ -1,4 +1,5 @@
 pub mod Examples
 pub mod EndExamples
 pub mod Tests
+pub mod Outcomes
 pub mod Reading

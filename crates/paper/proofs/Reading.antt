@@ -9,7 +9,7 @@ use Rattle.paper.specs.declared.lines.AskRead.{AskRead}
 use Rattle.paper.specs.declared.lines.Answer as lines-Answer
 use Rattle.paper.specs.declared.lines.AnswerRead.{AnswerRead}
 use Rattle.paper.specs.declared.orders.Order.the-variants.{Near}
-use Rattle.paper.specs.Outcomes.{Outcome, refused, gives, must}
+use Rattle.paper.specs.Outcomes.{gives, must}
 use Rattle.paper.specs.Frames.{frameOf, sound}
 use Rattle.paper.specs.Lines.{reading, askOk, askAt, anAsk, noAsk, askOf, answerOk, answerAt, anAnswer, noAnswer, answerOf}
 use Rattle.paper.specs.Codec.{asked, answered, readAsk, readAnswer}

@@ -30,7 +30,7 @@ use Rattle.paper.proofs.Tests.{and-second}
 use Rattle.tree.specs.Rooms.{IsBuilt}
 use Rattle.tree.specs.Soundness.{InRange, Roomy}
 use Rattle.tree.proofs.Adding.{point-length, good-end, added-good, added-claims, added-kept}
-use Rattle.walk.proofs.Bridge.{claims-length}
+use Rattle.tree.proofs.Places.{claims-length}
 use Rattle.lines.proofs.Tests.{is-claim}
 use Rattle.desk.specs.Desk.{Says}
 use Rattle.serve.specs.Serving.{Put, booksOf, headerFor, Ready, Served, ServedCut}

@@ -1,40 +1,39 @@
 -- The three calls of a tablet as document 01 orders their refusals: opening, writing an ask, taking a line. Assumes nothing.
-use Prim.Native.Nat.{ℕ, zero, suc, _+_, _-_, _*_, _/_, _<_, _≤_}
+use Prim.Native.Nat.{ℕ, _+_, _-_, _<_, _≤_}
 use mathlib.Core.Path.{_≡_, refl, sym, ap, _∙_}
-use mathlib.Core.Bool.{Bool, true, false, not, cond, _&&_, _||_}
-use mathlib.Core.List.{List, [], _∷_, _++_}
+use mathlib.Core.Bool.{Bool, true, false, not, cond, _&&_}
+use mathlib.Core.List.{List, _++_}
 use native.Mathlib.Omega.{arith}
 use lib.Dec.{leb, eqb}
 use lib.IntN.{ℤ, pos}
 use lib.ListN.{length, take, drop, replicate}
 use lib.Seq.{length-take-le}
-use borrow.Author.Tests.{le-leb, lt-leb, eq-eqb, ne-eqb, eqb-true, not-true, not-false}
+use borrow.Author.Tests.{le-leb, lt-leb, eq-eqb, ne-eqb, not-true, not-false}
 use Rattle.paper.specs.declared.lines.AnswerRead.{AnswerRead}
 use Rattle.paper.specs.declared.lines.Scope.{Scope}
 use Rattle.paper.specs.declared.lines.Wrote.{Wrote}
 use Rattle.paper.specs.declared.lines.Wrote.the-variants.{Line, Refused}
 use Rattle.paper.specs.declared.lists.List as lists
 use Rattle.paper.specs.declared.lists.Opened.{Opened}
-use Rattle.paper.specs.declared.orders.Order.{Order}
 use Rattle.paper.specs.declared.orders.Order.the-variants.{Near}
 use Rattle.paper.specs.declared.orders.Place.{Place}
-use Rattle.paper.specs.declared.orders.Place.the-variants.{Start, After}
 use Rattle.paper.specs.Orders.{snapshotOf}
 use Rattle.paper.specs.Outcomes.{Outcome, refused, gives, must, onto, number}
 use Rattle.paper.specs.Tree.{inRange}
 use Rattle.paper.specs.Frames.{lineOf, frameOf, written}
 use Rattle.paper.specs.Frames as frames
 use Rattle.paper.specs.Fields.{ranged, scopeOk}
-use Rattle.paper.specs.Lines.{wrote, room, Writes, reading, askFrame, askRanges, askFits, answerOk, answerAt, anAnswer, noAnswer, answerOf, countIn}
+use Rattle.paper.specs.Lines.{wrote, room, Writes, reading, askFrame, askRanges, askFits, answerOk, answerAt, anAnswer, noAnswer, answerOf}
 use Rattle.paper.specs.Ends.{Listing, opening, presentPlace, presentAsk, soundIn, asking, taken, taking}
 use Rattle.paper.specs.Lists.{Held, held, listing, roomFor, unusedZero, soundHeld, noList, openedAs, openingHeld, openedTold, askingHeld, takingHeld}
-use Rattle.paper.specs.Codec.{scopeOf, askLine, answered, readAnswer, lines, wroteOf, roomAfter}
-use Rattle.paper.proofs.Tests.{and-first, and-second, and-both, never}
+use Rattle.paper.specs.Codec.{scopeOf, askLine, answered, lines, wroteOf, roomAfter}
+use Rattle.paper.proofs.Tests.{and-first, and-second, and-both}
 use Rattle.paper.proofs.Reading.{answer-by-refusal}
 use Rattle.lines.proofs.Tests.{is-answer}
 use Rattle.tablet.specs.Holding.{Asks, asNear, TakenIs}
 use Rattle.tablet.proofs.ListLaws.{range-8}
-use Rattle.tablet.proofs.TakeLaws.{must-stop, must-go, present-after, present-start}
+use Rattle.paper.proofs.Outcomes.{must-stop, must-go}
+use Rattle.tablet.proofs.TakeLaws.{present-after, present-start}
 
 -- ---- taking a line
 

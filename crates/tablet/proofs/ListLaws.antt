@@ -1,13 +1,13 @@
 -- The fields of a list: what each way through its soundness test gives, and that the test is the definition. Assumes nothing.
 use Prim.Native.Nat.{ℕ, zero, suc, _+_, _-_, _*_, _/_, _<_, _≤_}
 use mathlib.Core.Path.{_≡_, refl, sym, ap, _∙_}
-use mathlib.Core.Bool.{Bool, true, false, not, cond, _&&_, _||_}
-use mathlib.Core.List.{List, [], _∷_}
+use mathlib.Core.Bool.{Bool, true, false, not, _&&_}
+use mathlib.Core.List.{List}
 use native.Mathlib.Omega.{arith}
 use native.Mathlib.Numerals.{add-one}
 use lib.Dec.{leb, eqb}
 use lib.IntN.{ℤ, pos, negsuc, _-ℤ_, natAbs}
-use lib.ListN.{length, getD, take, drop, length-take}
+use lib.ListN.{length, getD, take, drop}
 use lib.Seq.{drop-cons, drop-length, length-take-le, getD-take}
 use borrow.Author.Tests.{le-leb, lt-leb, leb-true, eq-eqb, ne-eqb, eqb-true, not-true, not-false}
 use Rattle.measure.proofs.Away.{away, abs-away}
@@ -17,8 +17,9 @@ use Rattle.paper.specs.declared.orders.Place.the-variants.{Start}
 use Rattle.paper.specs.Orders.{Item, follows}
 use Rattle.paper.specs.Tree.{inRange}
 use Rattle.paper.specs.Ends.{sameZ, sameProbe, every, rising, fitting, startedWell, soundIn}
-use Rattle.paper.specs.Lists.{Held, held, itemsIn, listing, unusedZero, soundHeld}
+use Rattle.paper.specs.Lists.{held, itemsIn, listing, unusedZero, soundHeld}
 use Rattle.paper.proofs.Tests.{and-first, and-second, and-both, alike}
+use Rattle.orders.proofs.Rooms.{length-in}
 use Rattle.tablet.specs.Holding.{itemsHold, startedBy, fieldsHold}
 use Rattle.tablet.proofs.ItemLaws.{pass-means, every-start}
 
@@ -98,11 +99,6 @@ module _ (l : lists.List) (room : ℕ) (a : Bool) (ae : a ≡ inRange (l .measur
 
 -- ---- the whole test
 
-pub items-length : (k : ℕ) (r : List ℕ) → length (itemsIn k r) ≡ k
-unfolding itemsIn
-items-length zero r = refl
-items-length (suc k) r = ap suc (items-length k (drop 3 r))
-
 pub record Fields (l : lists.List) (room : ℕ) : Type 0 where
   pub range : inRange (l .measure) (l .d) ≡ true
   pub unused : unusedZero (l .d) (l .probe) ≡ true
@@ -141,9 +137,9 @@ module _ (o : Order) (l : lists.List) (room : List ℕ) (eight : 7 < length (l .
       let q₃ = and-second (leb (l .snapshot) 4096) _ q₂ in
       let q₄ = and-second (leb (length items) (length room / 3)) _ q₃ in
       let q₅ = and-second (rising o items) _ q₄ in
-      let few : leb (l .count) (length room / 3) ≡ true = rw (items-length (l .count) room) at (and-first (leb (length items) (length room / 3)) _ q₃) in
+      let few : leb (l .count) (length room / 3) ≡ true = rw (length-in (l .count) room) at (and-first (leb (length items) (length room / 3)) _ q₃) in
       let well : startedBy (l .started) (l .count) (l .snapshot) (l .complete) ≡ true =
-      rw (items-length (l .count) room) at (and-second (every (fitting (l .reach) (l .snapshot)) items) _ q₅) in
+      rw (length-in (l .count) room) at (and-second (every (fitting (l .reach) (l .snapshot)) items) _ q₅) in
       and-both (fieldsHold l (length room)) (itemsHold o Start (l .reach) (l .snapshot) items)
       (and-both (inRange (l .measure) (l .d)) _ range
       (and-both (unusedZero (l .d) (l .probe)) _ (and-first (unusedZero (l .d) (l .probe)) _ h)
@@ -157,8 +153,8 @@ module _ (o : Order) (l : lists.List) (room : List ℕ) (eight : 7 < length (l .
       let p = sym (pass-means o Start (l .reach) (l .snapshot) items) ∙ and-second (fieldsHold l (length room)) _ h in
       let p₁ = and-second (rising o items) _ p in
       let dim : l .d ≤ 8 = range-8 (l .measure) (l .d) (f .range) in
-      let few : leb (length items) (length room / 3) ≡ true = rw (items-length (l .count) room) (le-leb (l .count) (length room / 3) (f .few)) in
-      let well : startedBy (l .started) (length items) (l .snapshot) (l .complete) ≡ true = rw (items-length (l .count) room) (f .start) in
+      let few : leb (length items) (length room / 3) ≡ true = rw (length-in (l .count) room) (le-leb (l .count) (length room / 3) (f .few)) in
+      let well : startedBy (l .started) (length items) (l .snapshot) (l .complete) ≡ true = rw (length-in (l .count) room) (f .start) in
       and-both (unusedZero (l .d) (l .probe)) _ (f .unused)
       (and-both (inRange (l .measure) (l .d)) _ (f .range)
       (and-both (eqb (length (take (l .d) (l .probe))) (l .d)) _ (eq-eqb _ _ (length-take-le (l .d) (l .probe) (omega arith)))

@@ -3,11 +3,12 @@ use Prim.Native.Nat.{ℕ, zero, suc, _+_, _-_, _*_, _/_, _<_, _≤_}
 use mathlib.Core.Path.{_≡_, refl, sym, ap, _∙_}
 use mathlib.Core.Bool.{Bool, true, false, not, cond, _&&_, _||_}
 use mathlib.Core.List.{List, [], _∷_, _++_}
+use native.Mathlib.Nat.{mul-comm}
 use native.Mathlib.Omega.{arith}
 use lib.Dec.{leb, eqb}
 use lib.ListN.{length, getD, take, drop, length-append}
 use lib.Seq.{getD-drop, paste}
-use borrow.Author.Tests.{le-leb, lt-leb, leb-true, eq-eqb, ne-eqb, eqb-true, not-true, not-false, ltb-true}
+use borrow.Author.Tests.{le-leb, lt-leb, leb-true, eq-eqb, ne-eqb, not-true, not-false, ltb-true}
 use Rattle.paper.specs.declared.lines.Answer.{Answer}
 use Rattle.paper.specs.declared.lines.Scope.{Scope}
 use Rattle.paper.specs.declared.lists.List as lists
@@ -18,14 +19,16 @@ use Rattle.paper.specs.declared.orders.Place.{Place}
 use Rattle.paper.specs.declared.orders.Place.the-variants.{Start, After}
 use Rattle.paper.specs.Orders.{Item, noItem, follows, snapshotOf, flat, fronted}
 use Rattle.paper.specs.Ends.{every, rising, fitting, lastItem, presentPlace, sameProbe, sameQuery, samePlace, toPresent, pageHolds, startedWell, soundIn, joinedTo, taken, Listing}
-use Rattle.paper.specs.Lists.{Held, held, itemsIn, queryOf, listing, unusedZero, soundHeld, roomFor, put}
+use Rattle.paper.specs.Lists.{Held, held, itemsIn, queryOf, listing, unusedZero, soundHeld, put}
 use Rattle.paper.specs.Codec.{placeIn, scopeOf, answered}
 use Rattle.paper.specs.Outcomes.{Outcome, refused, gives, must, number}
 use Rattle.paper.specs.Tree.{inRange}
 use Rattle.paper.proofs.Tests.{and-first, and-second, never}
+use Rattle.paper.proofs.Outcomes.{must-stop, must-go}
+use Rattle.orders.proofs.Rooms.{length-in, flat-in, flat-append}
 use Rattle.tablet.specs.Holding.{itemsHold, startedBy, Asks, joinedFields, TakenIs}
 use Rattle.tablet.proofs.ItemLaws.{itemAt, pass-means}
-use Rattle.tablet.proofs.ListLaws.{items-length, same-take}
+use Rattle.tablet.proofs.ListLaws.{same-take}
 
 -- ---- places
 
@@ -117,7 +120,7 @@ every-at p (a ∷ l) (suc k) h e = every-at p l k (omega arith) (and-second (p a
 
 -- the last item of a list that has one
 last-at : (n : ℕ) (room : List ℕ) → 1 ≤ n → lastItem (itemsIn n room) ≡ itemAt room (n - 1)
-last-at n room h = rw (items-length n room) (item-get n (n - 1) room (omega arith))
+last-at n room h = rw (length-in n room) (item-get n (n - 1) room (omega arith))
 
 module _ (l : lists.List) (room : List ℕ) where
   pub present-after : l .started ≡ true → 1 ≤ l .count → (o : Order)
@@ -155,7 +158,7 @@ module _ (o : Order) (y : Answer) (u : Place) (ue : u ≡ placeIn (y .scope)) (a
   page-splits : pageHolds (answered o y) ≡ a && (leb 1 (y .count) || eqb (y .last) 1)
   unfolding pageHolds answered
   page-splits =
-      rw (ae, ue, pass-means o (placeIn (y .scope)) (y .scope .reach) (y .scope .snapshot) (itemsIn (y .count) (y .items)), items-length (y .count) (y .items))
+      rw (ae, ue, pass-means o (placeIn (y .scope)) (y .scope .reach) (y .scope .snapshot) (itemsIn (y .count) (y .items)), length-in (y .count) (y .items))
       (and-group (rising o (itemsIn (y .count) (y .items))) (every (follows o (placeIn (y .scope))) (itemsIn (y .count) (y .items)))
       (every (fitting (y .scope .reach) (y .scope .snapshot)) (itemsIn (y .count) (y .items))) (leb 1 (y .count) || eqb (y .last) 1))
     where
@@ -175,20 +178,8 @@ module _ (o : Order) (y : Answer) (u : Place) (ue : u ≡ placeIn (y .scope)) (a
 
 -- ---- taking
 
-flat-append : (a b : List Item) → flat (a ++ b) ≡ flat a ++ flat b
-unfolding flat
-flat-append [] b = refl
-flat-append (x ∷ a) b = rw (flat-append a b)
-
 flat-items : (k : ℕ) (room : List ℕ) → k * 3 ≤ length room → flat (itemsIn k room) ≡ take (k * 3) room
-unfolding flat itemsIn
-flat-items zero room h = refl
-flat-items (suc k) [] h = absurd (omega arith)
-flat-items (suc k) (x ∷ []) h = absurd (omega arith)
-flat-items (suc k) (x ∷ y ∷ []) h = absurd (omega arith)
-flat-items (suc k) (x ∷ y ∷ z ∷ room) h =
-    let e : suc k * 3 ≡ suc (suc (suc (k * 3))) = omega arith in
-    rw (e, flat-items k room (omega arith))
+flat-items k room h = rw (mul-comm k 3) (flat-in k room (omega arith))
 
 -- items joined behind the items that stand in the room
 join-front : (room items : List ℕ) (c n : ℕ) → c * 3 + n * 3 ≤ length room → n * 3 ≤ length items
@@ -196,7 +187,7 @@ join-front : (room items : List ℕ) (c n : ℕ) → c * 3 + n * 3 ≤ length ro
 unfolding fronted
 join-front room items c n h k =
     let e : 3 * length (itemsIn c room ++ itemsIn n items) ≡ c * 3 + n * 3 =
-    omega (arith, length-append (itemsIn c room) (itemsIn n items), items-length c room, items-length n items) in
+    omega (arith, length-append (itemsIn c room) (itemsIn n items), length-in c room, length-in n items) in
     rw (e, flat-append (itemsIn c room) (itemsIn n items), flat-items c room (omega arith), flat-items n items k)
 
 has-item : (started complete : Bool) (n snapshot : ℕ) → started ≡ true → complete ≡ false → startedBy started n snapshot complete ≡ true → 1 ≤ n
@@ -208,7 +199,7 @@ has-item false complete n snapshot s c h = absurd (never false s refl)
 
 last-below : (n : ℕ) (room : List ℕ) (reach snapshot : ℕ) → 1 ≤ n → every (fitting reach snapshot) (itemsIn n room) ≡ true → getD room (n * 3 - 3) 0 < snapshot
 last-below n room reach snapshot h e =
-    let k : n - 1 < length (itemsIn n room) = omega (arith, items-length n room) in
+    let k : n - 1 < length (itemsIn n room) = omega (arith, length-in n room) in
     let f : fitting reach snapshot (itemAt room (n - 1)) ≡ true =
     rw (item-get n (n - 1) room (omega arith)) at (every-at (fitting reach snapshot) (itemsIn n room) (n - 1) k e) in
     let a : (n - 1) * 3 ≡ n * 3 - 3 = omega arith in
@@ -231,7 +222,7 @@ module _ (o : Order) (l : lists.List) (room : List ℕ) (sound : soundHeld o (he
       let b = and-second (eqb (length (take (l .d) (l .probe))) (l .d)) _ a in
       let e = and-second (leb (l .snapshot) 4096) _ b in
       let f : length items ≤ length room / 3 = leb-true (length items) (length room / 3) (and-first (leb (length items) (length room / 3)) _ e) in
-      omega (arith, items-length (l .count) room)
+      omega (arith, length-in (l .count) room)
 
   pub sound-asks : l .complete ≡ false → Asks l room
   unfolding soundIn listing startedWell startedBy
@@ -244,7 +235,7 @@ module _ (o : Order) (l : lists.List) (room : List ℕ) (sound : soundHeld o (he
       let fit = and-first (every (fitting (l .reach) (l .snapshot)) items) _ g in
       let well = and-second (every (fitting (l .reach) (l .snapshot)) items) _ g in
       let some : l .started ≡ true → 1 ≤ l .count =
-      λ s. let i : 1 ≤ length items = has-item (l .started) (l .complete) (length items) (l .snapshot) s open₀ well in omega (arith, items-length (l .count) room) in
+      λ s. let i : 1 ≤ length items = has-item (l .started) (l .complete) (length items) (l .snapshot) s open₀ well in omega (arith, length-in (l .count) room) in
       record {
         range = and-first (inRange (l .measure) (l .d)) _ parts;
         few = omega (arith, sound-few);
@@ -254,14 +245,6 @@ module _ (o : Order) (l : lists.List) (room : List ℕ) (sound : soundHeld o (he
       }
 
 -- ---- the ways through `take_answer`
-
-pub must-stop : {A : Type 0} (b : Bool) (n : ℕ) (x : Outcome A) → b ≡ false → must b n x ≡ refused n
-must-stop true n x h = absurd (never true refl h)
-must-stop false n x h = refl
-
-pub must-go : {A : Type 0} (b : Bool) (n : ℕ) (x : Outcome A) → b ≡ true → must b n x ≡ x
-must-go true n x h = refl
-must-go false n x h = absurd (never false h refl)
 
 -- a refusal leaves what is held
 pub refuse-is : (s : Held) (x : Outcome Listing) (n : ℕ) (r : Taken) → x ≡ refused n → r ≡ record { refusal = n; list = s .list } → TakenIs s x r (s .room)
@@ -302,7 +285,7 @@ module _ (o : Order) (l : lists.List) (room : List ℕ) (y : Answer) where
       module _ (hb : not b ≡ false) (few : l .count ≤ length room / 3) where
         sum : length (L .items) + length (answered o y .items) ≡ l .count + y .count
         unfolding listing answered
-        sum = omega (arith, items-length (l .count) room, items-length (y .count) (y .items))
+        sum = omega (arith, length-in (l .count) room, length-in (y .count) (y .items))
 
         up-to-15 : call ≡ must (leb (length (L .items) + length (answered o y .items)) (length room / 3)) 15 (gives (joinedTo L (answered o y)))
         unfolding taken listing
@@ -325,7 +308,7 @@ module _ (o : Order) (l : lists.List) (room : List ℕ) (y : Answer) where
   unfolding put joinedTo listing answered
   joined-is x t after e h k te ae =
       let n : length (itemsIn (l .count) room ++ itemsIn (y .count) (y .items)) ≡ l .count + y .count =
-      omega (arith, length-append (itemsIn (l .count) room) (itemsIn (y .count) (y .items)), items-length (l .count) room, items-length (y .count) (y .items)) in
+      omega (arith, length-append (itemsIn (l .count) room) (itemsIn (y .count) (y .items)), length-in (l .count) room, length-in (y .count) (y .items)) in
       record {
         refusal = sym (ap number e);
         state = ap (λ (u : lists.List). held u after) te ∙ ap (held (joinedFields l y (y .count))) ae

@@ -11,7 +11,7 @@ use lib.Seq.{length-take-le, take-append-le, drop-append-le, take-at, drop-at, t
 use Rattle.paper.specs.declared.points.Measure.{Measure}
 use Rattle.paper.specs.declared.tables.Table.{Table}
 use Rattle.paper.specs.Points.{measureOf, distance, Claim, point}
-use Rattle.paper.specs.Tree.{grown, entered, built, Store, store, apart, apartIn, claimsFrom, claimsIn}
+use Rattle.paper.specs.Tree.{grown, built, Store, store, apart, apartIn, claimsFrom, claimsIn}
 use Rattle.paper.specs.Runs.{counted, nextGrown, added, addedRun}
 use Rattle.tree.specs.Rooms.{Enterable, IsBuilt}
 use Rattle.tree.specs.Soundness.{Good, Roomy}

@@ -1,5 +1,5 @@
 -- One law for each way through making a table and entering a run, and what their promises settle. Assumes nothing.
-use Prim.Native.Nat.{ℕ, suc, _+_, _-_, _*_, _/_, _%_, _<_, _≤_}
+use Prim.Native.Nat.{ℕ, _+_, _-_, _*_, _/_, _%_, _<_, _≤_}
 use mathlib.Core.Path.{_≡_, refl, sym, ap, _∙_}
 use mathlib.Core.Bool.{Bool, true, false, not}
 use mathlib.Core.List.{List, _++_}
@@ -15,6 +15,7 @@ use Rattle.paper.specs.declared.tables.Entered.{Entered}
 use Rattle.paper.specs.Outcomes.{Outcome, refused, gives, must, number}
 use Rattle.paper.specs.Tree.{Store, store, fits, sound, claimsFrom, claimsIn}
 use Rattle.paper.specs.Runs.{makeCall, madeTold, addedRun, enterCall, enteredTold, Ending, ending, endingOf}
+use Rattle.paper.proofs.Outcomes.{number-0, same-given}
 use Rattle.tree.specs.Soundness.{Lent, Good, Roomy}
 use Rattle.tree.proofs.Known.{fits-fit, fit-fits, sound-good, good-sound, good-used}
 use Rattle.tree.proofs.Adding.{run-claims, run-good}
@@ -116,13 +117,6 @@ module _ (s : Store) (f : Bool) (fe : f ≡ fits s) where
 
 -- entering a run
 
-must-zero : {A : Type 0} (b : Bool) (n : ℕ) (x : Outcome A) → number (must b (suc n) x) ≡ 0 → (b ≡ true) × (number x ≡ 0)
-must-zero true n x h = (refl, h)
-must-zero false n x h = absurd (omega arith)
-
-same-gives : {A : Type 0} (x y : A) → _≡_ {A = Outcome A} (gives x) (gives y) → x ≡ y
-same-gives x y e = cc
-
 -- nothing refuses the run
 pub record Enters (s : Store) (given : List ℕ) (places : List ℤ) : Type 0 where
   pub good : Good s
@@ -137,10 +131,10 @@ module _ (s : Store) (given : List ℕ) (places : List ℤ) where
       let b3 : Bool = leb (s .table .count + length given) (s .table .capacity) in
       let b4 : Bool = leb (s .table .used + length given) (s .table .capacity) in
       let x : Outcome Store = gives (addedRun given places (length given) s) in
-      let h1 = must-zero (fits s) 0 (must (sound s) 2 (must b5 5 (must b3 3 (must b4 4 x)))) z in
-      let h2 = must-zero (sound s) 1 (must b5 5 (must b3 3 (must b4 4 x))) (h1 .1) in
-      let h5 = must-zero b5 4 (must b3 3 (must b4 4 x)) (h2 .1) in
-      let h3 = must-zero b3 2 (must b4 4 x) (h5 .1) in
+      let h1 = number-0 (fits s) 0 (must (sound s) 2 (must b5 5 (must b3 3 (must b4 4 x)))) z in
+      let h2 = number-0 (sound s) 1 (must b5 5 (must b3 3 (must b4 4 x))) (h1 .1) in
+      let h5 = number-0 b5 4 (must b3 3 (must b4 4 x)) (h2 .1) in
+      let h3 = number-0 b3 2 (must b4 4 x) (h5 .1) in
       record {
         good = sound-good s (fits-fit s (h1 .0)) (h2 .0);
         whole = eqb-true (length places) (s .table .d * length given) (h5 .0);
@@ -202,7 +196,7 @@ module _ (s : Store) (given : List ℕ) (places : List ℤ) where
       → Good x × (claimsIn x ≡ claimsIn s ++ claimsFrom (s .table .d) (length given) given places)
   entered-good x e =
       let h = zero-enters (ap number e) in
-      let q : x ≡ addedRun given places (length given) s = same-gives _ _ (sym e ∙ enters-gives (h .good) (h .whole) (h .free)) in
+      let q : x ≡ addedRun given places (length given) s = same-given _ _ (sym e ∙ enters-gives (h .good) (h .whole) (h .free)) in
       let r : Roomy s (length given) = record { good = h .good; free = h .free } in
       rw q (run-good s given places (length given) r (h .whole), run-claims s given places (length given) r (h .whole))
 

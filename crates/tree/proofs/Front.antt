@@ -1,7 +1,7 @@
 -- Comparing the fronts of two memories. Assumes nothing.
 use Prim.Native.Nat.{ℕ, zero, suc, _+_, _*_, _/_, _%_, _<_}
 use mathlib.Core.Path.{_≡_, refl}
-use mathlib.Core.Bool.{Bool, true, false, _&&_, and-false}
+use mathlib.Core.Bool.{true, false, and-false}
 use mathlib.Core.List.{List}
 use mathlib.Core.Logic.{⊎-elim}
 use native.Mathlib.Omega.{arith}
@@ -11,15 +11,7 @@ use lib.ListN.{getD}
 use lib.Dec.{eqb}
 use borrow.Author.Tests.{eqb-true, eq-eqb, ne-eqb}
 use Rattle.paper.specs.Tree.{fieldAt, sameFront}
-
--- both tests hold
-pub both-first : (a b : Bool) → (a && b) ≡ true → a ≡ true
-both-first true b p = refl
-both-first false b p = p
-
-pub both-second : (a b : Bool) → (a && b) ≡ true → b ≡ true
-both-second true b p = p
-both-second false b p = absurd (let z : _≡_ {A = ℕ} 0 1 = cc in omega arith)
+use Rattle.paper.proofs.Tests.{and-first, and-second}
 
 pub front-none : (a b : List ℕ) → sameFront 0 a b ≡ true
 unfolding sameFront
@@ -40,8 +32,8 @@ pub front-at : (w : ℕ) (a b : List ℕ) → sameFront w a b ≡ true → (i : 
 unfolding sameFront
 front-at zero a b h i hi = absurd (omega arith)
 front-at (suc w) a b h i hi = ⊎-elim
-    (λ p. let q : i ≡ w = p in rw q (eqb-true _ _ (both-second (sameFront w a b) (eqb (getD a w 0) (getD b w 0)) h)))
-    (λ l. front-at w a b (both-first (sameFront w a b) (eqb (getD a w 0) (getD b w 0)) h) i l) (eq-or-lt-of-le (omega arith))
+    (λ p. let q : i ≡ w = p in rw q (eqb-true _ _ (and-second (sameFront w a b) (eqb (getD a w 0) (getD b w 0)) h)))
+    (λ l. front-at w a b (and-first (sameFront w a b) (eqb (getD a w 0) (getD b w 0)) h) i l) (eq-or-lt-of-le (omega arith))
 
 pub front-all : (w : ℕ) (a b : List ℕ) → ((i : ℕ) → i < w → getD a i 0 ≡ getD b i 0) → sameFront w a b ≡ true
 unfolding sameFront

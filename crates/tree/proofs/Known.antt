@@ -15,20 +15,21 @@ use Rattle.paper.specs.Tree.{Grown, grown, entered, built, Store, apart, apartI
 use Rattle.tree.specs.Rooms.{Neartree, Located, Enterable, IsBuilt}
 use Rattle.tree.specs.Soundness.{InRange, Lent, Fit, Good}
 use Rattle.tree.proofs.Agree.{Built, build, build-alike, Alike, same-list, grown-eq}
-use Rattle.tree.proofs.Front.{both-first, both-second, front-at, front-all, front-ext, agree-at}
+use Rattle.paper.proofs.Tests.{and-first, and-second}
+use Rattle.tree.proofs.Front.{front-at, front-all, front-ext, agree-at}
 
 -- range and lent memory
 
 pub range-is : (measure d : ℕ) → inRange measure d ≡ true → InRange measure d
 unfolding inRange
 range-is measure d h =
-    let a = both-first (leb 1 measure && leb measure 3) (leb 1 d && leb d 8) h in
-    let b = both-second (leb 1 measure && leb measure 3) (leb 1 d && leb d 8) h in
+    let a = and-first (leb 1 measure && leb measure 3) (leb 1 d && leb d 8) h in
+    let b = and-second (leb 1 measure && leb measure 3) (leb 1 d && leb d 8) h in
     record {
-      first = leb-true 1 measure (both-first (leb 1 measure) (leb measure 3) a);
-      last = leb-true measure 3 (both-second (leb 1 measure) (leb measure 3) a);
-      wide = leb-true 1 d (both-first (leb 1 d) (leb d 8) b);
-      narrow = leb-true d 8 (both-second (leb 1 d) (leb d 8) b);
+      first = leb-true 1 measure (and-first (leb 1 measure) (leb measure 3) a);
+      last = leb-true measure 3 (and-second (leb 1 measure) (leb measure 3) a);
+      wide = leb-true 1 d (and-first (leb 1 d) (leb d 8) b);
+      narrow = leb-true d 8 (and-second (leb 1 d) (leb d 8) b);
     }
 
 pub is-range : (measure d : ℕ) → InRange measure d → inRange measure d ≡ true
@@ -52,20 +53,20 @@ module _ (s : Store) where
       let m : Bool = leb c (length (s .references)) in
       let p : Bool = leb (c * s .table .d) (length (s .coordinates)) in
       let q : Bool = leb (c * 6) (length (s .rooms)) in
-      let h1 = both-second r (n && (m && (p && q))) h in
-      let h2 = both-second n (m && (p && q)) h1 in
-      let h3 = both-second m (p && q) h2 in
-      let hn = both-first n (m && (p && q)) h1 in
-      let range = range-is (s .table .measure) (s .table .d) (both-first r (n && (m && (p && q))) h) in
+      let h1 = and-second r (n && (m && (p && q))) h in
+      let h2 = and-second n (m && (p && q)) h1 in
+      let h3 = and-second m (p && q) h2 in
+      let hn = and-first n (m && (p && q)) h1 in
+      let range = range-is (s .table .measure) (s .table .d) (and-first r (n && (m && (p && q))) h) in
       record {
         range = range;
-        some = leb-true 1 c (both-first (leb 1 c) (leb c 4096) hn);
-        references = leb-true c (length (s .references)) (both-first m (p && q) h2);
+        some = leb-true 1 c (and-first (leb 1 c) (leb c 4096) hn);
+        references = leb-true c (length (s .references)) (and-first m (p && q) h2);
         lent = record {
           narrow = range .narrow;
-          most = leb-true c 4096 (both-second (leb 1 c) (leb c 4096) hn);
-          coordinates = leb-true (c * s .table .d) (length (s .coordinates)) (both-first p q h3);
-          rooms = leb-true (c * 6) (length (s .rooms)) (both-second p q h3);
+          most = leb-true c 4096 (and-second (leb 1 c) (leb c 4096) hn);
+          coordinates = leb-true (c * s .table .d) (length (s .coordinates)) (and-first p q h3);
+          rooms = leb-true (c * 6) (length (s .rooms)) (and-second p q h3);
         };
       }
 
@@ -166,11 +167,11 @@ sound-good s f hs =
     let bc : Bool = leb n (t .capacity) in
     let bu : Bool = eqb (afresh e n .used) (t .used) in
     let bf : Bool = sameFront (t .used * 6) (afresh e n .rooms) (s .rooms) in
-    let hc : n ≤ t .capacity = leb-true n (t .capacity) (both-first bc (bu && bf) hs) in
-    let rest = both-second bc (bu && bf) hs in
-    let hu : afresh e n .used ≡ t .used = eqb-true (afresh e n .used) (t .used) (both-first bu bf rest) in
+    let hc : n ≤ t .capacity = leb-true n (t .capacity) (and-first bc (bu && bf) hs) in
+    let rest = and-second bc (bu && bf) hs in
+    let hu : afresh e n .used ≡ t .used = eqb-true (afresh e n .used) (t .used) (and-first bu bf rest) in
     let same : (i : ℕ) → i < t .used * 6 → getD (afresh e n .rooms) i 0 ≡ getD (s .rooms) i 0 =
-    front-at (t .used * 6) (afresh e n .rooms) (s .rooms) (both-second bu bf rest) in
+    front-at (t .used * 6) (afresh e n .rooms) (s .rooms) (and-second bu bf rest) in
     let room : n * 6 ≤ length (s .rooms) = omega (arith, f .lent .rooms) in
     let few : n ≤ 4096 = omega (arith, f .lent .most) in
     let h = alike-afresh e (s .rooms) n room few in

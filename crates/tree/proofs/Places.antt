@@ -1,10 +1,13 @@
--- Where the coordinates of a claim stand in the lent memory. Assumes nothing.
-use Prim.Native.Nat.{ℕ, suc, _+_, _*_, _<_, _≤_}
-use mathlib.Core.List.{List}
+-- Where the coordinates of a claim stand in the lent memory, and how many claims are cut out of it. Assumes nothing.
+use Prim.Native.Nat.{ℕ, zero, suc, _+_, _*_, _<_, _≤_}
+use mathlib.Core.Path.{_≡_, refl}
+use mathlib.Core.List.{List, [], _∷_}
 use native.Mathlib.Omega.{arith}
 use native.Mathlib.Nat.{mul-le-mul-right, suc-mul}
 use lib.IntN.{ℤ}
-use lib.ListN.{length}
+use lib.ListN.{length, getD, length-append}
+use Rattle.paper.specs.Points.{point}
+use Rattle.paper.specs.Tree.{claimsFrom}
 use Rattle.tree.specs.Rooms.{Located}
 
 -- j's d numbers end before those of claim n begin
@@ -13,3 +16,10 @@ before-next d j n h = let p : suc j * d ≤ n * d = mul-le-mul-right d h in omeg
 
 pub located-at : (d n j : ℕ) (coordinates : List ℤ) → Located d n coordinates → j < n → j * d + d ≤ length coordinates
 located-at d n j coordinates l h = omega (arith, before-next d j n h, l .inside)
+
+-- a run of n claims, cut out of references and coordinates
+pub claims-length : (d n : ℕ) (references : List ℕ) (coordinates : List ℤ) → length (claimsFrom d n references coordinates) ≡ n
+unfolding claimsFrom
+claims-length d zero references coordinates = refl
+claims-length d (suc n) references coordinates =
+    omega (arith, claims-length d n references coordinates, length-append (claimsFrom d n references coordinates) (record { reference = getD references n 0; place = point d coordinates n } ∷ []))

@@ -14,7 +14,7 @@ use Rattle.paper.specs.Tree.{store, fits, sound}
 use Rattle.tree.specs.Soundness.{Lent}
 use Rattle.tree.proofs.Known.{fits-fit, sound-good}
 use Rattle.walk.specs.Asking.{Answerable, Pageable, Markable}
-use Rattle.walk.proofs.Answers.{good-answers}
+use Rattle.walk.proofs.Answers.{good-answerable}
 
 module _ (t : Table) (references : List ℕ) (coordinates : List ℤ) (rooms : List ℕ) (u : Bool) (fit : u ≡ fits (store t references coordinates rooms)) (yes' : not u ≡ false) where
   pub lent : Lent t (length coordinates) (length rooms)
@@ -23,9 +23,9 @@ module _ (t : Table) (references : List ℕ) (coordinates : List ℤ) (rooms : L
   pub opened : (probe : List ℤ) (v : Bool) → ((names : List ℕ) → v ≡ sound (store t names coordinates rooms)) → not v ≡ false → length probe ≡ t .d
       → Answerable t references coordinates rooms probe
   opened probe v is yes'' aimed =
-      good-answers (store t references coordinates rooms) probe
+      good-answerable (store t references coordinates rooms)
       (sound-good (store t references coordinates rooms) (fits-fit (store t references coordinates rooms) (sym fit ∙ not-false u yes')) (sym (is references) ∙ not-false v yes''))
-      (omega arith)
+      probe aimed
 
 module _ (t : Table) (references : List ℕ) (coordinates : List ℤ) (rooms : List ℕ) (probe : List ℤ) (place : Place) (asks : Answerable t references coordinates rooms probe)
     (n : ℕ) (is : n ≡ snapshotOf place (t .count)) (stored : n ≤ t .count) where

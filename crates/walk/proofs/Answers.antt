@@ -25,13 +25,14 @@ use Rattle.paper.specs.Orders.{Item, Query, startMark, itemOf, listed, follows,
 use Rattle.paper.specs.Tree.{Store}
 use Rattle.tree.specs.Soundness.{Good}
 use Rattle.tree.proofs.Known.{lent-located, good-tree}
+use Rattle.tree.proofs.Places.{located-at, claims-length}
 use Rattle.keep.specs.declared.Asked.{Asked}
 use Rattle.keep.specs.Skips.{admitted}
 use Rattle.walk.specs.Walking.{distOf, distBy, InSight, PageAsk, AskFilled}
-use Rattle.walk.specs.Asking.{queryOf, claimsOf, askedOf, Answerable, Pageable, Markable, PageIs}
-use Rattle.walk.proofs.Ways.{claim-inside}
-use Rattle.walk.proofs.Orders.{rest-start}
-use Rattle.walk.proofs.Bridge.{claims-length, item-is, filled-page}
+use Rattle.walk.specs.Asking.{queryOf, claimsOf, askedOf, Measurable, Answerable, Pageable, Markable, PageIs}
+use Rattle.orders.proofs.Rooms.{flat-length}
+use Rattle.orders.proofs.Sorted.{rest-start}
+use Rattle.walk.proofs.Bridge.{item-is, filled-page}
 
 -- the question as the walk asks it
 module _ (t : Table) (order : Order) (reach : ℕ) (place : Place) (size : ℕ) where
@@ -139,7 +140,7 @@ module _ (t : Table) (coordinates probe : List ℤ) (reach : ℕ) (place : Place
     mark-sight l =
         record {
           narrow = h .measurable .located .narrow;
-          inside = claim-inside (t .d) (t .count) (m .number) coordinates (h .measurable .located) (omega (arith, stored));
+          inside = located-at (t .d) (t .count) (m .number) coordinates (h .measurable .located) (omega (arith, stored));
           aimed = h .measurable .aimed;
         }
 
@@ -167,11 +168,6 @@ pub front-whole : (count : ℕ) (room : List ℕ) → length room / 3 < count �
 front-whole count room h = sym (take-all (3 * count) room (omega arith))
 
 -- what the front of the room shows after a page: the page's items
-flat-length : (l : List Item) → length (flat l) ≡ 3 * length l
-unfolding flat
-flat-length [] = refl
-flat-length (a ∷ l) = let h = flat-length l in omega arith
-
 pub page-front : (q : Query) (cs : List Claim) (place : Place) (size : ℕ) (o o' : List ℕ) (r : Paged) → PageIs q cs place size o o' r
     → take (3 * r .count) o' ≡ flat (pageOf q cs place size)
 unfolding fronted
@@ -181,10 +177,10 @@ page-front q cs place size o o' r h =
     ap (take (3 * r .count)) (h .room) ∙ take-at (flat (pageOf q cs place size)) (drop (3 * length (pageOf q cs place size)) o) (3 * r .count) e
 
 -- a sound table can be asked
-pub good-answers : (s : Store) (probe : List ℤ) → Good s → s .table .d ≤ length probe → Answerable (s .table) (s .references) (s .coordinates) (s .rooms) probe
-good-answers s probe g h =
-    record {
-      tree = good-tree s g;
-      measurable = record { located = lent-located (s .table) (s .coordinates) (length (s .rooms)) (s .table .count) (g .fit .lent) (g .count); aimed = h };
-      named = omega (arith, g .count, g .fit .references);
-    }
+module _ (s : Store) (g : Good s) (probe : List ℤ) (h : length probe ≡ s .table .d) where
+  pub good-measurable : Measurable (s .table) (s .coordinates) probe
+  good-measurable =
+      record { located = lent-located (s .table) (s .coordinates) (length (s .rooms)) (s .table .count) (g .fit .lent) (g .count); aimed = omega arith }
+
+  pub good-answerable : Answerable (s .table) (s .references) (s .coordinates) (s .rooms) probe
+  good-answerable = record { tree = good-tree s g; measurable = good-measurable; named = omega (arith, g .count, g .fit .references) }

@@ -8,7 +8,7 @@ use native.Mathlib.Omega.{arith}
 use native.Mathlib.Nat.{le-refl, eq-or-lt-of-le}
 use lib.Dec.{ltb, leb, eqb}
 use lib.IntN.{ℤ, pos}
-use lib.ListN.{length, getD, take, drop, length-append, length-map, List·getD-append}
+use lib.ListN.{length, getD, take, drop, length-map, List·getD-append}
 use lib.Seq.{getD-take, getD-at}
 use borrow.Author.Tests.{lt-ltb, le-ltb, ne-eqb}
 use Rattle.paper.specs.declared.orders.Order.{Order}
@@ -19,13 +19,14 @@ use Rattle.paper.specs.Points.{measureOf, distance, Claim, noClaim, point}
 use Rattle.paper.specs.Orders.{Item, Query, rank, earlier, itemOf, listed, follows, rest, snapshotOf, following, pageOf, lastOf, flat, fronted}
 use Rattle.paper.specs.Orders.{insert as put}
 use Rattle.paper.specs.Tree.{claimsFrom}
+use Rattle.tree.proofs.Places.{claims-length}
 use Rattle.keep.specs.Page.{ranks, sooner, insert, sortedOf, firstSorted, items, Filled}
 use Rattle.keep.specs.Kept.{key, Rising, none, more}
 use Rattle.keep.proofs.Keeping.{sooner-true, sooner-false, key-sooner, key-differs, scan-rising}
 use Rattle.keep.proofs.Placing.{before-ranks}
 use Rattle.walk.specs.Walking.{refOf, distOf}
 use Rattle.walk.specs.Asking.{queryOf, claimsOf, PageIs}
-use Rattle.walk.proofs.Orders.{rest-insert}
+use Rattle.orders.proofs.Sorted.{rest-insert}
 
 -- claim k as an item, where its reference is `ref k` and it is `dist k` away
 abbrev pub itemAt : (ℕ → ℕ) → (ℕ → ℕ) → ℕ → Item
@@ -111,12 +112,6 @@ flat-items ref dist [] = refl
 flat-items ref dist (k ∷ l) = rw (flat-items ref dist l)
 
 -- the claims of the lent memory
-pub claims-length : (d n : ℕ) (references : List ℕ) (coordinates : List ℤ) → length (claimsFrom d n references coordinates) ≡ n
-unfolding claimsFrom
-claims-length d zero references coordinates = refl
-claims-length d (suc n) references coordinates =
-    length-append (claimsFrom d n references coordinates) _ ∙ (let h = claims-length d n references coordinates in omega arith)
-
 pub claims-at : (d n : ℕ) (references : List ℕ) (coordinates : List ℤ) (k : ℕ) → k < n
     → getD (claimsFrom d n references coordinates) k noClaim ≡ record { reference = getD references k 0; place = point d coordinates k }
 unfolding claimsFrom

@@ -2,21 +2,35 @@
 -- farthest are the first of their order. Assumes nothing.
 use Prim.Native.Nat.{ℕ, zero, suc, _+_, _*_, _<_, _≤_, min}
 use mathlib.Core.Path.{_≡_, refl, sym, ap, _∙_}
-use mathlib.Core.Logic.{⊎-elim}
-use mathlib.Core.Bool.{true, false}
+use mathlib.Core.Logic.{_⊎_, inl, inr, ⊎-elim}
+use mathlib.Core.Bool.{Bool, true, false}
 use mathlib.Core.List.{List, [], _∷_, _++_, List·Memᴰ}
 use native.Mathlib.Omega.{arith}
+use lib.Dec.{leb}
 use lib.ListN.{length, take, drop, getD, length-take}
-use lib.Seq.{take-add, take-all, take-length, getD-take}
-use borrow.Author.Tests.{ltb-true, ltb-false, lt-ltb, le-leb, eq-eqb}
+use lib.Seq.{take-add, take-all, getD-take}
+use borrow.Author.Tests.{ltb-true, ltb-false, lt-ltb, le-leb, eq-eqb, leb-true, leb-false}
 use Rattle.paper.specs.declared.orders.Mark.{Mark}
 use Rattle.paper.specs.declared.orders.Place.{Place}
 use Rattle.paper.specs.declared.orders.Place.the-variants.{Start, After}
-use Rattle.paper.specs.Points.{measureOf, distance, Claim, noClaim}
+use Rattle.paper.specs.Points.{measureOf, Claim, noClaim}
 use Rattle.paper.specs.Orders.{Item, noItem, Query, itemOf, listed, following, pageOf, lastOf, nothing, firstOf, nearestOf, farQuery, farthestOf, markHolds}
+use Rattle.paper.specs.Ends.{markOf}
 use Rattle.measure.proofs.Laws.{In32, distance-most}
-use Rattle.walk.proofs.Lists.{le-or-more, All, all-getD}
-use Rattle.walk.proofs.Orders.{rest-start, rest-next, placeAt, IsOf, listed-are, listed-rising, listed-has, listed-grown}
+use Rattle.orders.proofs.Lists.{All, all-getD, take-again}
+use Rattle.orders.proofs.Sorted.{rest-start, rest-next, IsOf, listed-are, listed-rising, listed-grown}
+use Rattle.orders.proofs.Meaning.{listed-has}
+
+le-or-more : (a b : ℕ) → (a ≤ b) ⊎ (b < a)
+le-or-more a b = go (leb a b) refl
+  where
+    go : (u : Bool) → leb a b ≡ u → (a ≤ b) ⊎ (b < a)
+    go true p = inl (leb-true a b p)
+    go false p = inr (leb-false a b p)
+
+-- behind an item, in a snapshot
+abbrev pub placeAt : ℕ → Item → Place
+placeAt n a = After n (markOf a)
 
 -- where the next page starts, when the items of l have been shown of the order of the first n claims
 unfoldable pub placeAfter : ℕ → List Item → Place
@@ -25,13 +39,6 @@ placeAfter n (a ∷ l) = placeAt n (getD (a ∷ l) (length l) noItem)
 
 -- fronts of a list
 module _ (l : List Item) where
-  take-again : (n : ℕ) → take (length (take n l)) l ≡ take n l
-  take-again n =
-      ⊎-elim
-      (λ h. let e : min n (length l) ≡ n = omega arith in rw (length-take n l, e))
-      (λ h. let e : min n (length l) ≡ length l = omega arith in rw (length-take n l, e, take-length l, take-all n l (omega arith)))
-      (le-or-more n (length l))
-
   -- so many more, whether or not the front reached its end
   take-more : (n m : ℕ) → take (length (take n l) + m) l ≡ take (n + m) l
   take-more n m =
@@ -61,7 +68,7 @@ module _ (q : Query) (cs : List Claim) where
   pages-join i size =
       let n : ℕ = length (take i Listed) in
       ap (λ (l : List Item). take i Listed ++ l) (page-next i size)
-      ∙ ap (λ (l : List Item). l ++ take size (drop (length (take i Listed)) Listed)) (sym (take-again Listed i))
+      ∙ ap (λ (l : List Item). l ++ take size (drop (length (take i Listed)) Listed)) (sym (take-again i Listed))
       ∙ sym (take-add (length (take i Listed)) size Listed) ∙ take-more Listed i size
 
   -- the first pages, each asked for from the last item of the ones before

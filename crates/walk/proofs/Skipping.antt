@@ -16,7 +16,7 @@ use Rattle.paper.specs.Tree.{apart}
 use Rattle.measure.proofs.Laws.{distance-sym, distance-triangle}
 use Rattle.keep.specs.declared.Asked.{Asked}
 use Rattle.keep.specs.Skips.{admitted, capOf, halfOf, beyondOf, passedOf}
-use Rattle.keep.proofs.Keeping.{no-way}
+use Rattle.paper.proofs.Tests.{no-way}
 use Rattle.walk.specs.Walking.{distOf, distBy, apartBy, rankBy, Metric}
 
 -- the triangle inequality with symmetry, the three ways round

@@ -5,13 +5,14 @@ use mathlib.Core.Logic.{_⊎_, inl, inr, ⊎-elim}
 use mathlib.Core.Bool.{Bool, true, false, cond}
 use mathlib.Core.List.{List, []}
 use native.Mathlib.Omega.{arith}
-use native.Mathlib.Nat.{le-trans, mul-le-mul-right}
+use native.Mathlib.Nat.{le-trans}
 use lib.IntN.{ℤ}
 use lib.ListN.{length, take}
 use lib.Seq.{take-nil}
 use Rattle.paper.specs.Orders.{rank}
 use Rattle.paper.specs.Tree.{fieldAt}
-use Rattle.tree.specs.Rooms.{Linked, Under, here, deeper, Holds, Searchable, Located}
+use Rattle.tree.proofs.Places.{located-at}
+use Rattle.tree.specs.Rooms.{Linked, Under, here, deeper, Holds, Searchable}
 use Rattle.keep.specs.declared.Asked.{Asked}
 use Rattle.keep.specs.Page.{items, sortedOf, firstSorted}
 use Rattle.keep.specs.Kept.{none, Roomy, KeepIs}
@@ -235,12 +236,9 @@ node-falls used zero some = absurd (some refl)
 node-falls used (suc k) some = omega arith
 
 -- claim k has its d coordinates in the lent memory
-pub claim-inside : (d n k : ℕ) (coordinates : List ℤ) → Located d n coordinates → k < n → k * d + d ≤ length coordinates
-claim-inside d n k coordinates h hk = let p : suc k * d ≤ n * d = mul-le-mul-right d hk in omega (arith, h .inside)
-
 pub in-sight : (ask : Asked) (references : List ℕ) (coordinates probe : List ℤ) (k : ℕ) → Lent ask references coordinates probe → k < ask .claims → InSight (ask .d) k coordinates probe
 in-sight ask references coordinates probe k h hk =
-    record { narrow = h .located .narrow; inside = claim-inside (ask .d) (ask .claims) k coordinates (h .located) hk; aimed = h .aimed }
+    record { narrow = h .located .narrow; inside = located-at (ask .d) (ask .claims) k coordinates (h .located) hk; aimed = h .aimed }
 
 module _ (rooms references : List ℕ) (coordinates probe : List ℤ) (ask : Asked) (m : ℕ) (o₀ : List ℕ) (c₀ : ℕ) (h : NodeAsk rooms references coordinates probe ask m o₀ c₀)
     (s : ℕ) (hs : s < 2) (o : List ℕ) (count : ℕ) where

@@ -6,7 +6,8 @@ use lib.Dec.{lit≤}
 use lib.ListN.{length}
 use lib.Seq.{length-take-le}
 use Rattle.paper.specs.Tree.{store}
-use Rattle.desk.proofs.Telling.{scope-from, answerable, pageable, told-few, page-told}
+use Rattle.desk.proofs.Telling.{scope-from, pageable, told-few, page-told}
+use Rattle.walk.proofs.Answers.{good-answerable}
 use borrow.Author.Needs.{needs}
 use Rattle.desk.proofs.pages.tell_page.Statement.{statement}
 use Rattle.desk.proofs.pages.tell_page.Tie as tie
@@ -21,7 +22,7 @@ page-of-requires : tie.Need-page-of-requires
 page-of-requires c κs =
     let a = c .before .before .before .before .before .args in
     let s = store (a .t) (a .references .now) (a .coordinates .now) (a .rooms .now) in (
-      answerable s (a .probe .now) (c .before .before .before .before .before .pre .asking .isOpen .good) (c .before .before .before .before .before .pre .asking .aimed),
+      good-answerable s (c .before .before .before .before .before .pre .asking .isOpen .good) (a .probe .now) (c .before .before .before .before .before .pre .asking .aimed),
       pageable s (a .probe .now) (a .p) (a .size) (length (a .out .now)) (c .before .before .before .before .before .pre) _ _ (c .before .place-in .ensures) (lit≤ tt),
     )
 
