@@ -2,7 +2,6 @@
 ghost use mathlib.Core.Path.{_≡_};
 ghost use Prim.Native.Nat.{_<_};
 ghost use lib.ListN.{length};
-ghost use Rattle.paper.specs.Tree.{inRange};
 ghost use Rattle.paper.specs.Lists.{held, soundHeld};
 ghost use Rattle.tablet.specs.Holding.{startedBy, fieldsHold};
 use crate::items::items_hold;
@@ -10,22 +9,7 @@ use crate::probes::unused_zero;
 use paper::lists::List;
 use paper::orders::Order;
 use paper::orders::Place;
-use paper::points::Measure;
-
-pub fn in_range(measure: u8, d: usize) -> bool
-    ensures { λ r. ⌜ r ≡ inRange measure d ⌝ }
-{
-    if measure < Measure::FIRST {
-        return false;
-    }
-    if Measure::LAST < measure {
-        return false;
-    }
-    if d < 1 {
-        return false;
-    }
-    d <= 8
-}
+use paper::tables::in_range;
 
 fn started_well(started: bool, count: usize, snapshot: u64, complete: bool) -> bool
     ensures { λ r. ⌜ r ≡ startedBy started count snapshot complete ⌝ }

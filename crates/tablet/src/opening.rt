@@ -6,9 +6,9 @@ ghost use lib.IntN.{pos};
 ghost use lib.ListN.{length, replicate};
 ghost use Rattle.paper.specs.Lists.{noList, openingHeld, openedTold};
 ghost use Rattle.tablet.specs.Holding.{asNear};
-use crate::lists::in_range;
 use paper::lists::List;
 use paper::lists::Opened;
+use paper::tables::in_range;
 
 // A probe in eight places, the unused ones 0.
 fn padded(probe: &[i32]) -> [i32; 8]

@@ -3,36 +3,18 @@ ghost use mathlib.Core.Path.{_≡_};
 ghost use Prim.Native.Nat.{ℕ, _*_, _≤_};
 ghost use mathlib.Core.List.{List};
 ghost use lib.ListN.{length};
-ghost use Rattle.paper.specs.Tree.{grown, built, apart, store, inRange, fits, sameFront, sound};
+ghost use Rattle.paper.specs.Tree.{grown, built, apart, store, fits, sameFront, sound};
 ghost use Rattle.tree.specs.Rooms.{Located};
 ghost use Rattle.tree.specs.Soundness.{Lent};
 use super::entering::enter;
 use paper::tables::Table;
-
-// Whether measure and d are in range.
-pub fn is_in_range(measure: u8, d: usize) -> bool
-    ensures { λ r. ⌜ r ≡ inRange measure d ⌝ }
-{
-    if measure < 1 {
-        return false;
-    }
-    if 3 < measure {
-        return false;
-    }
-    if d < 1 {
-        return false;
-    }
-    if 8 < d {
-        return false;
-    }
-    true
-}
+use paper::tables::in_range;
 
 // Whether the table is in range, and the lent memory holds what it needs.
 pub fn is_fit(t: Table, references: &[u32], coordinates: &[i32], rooms: &[u64]) -> bool
     ensures { λ r. ⌜ r ≡ fits (store t (now (references .entry)) (now (coordinates .entry)) (now (rooms .entry))) ⌝ }
 {
-    if !is_in_range(t.measure, t.d) {
+    if !in_range(t.measure, t.d) {
         return false;
     }
     let c = t.capacity;

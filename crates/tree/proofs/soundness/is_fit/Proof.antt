@@ -8,48 +8,48 @@ use Rattle.tree.proofs.Known.{range-is, few-places}
 use Rattle.tree.proofs.soundness.is_fit.Statement.{statement}
 use Rattle.tree.proofs.soundness.is_fit.Tie as tie
 
-is-in-range-requires : tie.Need-is-in-range-requires
-is-in-range-requires c κs = search needs
+in-range-requires : tie.Need-in-range-requires
+in-range-requires c κs = search needs
 
 returns : tie.Need-returns
 unfolding fits
-returns c = simp (sym (c .before .is-in-range .ensures) ∙ not-true _ (c .if1 .taken))
+returns c = simp (sym (c .before .in-range .ensures) ∙ not-true _ (c .if1 .taken))
 
 returns-2 : tie.Need-returns-2
 unfolding fits
-returns-2 c = simp (sym (c .before .before .is-in-range .ensures) ∙ not-false _ (c .before .if1 .left), lt-leb _ _ (c .if2 .taken))
+returns-2 c = simp (sym (c .before .before .in-range .ensures) ∙ not-false _ (c .before .if1 .left), lt-leb _ _ (c .if2 .taken))
 
 returns-3 : tie.Need-returns-3
 unfolding fits
-returns-3 c = simp (sym (c .before .before .before .is-in-range .ensures) ∙ not-false _ (c .before .before .if1 .left), le-leb _ _ (c .before .if2 .left), lt-leb _ _ (c .if3 .taken))
+returns-3 c = simp (sym (c .before .before .before .in-range .ensures) ∙ not-false _ (c .before .before .if1 .left), le-leb _ _ (c .before .if2 .left), lt-leb _ _ (c .if3 .taken))
 
 returns-4 : tie.Need-returns-4
 unfolding fits
-returns-4 c = simp (sym (c .before .before .before .before .is-in-range .ensures) ∙ not-false _ (c .before .before .before .if1 .left), le-leb _ _ (c .before .before .if2 .left), le-leb _ _ (c .before .if3 .left), lt-leb _ _ (c .if4 .taken))
+returns-4 c = simp (sym (c .before .before .before .before .in-range .ensures) ∙ not-false _ (c .before .before .before .if1 .left), le-leb _ _ (c .before .before .if2 .left), le-leb _ _ (c .before .if3 .left), lt-leb _ _ (c .if4 .taken))
 
 mul-if5 : tie.Need-mul-if5
-mul-if5 c = let t = c .before .before .before .before .before .before .before .before .args .t in record { fits = omega (arith, few-places (t .capacity) (t .d) (omega arith) (range-is (t .measure) (t .d) (sym (c .before .before .before .before .before .is-in-range .ensures) ∙ not-false _ (c .before .before .before .before .if1 .left)) .narrow)) }
+mul-if5 c = let t = c .before .before .before .before .before .before .before .before .args .t in record { fits = omega (arith, few-places (t .capacity) (t .d) (omega arith) (range-is (t .measure) (t .d) (sym (c .before .before .before .before .before .in-range .ensures) ∙ not-false _ (c .before .before .before .before .if1 .left)) .narrow)) }
 
 returns-5 : tie.Need-returns-5
 unfolding fits
-returns-5 c = simp (sym (c .before .before .before .before .before .before .is-in-range .ensures) ∙ not-false _ (c .before .before .before .before .before .if1 .left), le-leb _ _ (c .before .before .before .before .if2 .left), le-leb _ _ (c .before .before .before .if3 .left), le-leb _ _ (c .before .before .if4 .left), lt-leb _ _ (c .if5 .taken))
+returns-5 c = simp (sym (c .before .before .before .before .before .before .in-range .ensures) ∙ not-false _ (c .before .before .before .before .before .if1 .left), le-leb _ _ (c .before .before .before .before .if2 .left), le-leb _ _ (c .before .before .before .if3 .left), le-leb _ _ (c .before .before .if4 .left), lt-leb _ _ (c .if5 .taken))
 
 mul-if6 : tie.Need-mul-if6
 mul-if6 c = search needs
 
 returns-6 : tie.Need-returns-6
 unfolding fits
-returns-6 c = simp (sym (c .before .before .before .before .before .before .before .is-in-range .ensures) ∙ not-false _ (c .before .before .before .before .before .before .if1 .left), le-leb _ _ (c .before .before .before .before .before .if2 .left), le-leb _ _ (c .before .before .before .before .if3 .left), le-leb _ _ (c .before .before .before .if4 .left), le-leb _ _ (c .before .if5 .left), lt-leb _ _ (c .if6 .taken))
+returns-6 c = simp (sym (c .before .before .before .before .before .before .before .in-range .ensures) ∙ not-false _ (c .before .before .before .before .before .before .if1 .left), le-leb _ _ (c .before .before .before .before .before .if2 .left), le-leb _ _ (c .before .before .before .before .if3 .left), le-leb _ _ (c .before .before .before .if4 .left), le-leb _ _ (c .before .if5 .left), lt-leb _ _ (c .if6 .taken))
 
 returns-7 : tie.Need-returns-7
 unfolding fits
-returns-7 c = simp (sym (c .before .before .before .before .before .before .before .is-in-range .ensures) ∙ not-false _ (c .before .before .before .before .before .before .if1 .left), le-leb _ _ (c .before .before .before .before .before .if2 .left), le-leb _ _ (c .before .before .before .before .if3 .left), le-leb _ _ (c .before .before .before .if4 .left), le-leb _ _ (c .before .if5 .left), le-leb _ _ (c .if6 .left))
+returns-7 c = simp (sym (c .before .before .before .before .before .before .before .in-range .ensures) ∙ not-false _ (c .before .before .before .before .before .before .if1 .left), le-leb _ _ (c .before .before .before .before .before .if2 .left), le-leb _ _ (c .before .before .before .before .if3 .left), le-leb _ _ (c .before .before .before .if4 .left), le-leb _ _ (c .before .if5 .left), le-leb _ _ (c .if6 .left))
 
 pub is-fit-spec : {M : Type 1} → statement M
 is-fit-spec =
     tie.close
     (tie.spec
-    is-in-range-requires
+    in-range-requires
     returns
     returns-2
     returns-3
