@@ -1,0 +1,56 @@
+# shellcheck shell=sh
+# What the commands of this folder share; they read it with `.`. It finds the archive and builds programs under target/bench.
+
+root=$(cd "$(dirname "$0")/.." && pwd) || exit 1
+src=$root/bench/src
+out=$root/target/bench
+cc=${CC:-gcc}
+cxx=${CXX:-g++}
+mkdir -p "$out" || exit 1
+# Nothing is written beside the sources.
+export PYTHONDONTWRITEBYTECODE=1
+
+stop() {
+    printf 'bench: %s\n' "$1" >&2
+    exit 1
+}
+
+# The archive: NEARBY_ARCHIVE names it or its folder; otherwise it is proved and made.
+find_archive() {
+    archive=${NEARBY_ARCHIVE:-}
+    if [ -z "$archive" ]; then
+        printf 'bench: making the archive (this proves what is below it, once)\n' >&2
+        (cd "$root" && rt staticlib nearby_c) >"$out/archive.log" 2>&1 || stop "the archive could not be made: see $out/archive.log"
+        archive=$root/target/staticlib
+    fi
+    [ -d "$archive" ] && archive=$archive/libnearby_c.a
+    [ -f "$archive" ] || stop "there is no archive $archive"
+}
+
+# Compiles src/NAME.c or src/NAME.cpp to target/bench/NAME.o.
+compile() { # file, flags
+    file=$1
+    shift
+    set -- "$@" -Wall -Wextra -Werror -I"$root/bindings/c" -c "$src/$file" -o "$out/${file%.*}.o"
+    if [ "${file##*.}" = cpp ]; then
+        "$cxx" -std=c++17 "$@"
+    else
+        "$cc" -std=gnu11 "$@"
+    fi || stop "$file could not be compiled"
+}
+
+# Links target/bench/PROGRAM from objects and the archive.
+link() { # program, object names
+    program=$1
+    shift
+    for name; do
+        shift
+        set -- "$@" "$out/$name.o"
+    done
+    "$cxx" "$@" "$archive" -lm -o "$out/$program" || stop "$program could not be linked"
+}
+
+# Puts what stands in a file between the two marks of a section of docs/PERFORMANCE.md.
+document() { # section, file
+    python3 "$root/bench/report/document.py" "$root/docs/PERFORMANCE.md" "$1" "$2" || exit 1
+}

@@ -1,0 +1,37 @@
+/* A cell of the grid: a table's claims, and the questions about them that every contestant answers. */
+#ifndef BENCH_CELL_H
+#define BENCH_CELL_H
+
+#include "nearby.h"
+
+/* Questions in a batch. A cell holds the same batch twice, so that the time of both less the time of one is what these questions
+ * cost without what a call costs. */
+enum { QUESTIONS = 512, ALL_QUESTIONS = 2 * QUESTIONS };
+
+/* Numbers in a row: of a place, of what nearest and farthest find, of a page's outcome, of a page's items. */
+enum { PLACE = 4, FOUND = 4, OUTCOME = 3, ITEMS = NEARBY_MOST_PAGE * NEARBY_ITEM };
+
+enum spread { UNIFORM, CLUSTERED, SORTED, MILLION };
+
+enum { TABLE_NUMBER = 7 };
+
+struct cell {
+    size_t n, d;
+    uint8_t measure;
+    enum spread spread;
+    uint32_t references[NEARBY_MOST_CLAIMS];
+    int32_t coordinates[NEARBY_MOST_CLAIMS * NEARBY_MOST_PLACES];
+    int32_t probes[ALL_QUESTIONS * NEARBY_MOST_PLACES];
+    uint64_t reaches[ALL_QUESTIONS];
+    /* The places of first pages, all at the start, and of fifth pages, behind the last item of the fourth. */
+    uint64_t first_places[ALL_QUESTIONS * PLACE];
+    uint64_t fifth_places[ALL_QUESTIONS * PLACE];
+    /* Ask lines, first and fifth pages by turns, each of `ask_length` characters. */
+    uint8_t asks[ALL_QUESTIONS * NEARBY_ASK_LINE];
+    size_t ask_length;
+};
+
+/* Fills a cell. The same arguments give the same cell on every machine. */
+void make_cell(struct cell *cell, size_t n, size_t d, uint8_t measure, enum spread spread);
+
+#endif

@@ -1,0 +1,61 @@
+/* The library, through its calls for many questions, which test the table once a call. */
+#include "ours.h"
+
+#include <stdlib.h>
+
+void *our_table(const struct cell *cell)
+{
+    struct our_table *t = need(sizeof *t);
+    nearby_tabled made = nearby_make_table(TABLE_NUMBER, cell->measure, cell->d, cell->n, t->references, cell->n, t->coordinates,
+                                           cell->n * cell->d, t->rooms, cell->n * NEARBY_ROOM);
+    if (made.refusal == 0)
+        made = nearby_enter(made.table, t->references, cell->n, t->coordinates, cell->n * cell->d, t->rooms, cell->n * NEARBY_ROOM,
+                            cell->references, cell->n, cell->coordinates, cell->n * cell->d);
+    if (made.refusal != 0)
+        fail("entering was refused: %s", nearby_refusal_meaning(made.refusal));
+    t->header = made.table;
+    return t;
+}
+
+static void many_answers(struct our_table *t, const struct cell *cell, size_t count, struct answers *answers)
+{
+    nearby_answered done = nearby_many_answers(OUR_TABLE(t), cell->asks, count * cell->ask_length, answers->outcomes, 2 * count,
+                                               answers->lines, sizeof answers->lines);
+    if (done.refusal != 0 || done.lines != count)
+        fail("nearby_many_answers: refusal %u after %zu of %zu lines", done.refusal, done.lines, count);
+    answers->lines_length = done.written;
+}
+
+static void ask(void *table, const struct cell *cell, enum question question, size_t count, struct answers *answers)
+{
+    struct our_table *t = table;
+    const size_t places = count * cell->d;
+    uint8_t refusal = 0;
+    switch (question) {
+    case NEAREST:
+        refusal = nearby_many_nearest(OUR_TABLE(t), cell->probes, places, cell->reaches, count, answers->found, count * FOUND);
+        break;
+    case FARTHEST:
+        refusal = nearby_many_farthest(OUR_TABLE(t), cell->probes, places, count, answers->found, count * FOUND);
+        break;
+    case FIRST_PAGE:
+    case FIFTH_PAGE:
+        refusal = nearby_many_pages(OUR_TABLE(t), cell->probes, places, cell->reaches, count,
+                                    question == FIRST_PAGE ? cell->first_places : cell->fifth_places, count * PLACE,
+                                    NEARBY_MOST_PAGE, answers->outcomes, count * OUTCOME, answers->items, count * ITEMS);
+        break;
+    default:
+        many_answers(t, cell, count, answers);
+    }
+    if (refusal != 0)
+        fail("a call for many questions was refused: %s", nearby_refusal_meaning(refusal));
+}
+
+static int can(const struct cell *cell, enum question question)
+{
+    (void)cell;
+    (void)question;
+    return 1;
+}
+
+const struct contestant ours = { "ours", 1, can, our_table, free, ask };

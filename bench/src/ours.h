@@ -1,0 +1,22 @@
+/* A table of the library with the memory that it is lent. */
+#ifndef BENCH_OURS_H
+#define BENCH_OURS_H
+
+#include "contestant.h"
+
+struct our_table {
+    nearby_table header;
+    uint32_t references[NEARBY_MOST_CLAIMS];
+    int32_t coordinates[NEARBY_MOST_CLAIMS * NEARBY_MOST_PLACES];
+    uint64_t rooms[NEARBY_MOST_CLAIMS * NEARBY_ROOM];
+};
+
+/* A table as the first arguments of a call. */
+#define OUR_TABLE(t)                                                                                         \
+    (t)->header, (t)->references, (t)->header.capacity, (t)->coordinates, (t)->header.capacity * (t)->header.d, \
+        (t)->rooms, (t)->header.capacity * NEARBY_ROOM
+
+/* Makes a table and enters the claims of a cell in one run. */
+void *our_table(const struct cell *cell);
+
+#endif

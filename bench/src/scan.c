@@ -1,0 +1,77 @@
+#include "scan.h"
+
+#include "office.h"
+#include "scanning.h"
+
+#include <stdlib.h>
+#include <string.h>
+
+static void *enter(const struct cell *cell)
+{
+    size_t references = cell->n * sizeof *cell->references;
+    size_t coordinates = cell->n * cell->d * sizeof *cell->coordinates;
+    struct scan *t = need(sizeof *t + coordinates + references);
+    int32_t *places = (int32_t *)(t + 1);
+    uint32_t *given = (uint32_t *)(places + cell->n * cell->d);
+    memcpy(places, cell->coordinates, coordinates);
+    memcpy(given, cell->references, references);
+    *t = (struct scan){ cell->n, cell->d, cell->measure, given, places };
+    return t;
+}
+
+static void scan_nearest(const struct scan *t, const int32_t *probe, uint64_t reach, uint64_t *row)
+{
+    switch (t->measure) {
+    case NEARBY_CITY_BLOCK: scan_nearest_by(t, NEARBY_CITY_BLOCK, t->d, probe, reach, row); break;
+    case NEARBY_MAXIMUM: scan_nearest_by(t, NEARBY_MAXIMUM, t->d, probe, reach, row); break;
+    default: scan_nearest_by(t, NEARBY_HAMMING, t->d, probe, reach, row);
+    }
+}
+
+static void scan_farthest(const struct scan *t, const int32_t *probe, uint64_t *row)
+{
+    switch (t->measure) {
+    case NEARBY_CITY_BLOCK: scan_farthest_by(t, NEARBY_CITY_BLOCK, t->d, probe, row); break;
+    case NEARBY_MAXIMUM: scan_farthest_by(t, NEARBY_MAXIMUM, t->d, probe, row); break;
+    default: scan_farthest_by(t, NEARBY_HAMMING, t->d, probe, row);
+    }
+}
+
+void scan_page(const void *table, const int32_t *probe, uint64_t reach, const uint64_t *place, size_t size,
+               uint64_t *outcome, uint64_t *items)
+{
+    const struct scan *t = table;
+    switch (t->measure) {
+    case NEARBY_CITY_BLOCK: scan_page_by(t, NEARBY_CITY_BLOCK, t->d, probe, reach, place, size, outcome, items); break;
+    case NEARBY_MAXIMUM: scan_page_by(t, NEARBY_MAXIMUM, t->d, probe, reach, place, size, outcome, items); break;
+    default: scan_page_by(t, NEARBY_HAMMING, t->d, probe, reach, place, size, outcome, items);
+    }
+}
+
+static void ask(void *table, const struct cell *cell, enum question question, size_t count, struct answers *answers)
+{
+    if (question == OFFICE) {
+        answer_asks(scan_page, table, cell, count, answers);
+        return;
+    }
+    const uint64_t *places = question == FIFTH_PAGE ? cell->fifth_places : cell->first_places;
+    for (size_t i = 0; i < count; i++) {
+        const int32_t *probe = &cell->probes[i * cell->d];
+        if (question == NEAREST)
+            scan_nearest(table, probe, cell->reaches[i], &answers->found[i * FOUND]);
+        else if (question == FARTHEST)
+            scan_farthest(table, probe, &answers->found[i * FOUND]);
+        else
+            scan_page(table, probe, cell->reaches[i], &places[i * PLACE], NEARBY_MOST_PAGE,
+                      &answers->outcomes[i * OUTCOME], &answers->items[i * ITEMS]);
+    }
+}
+
+static int can(const struct cell *cell, enum question question)
+{
+    (void)cell;
+    (void)question;
+    return 1;
+}
+
+const struct contestant plain_scan = { "plain scan", 1, can, enter, free, ask };

@@ -1,0 +1,159 @@
+/* The least stack on which each call survives 4,096 claims that are all alike, which make the deepest tree. A call runs in a child
+ * process on a stack of so many bytes with nothing below it; a child that dies had too little. */
+#include "ours.h"
+
+#include <stdio.h>
+#include <stdlib.h>
+#include <string.h>
+#include <sys/mman.h>
+#include <sys/resource.h>
+#include <sys/wait.h>
+#include <ucontext.h>
+#include <unistd.h>
+
+enum { MOST_STACK = 4 << 20, GUARD = 16 << 20, STEP = 256 };
+
+static struct cell cell;
+static struct our_table *table;
+static struct answers given;
+
+/* ---- The calls ---- */
+
+static void test(void)
+{
+    if (nearby_test_table(OUR_TABLE(table)) != 0)
+        _exit(2);
+}
+
+static void enter(void)
+{
+    free(our_table(&cell));
+}
+
+static void nearest(void)
+{
+    if (nearby_nearest(OUR_TABLE(table), cell.probes, cell.d, UINT64_MAX).found != 1)
+        _exit(2);
+}
+
+static void farthest(void)
+{
+    if (nearby_farthest(OUR_TABLE(table), cell.probes, cell.d).found != 1)
+        _exit(2);
+}
+
+static void page(void)
+{
+    nearby_start start = { 0, 0, 0, 0 };
+    if (nearby_page(OUR_TABLE(table), cell.probes, cell.d, UINT64_MAX, start, NEARBY_MOST_PAGE, given.items, ITEMS).count
+        != NEARBY_MOST_PAGE)
+        _exit(2);
+}
+
+static void answer(void)
+{
+    if (nearby_answer(OUR_TABLE(table), cell.asks, cell.ask_length, given.lines, sizeof given.lines).refusal != 0)
+        _exit(2);
+}
+
+static void many_nearest(void) { ours.ask(table, &cell, NEAREST, 2, &given); }
+static void many_farthest(void) { ours.ask(table, &cell, FARTHEST, 2, &given); }
+static void many_pages(void) { ours.ask(table, &cell, FIRST_PAGE, 2, &given); }
+static void many_answers(void) { ours.ask(table, &cell, OFFICE, 2, &given); }
+
+static const struct {
+    const char *name;
+    void (*call)(void);
+} calls[] = {
+    { "nearby_test_table", test },
+    { "nearby_enter", enter },
+    { "nearby_nearest", nearest },
+    { "nearby_farthest", farthest },
+    { "nearby_page", page },
+    { "nearby_answer", answer },
+    { "nearby_many_nearest", many_nearest },
+    { "nearby_many_farthest", many_farthest },
+    { "nearby_many_pages", many_pages },
+    { "nearby_many_answers", many_answers },
+};
+
+/* ---- Stacks ---- */
+
+/* The top of MOST_STACK bytes of stack. */
+static char *stack_top;
+
+/* The guard is wider than any frame, so that a frame cannot step over it. */
+static void make_stack(void)
+{
+    char *all = mmap(NULL, GUARD + MOST_STACK, PROT_READ | PROT_WRITE, MAP_PRIVATE | MAP_ANONYMOUS | MAP_NORESERVE, -1, 0);
+    if (all == MAP_FAILED || mprotect(all, GUARD, PROT_NONE) != 0)
+        fail("no memory for a stack");
+    stack_top = all + GUARD + MOST_STACK;
+}
+
+/* Whether a call survives on so many bytes. The child's stack ends at the guard; what is not wanted of it stands above the call. */
+static int survives(void (*call)(void), size_t bytes)
+{
+    pid_t child = fork();
+    if (child < 0)
+        fail("cannot start a process");
+    if (child == 0) {
+        ucontext_t caller, callee;
+        const struct rlimit none = { 0, 0 };
+        setrlimit(RLIMIT_CORE, &none);
+        getcontext(&callee);
+        callee.uc_stack.ss_sp = stack_top - MOST_STACK;
+        callee.uc_stack.ss_size = bytes;
+        callee.uc_link = &caller;
+        makecontext(&callee, call, 0);
+        swapcontext(&caller, &callee);
+        _exit(0);
+    }
+    int status;
+    waitpid(child, &status, 0);
+    if (WIFEXITED(status) && WEXITSTATUS(status) != 0)
+        fail("a call gave a wrong answer");
+    return WIFEXITED(status);
+}
+
+static size_t least_stack(void (*call)(void))
+{
+    size_t dies = 0, lives = MOST_STACK;
+    if (!survives(call, lives))
+        fail("a call does not survive %d bytes of stack", MOST_STACK);
+    while (lives - dies > STEP) {
+        size_t middle = (dies + lives) / 2 / STEP * STEP;
+        if (survives(call, middle))
+            lives = middle;
+        else
+            dies = middle;
+    }
+    return lives;
+}
+
+/* Claims that are all alike make a chain, two claims to a level. */
+static void enter_alike(size_t n)
+{
+    make_cell(&cell, n, 2, NEARBY_CITY_BLOCK, UNIFORM);
+    for (size_t k = 0; k < n; k++)
+        memcpy(&cell.coordinates[k * 2], cell.coordinates, 2 * sizeof *cell.coordinates);
+    table = our_table(&cell);
+}
+
+int main(void)
+{
+    enum { CALLS = sizeof calls / sizeof *calls, LEVELS = NEARBY_MOST_CLAIMS / 2 };
+    size_t half[CALLS], whole[CALLS];
+    make_stack();
+    enter_alike(NEARBY_MOST_CLAIMS / 2);
+    for (size_t i = 0; i < CALLS; i++)
+        half[i] = least_stack(calls[i].call);
+    enter_alike(NEARBY_MOST_CLAIMS);
+    for (size_t i = 0; i < CALLS; i++)
+        whole[i] = least_stack(calls[i].call);
+    printf("%d claims that are all alike, %d levels\n", NEARBY_MOST_CLAIMS, LEVELS);
+    printf("%-22s %10s %22s\n", "call", "stack KiB", "bytes for each level");
+    for (size_t i = 0; i < CALLS; i++)
+        printf("%-22s %10.1f %22.1f\n", calls[i].name, (double)whole[i] / 1024,
+               ((double)whole[i] - (double)half[i]) / (LEVELS / 2));
+}

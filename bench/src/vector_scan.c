@@ -1,0 +1,230 @@
+/* A scan that the compiler vectorizes: -O3 for the machine at hand, a column for each coordinate, no branch in the loops over claims.
+ * A claim's distance and number are one number, its key, so that the least key is the first claim in near order. */
+#include "office.h"
+
+#include <stdlib.h>
+#include <string.h>
+
+/* Claims are taken a block at a time: its keys stay in the nearest cache, and the loops have a fixed length. */
+enum { BLOCK = 64, NUMBER_BITS = 12, NUMBERS = 1 << NUMBER_BITS };
+
+/* Greater than every key. Keys are signed, since more machines compare these in vectors. */
+#define NONE INT64_MAX
+
+struct columns {
+    size_t n, d, stride;
+    uint8_t measure;
+    const uint32_t *references;
+    const int32_t *coordinates;
+};
+
+static void *enter(const struct cell *cell)
+{
+    size_t stride = (cell->n + BLOCK - 1) / BLOCK * BLOCK;
+    struct columns *t = need(sizeof *t + stride * cell->d * sizeof(int32_t) + cell->n * sizeof(uint32_t));
+    int32_t *columns = (int32_t *)(t + 1);
+    uint32_t *references = (uint32_t *)(columns + stride * cell->d);
+    for (size_t j = 0; j < cell->d; j++) {
+        for (size_t k = 0; k < cell->n; k++)
+            columns[j * stride + k] = cell->coordinates[k * cell->d + j];
+        memset(&columns[j * stride + cell->n], 0, (stride - cell->n) * sizeof *columns);
+    }
+    memcpy(references, cell->references, cell->n * sizeof *references);
+    *t = (struct columns){ cell->n, cell->d, stride, cell->measure, references, columns };
+    return t;
+}
+
+static inline uint32_t gap(int32_t a, int32_t b)
+{
+    return a > b ? (uint32_t)a - (uint32_t)b : (uint32_t)b - (uint32_t)a;
+}
+
+static void add_gaps(const int32_t *column, int32_t place, uint64_t *restrict x)
+{
+    for (size_t k = 0; k < BLOCK; k++)
+        x[k] += gap(column[k], place);
+}
+
+static void widen_gaps(const int32_t *column, int32_t place, uint64_t *restrict x)
+{
+    for (size_t k = 0; k < BLOCK; k++) {
+        uint64_t y = gap(column[k], place);
+        x[k] = x[k] > y ? x[k] : y;
+    }
+}
+
+static void count_gaps(const int32_t *column, int32_t place, uint64_t *restrict x)
+{
+    for (size_t k = 0; k < BLOCK; k++)
+        x[k] += column[k] != place;
+}
+
+static void block_distances(const struct columns *t, size_t from, const int32_t *probe, uint64_t *restrict x)
+{
+    memset(x, 0, BLOCK * sizeof *x);
+    for (size_t j = 0; j < t->d; j++) {
+        const int32_t *column = &t->coordinates[j * t->stride + from];
+        if (t->measure == NEARBY_CITY_BLOCK)
+            add_gaps(column, probe[j], x);
+        else if (t->measure == NEARBY_MAXIMUM)
+            widen_gaps(column, probe[j], x);
+        else
+            count_gaps(column, probe[j], x);
+    }
+}
+
+/* What a question admits: claims with numbers below the snapshot and keys from `least` to `most`. */
+struct admitted {
+    int64_t snapshot, least, most;
+};
+
+/* The keys of a block's claims, NONE for those that are not admitted. Gives the least. */
+static int64_t block_keys(const struct columns *t, size_t from, const int32_t *probe, struct admitted a, int64_t *restrict keys)
+{
+    uint64_t x[BLOCK];
+    int64_t first = NONE;
+    block_distances(t, from, probe, x);
+    for (int64_t k = 0; k < BLOCK; k++) {
+        int64_t number = (int64_t)from + k, key = (int64_t)x[k] << NUMBER_BITS | number;
+        int out = (number >= a.snapshot) | (key < a.least) | (key > a.most);
+        keys[k] = out ? NONE : key;
+    }
+    for (size_t k = 0; k < BLOCK; k++)
+        first = keys[k] < first ? keys[k] : first;
+    return first;
+}
+
+/* The last key within reach. Every distance is under 2^36. */
+static int64_t last_key(uint64_t reach)
+{
+    return reach >> 36 != 0 ? NONE : (int64_t)(reach << NUMBER_BITS | (NUMBERS - 1));
+}
+
+static void put_found(const struct columns *t, int64_t number, int64_t distance, uint64_t *row)
+{
+    row[0] = 1;
+    row[1] = (uint64_t)number;
+    row[2] = t->references[number];
+    row[3] = (uint64_t)distance;
+}
+
+static void nearest(const struct columns *t, const int32_t *probe, uint64_t reach, uint64_t *row)
+{
+    const struct admitted all = { (int64_t)t->n, 0, last_key(reach) };
+    int64_t keys[BLOCK], best = NONE;
+    for (size_t from = 0; from < t->n; from += BLOCK) {
+        int64_t first = block_keys(t, from, probe, all, keys);
+        best = first < best ? first : best;
+    }
+    if (best != NONE)
+        put_found(t, best % NUMBERS, best >> NUMBER_BITS, row);
+}
+
+/* The farthest has the largest key, with numbers turned round for the smallest of equals. */
+static void farthest(const struct columns *t, const int32_t *probe, uint64_t *row)
+{
+    uint64_t x[BLOCK];
+    int64_t keys[BLOCK], best = -1;
+    for (size_t from = 0; from < t->n; from += BLOCK) {
+        block_distances(t, from, probe, x);
+        for (int64_t k = 0; k < BLOCK; k++) {
+            int64_t number = (int64_t)from + k, key = (int64_t)x[k] << NUMBER_BITS | (NUMBERS - 1 - number);
+            keys[k] = number < (int64_t)t->n ? key : -1;
+        }
+        for (size_t k = 0; k < BLOCK; k++)
+            best = keys[k] > best ? keys[k] : best;
+    }
+    if (best >= 0)
+        put_found(t, NUMBERS - 1 - best % NUMBERS, best >> NUMBER_BITS, row);
+}
+
+/* The least keys so far, in order, and the least key that is out of the page. */
+struct kept {
+    int64_t keys[NEARBY_MOST_PAGE], out;
+    size_t count, size;
+};
+
+static void keep_key(struct kept *kept, int64_t key)
+{
+    size_t at = kept->count < kept->size ? kept->count++ : kept->size - 1;
+    for (; at > 0 && key < kept->keys[at - 1]; at--)
+        kept->keys[at] = kept->keys[at - 1];
+    kept->keys[at] = key;
+    if (kept->count == kept->size)
+        kept->out = kept->keys[kept->size - 1];
+}
+
+/* A block whose least key is out of the page is passed over whole. */
+static void keep_least(const struct columns *t, const int32_t *probe, struct admitted a, struct kept *kept)
+{
+    int64_t keys[BLOCK];
+    for (size_t from = 0; from < (size_t)a.snapshot; from += BLOCK) {
+        if (block_keys(t, from, probe, a, keys) >= kept->out)
+            continue;
+        for (const int64_t *key = keys; key < keys + BLOCK; key++)
+            if (*key < kept->out)
+                keep_key(kept, *key);
+    }
+}
+
+/* The distance of one claim, for the test of a mark. */
+static uint64_t distance_of(const struct columns *t, size_t number, const int32_t *probe)
+{
+    uint64_t x[BLOCK];
+    block_distances(t, number / BLOCK * BLOCK, probe, x);
+    return x[number % BLOCK];
+}
+
+static void page(const void *table, const int32_t *probe, uint64_t reach, const uint64_t *place, size_t size,
+                 uint64_t *outcome, uint64_t *items)
+{
+    const struct columns *t = table;
+    const int from = place[0] != 0;
+    const size_t snapshot = from ? place[1] : t->n;
+    struct kept kept = { .out = NONE, .count = 0, .size = size };
+    outcome[0] = outcome[1] = outcome[2] = 0;
+    if (snapshot > t->n)
+        outcome[0] = 7;
+    else if (from && (place[3] >= snapshot || place[2] > reach || distance_of(t, place[3], probe) != place[2]))
+        outcome[0] = 8;
+    if (outcome[0] != 0)
+        return;
+    const int64_t least = from ? (int64_t)(place[2] << NUMBER_BITS | place[3]) + 1 : 0;
+    const struct admitted a = { (int64_t)snapshot, least, last_key(reach) };
+    keep_least(t, probe, a, &kept);
+    for (size_t i = 0; i < kept.count; i++) {
+        items[i * NEARBY_ITEM] = (uint64_t)(kept.keys[i] % NUMBERS);
+        items[i * NEARBY_ITEM + 1] = t->references[kept.keys[i] % NUMBERS];
+        items[i * NEARBY_ITEM + 2] = (uint64_t)(kept.keys[i] >> NUMBER_BITS);
+    }
+    outcome[1] = kept.count;
+    outcome[2] = kept.count < size;
+}
+
+static void ask(void *table, const struct cell *cell, enum question question, size_t count, struct answers *answers)
+{
+    if (question == OFFICE) {
+        answer_asks(page, table, cell, count, answers);
+        return;
+    }
+    const uint64_t *places = question == FIFTH_PAGE ? cell->fifth_places : cell->first_places;
+    for (size_t i = 0; i < count; i++) {
+        const int32_t *probe = &cell->probes[i * cell->d];
+        if (question == NEAREST)
+            nearest(table, probe, cell->reaches[i], &answers->found[i * FOUND]);
+        else if (question == FARTHEST)
+            farthest(table, probe, &answers->found[i * FOUND]);
+        else
+            page(table, probe, cell->reaches[i], &places[i * PLACE], NEARBY_MOST_PAGE,
+                 &answers->outcomes[i * OUTCOME], &answers->items[i * ITEMS]);
+    }
+}
+
+static int can(const struct cell *cell, enum question question)
+{
+    (void)cell;
+    (void)question;
+    return 1;
+}
+
+const struct contestant vector_scan = { "vector scan", 1, can, enter, free, ask };
