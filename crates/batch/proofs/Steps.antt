@@ -20,7 +20,7 @@ use Rattle.nearby.proofs.CallLaws.{office-open, office-answers}
 use Rattle.batch.specs.declared.Answered.{Answered}
 use Rattle.batch.specs.declared.rows.Said.{Said}
 use Rattle.batch.specs.Batch.{cutAt, lineAt, Batch, answerNow, lengthSaid, rowPut, stepBy, step, goes, batchOf, Stands, Turning, saidBy}
-use Rattle.batch.proofs.Cutting.{cut-on, cut-inside}
+use Rattle.batch.proofs.Cutting.{cut-inside}
 
 -- ---- whether there is a line to answer
 
@@ -101,9 +101,6 @@ module _ (s : Store) (asks : List ℕ) (d : Answered) (outcomes out : List ℕ) 
   has = goes-room-for asks (batchOf d outcomes out) (t .more)
 
   module _ (e : ℕ) (ends : e ≡ d .used + cutAt (drop (d .used) asks)) where
-    pub end-after : d .used ≤ e
-    end-after = let h = cut-on asks (d .used) (has .unread) in omega arith
-
     pub end-inside : e ≤ length asks
     end-inside = let h = cut-inside asks (d .used) (has .unread) in omega arith
 

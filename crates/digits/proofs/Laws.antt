@@ -179,10 +179,6 @@ bytes-frame [] = tt
 bytes-frame (a ∷ []) = tt
 bytes-frame (a ∷ b ∷ l) = (omega arith, bytes-frame l)
 
--- a field of a line's frame is within its width
-pub field-lt : (l : List ℕ) (at w : ℕ) → num w (drop at (frameOf l)) < 256 ^ w
-field-lt l at w = num-lt w (drop at (frameOf l)) (bytes-drop at (frameOf l) (bytes-frame l))
-
 -- a byte of the frame, from its two characters
 pub frame-at : (l : List ℕ) (i : ℕ) → 2 * i + 1 < length l → getD (frameOf l) i 0 ≡ digit (getD l (2 * i) 0) % 16 * 16 + digit (getD l (2 * i + 1) 0) % 16
 unfolding frameOf
@@ -237,10 +233,6 @@ over-eq o at f = refl
 pub over-nil : (o : List ℕ) (at : ℕ) → over o at [] ≡ o
 unfolding over hexes
 over-nil o at = let e : 2 * at + 2 * 0 ≡ 2 * at = omega arith in rw (e, take-append-drop)
-
-pub length-over : (o : List ℕ) (at : ℕ) (f : List ℕ) → 2 * (at + length f) ≤ length o → length (over o at f) ≡ length o
-unfolding over
-length-over o at f h = simp (length-append, length-take, length-drop, length-hexes) (omega arith)
 
 -- what stands before the end of what was written over, and what stands behind it
 length-head : (o : List ℕ) (at : ℕ) (f : List ℕ) → 2 * (at + length f) ≤ length o → length (take (2 * at) o ++ hexes f) ≡ 2 * (at + length f)

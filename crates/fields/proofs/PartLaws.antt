@@ -4,7 +4,7 @@ use Prim.Native.Nat.{ℕ, zero, suc, _+_, _-_, _*_, _≤_, _<_}
 use native.Mathlib.Numerals.{add-one}
 use native.Mathlib.Omega.{arith}
 use mathlib.Core.Path.{_≡_, refl, sym, ap, _∙_}
-use mathlib.Core.Bool.{Bool, true, false, _&&_, _||_}
+use mathlib.Core.Bool.{true, _&&_, _||_}
 use mathlib.Core.List.{List, [], _∷_, _++_, append-assoc}
 use lib.ListN.{length, getD, drop, set, replicate, length-append}
 use lib.Seq.{drop-cons, drop-drop, set-at}
@@ -109,10 +109,6 @@ place-step f i h =
     (rw (← add-one i) (set-at (coordsIn i f) (pos 0) (replicate (8 - (i + 1)) (pos 0)) (toZ w32 (num 4 (drop (4 * i) f))) i (length-coordsIn i f)))
 
 -- ---- ranges
-
-pub refuted : (t : Bool) → (t ≡ true → ⊥) → t ≡ false
-refuted true h = absurd (h refl)
-refuted false h = refl
 
 pub record Ranged (m d : ℕ) : Type 0 where
   pub m-low : 1 ≤ m

@@ -8,7 +8,7 @@ use Rattle.paper.specs.Lines.{reading, askOk, askAt, anAsk, noAsk, askOf, answe
 use Rattle.paper.specs.declared.lines.AskRead.{AskRead}
 use Rattle.paper.specs.declared.lines.AnswerRead.{AnswerRead}
 use Rattle.paper.specs.declared.lines.ClaimRead.{ClaimRead}
-use Rattle.fields.proofs.PartLaws.{refuted}
+use Rattle.paper.proofs.Tests.{refuted}
 use Rattle.lines.proofs.Ways.{reads-10, accepted}
 use Rattle.lines.proofs.Tests.{is-ask, is-answer, is-claim}
 

@@ -7,7 +7,7 @@ use native.Mathlib.Nat.{div-lt-iff-lt-mul, le-div-iff-mul-le, mul-comm}
 use native.Mathlib.Omega.{arith}
 use lib.Dec.{leb, eqb}
 use lib.IntN.{ℤ}
-use lib.ListN.{length, set, take, drop, length-drop}
+use lib.ListN.{length, take, drop, length-drop}
 use lib.Seq.{sets, length-take-le}
 use borrow.Author.Tests.{le-leb, lt-leb, leb-true, eqb-true, not-true, not-false}
 use Rattle.paper.specs.Points.{point}
@@ -26,13 +26,6 @@ use Rattle.many.specs.Counts.{onMany, manyRefusal}
 use Rattle.many.specs.Many.{firstsCall, Answers, Many, One}
 
 -- ---- rows
-
-pub four : (l : List ℕ) (a w x y z : ℕ) → set (set (set (set l a w) (a + 1) x) (a + 2) y) (a + 3) z ≡ sets l a (w ∷ x ∷ y ∷ z ∷ [])
-four l a w x y z =
-    let p : a + 1 ≡ suc a = omega arith in
-    let q : a + 2 ≡ suc (suc a) = omega arith in
-    let r : a + 3 ≡ suc (suc (suc a)) = omega arith in
-    rw (p, q, r)
 
 pub rows-short : (n w room : ℕ) → 1 ≤ w → room / w < n → false ≡ leb (n * w) room
 rows-short n w room h s = sym (lt-leb (n * w) room (div-lt-iff-lt-mul h .0 s))

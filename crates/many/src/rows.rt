@@ -12,17 +12,6 @@ ghost use Rattle.many.specs.Pages.{pageRow};
 use paper::orders::Found;
 use paper::orders::Page;
 
-// Puts four numbers at a.
-fn put_four(out: &mut [u64], a: usize, w: u64, x: u64, y: u64, z: u64)
-    requires { ⌜ a + 4 ≤ length (now out) ⌝ }
-    ensures { λ _. ⌜ now (out .exit) ≡ sets (now (out .entry)) a (w ∷ x ∷ y ∷ z ∷ []) ⌝ }
-{
-    out[a] = w;
-    out[a + 1] = x;
-    out[a + 2] = y;
-    out[a + 3] = z;
-}
-
 // Puts three numbers at a.
 fn put_three(out: &mut [u64], a: usize, x: u64, y: u64, z: u64)
     requires { ⌜ a + 3 ≤ length (now out) ⌝ }
@@ -31,6 +20,15 @@ fn put_three(out: &mut [u64], a: usize, x: u64, y: u64, z: u64)
     out[a] = x;
     out[a + 1] = y;
     out[a + 2] = z;
+}
+
+// Puts four numbers at a.
+fn put_four(out: &mut [u64], a: usize, w: u64, x: u64, y: u64, z: u64)
+    requires { ⌜ a + 4 ≤ length (now out) ⌝ }
+    ensures { λ _. ⌜ now (out .exit) ≡ sets (now (out .entry)) a (w ∷ x ∷ y ∷ z ∷ []) ⌝ }
+{
+    out[a] = w;
+    put_three(out, a + 1, x, y, z);
 }
 
 // Row i: whether an item was found, and the item.

@@ -2,7 +2,6 @@
 use Prim.Native.Nat.{ℕ, _+_, _<_, _≤_}
 use mathlib.Core.Path.{_≡_, refl, sym, ap, _∙_}
 use mathlib.Core.List.{List, [], _++_}
-use mathlib.Core.Bool.{Bool, true, false}
 use mathlib.Core.Logic.{_⊎_, ⊎-elim}
 use native.Mathlib.Omega.{arith}
 use lib.Dec.{lit≤}
@@ -17,9 +16,6 @@ use Rattle.serve.specs.Serving.{booksOf, Ready}
 use Rattle.serve.specs.Feeding.{Set, Stands, Turning, Moved}
 use Rattle.serve.proofs.Moves.{fed-more, fed-stop}
 use Rattle.stream.specs.Stream.{anewOf, emptiedOf, opening, Reached, Roomy}
-
-pub never : (X : Type 0) → _≡_ {A = Bool} false true → X
-never X e = absurd (let z : _≡_ {A = ℕ} 0 1 = cc in omega arith)
 
 -- ---- a chunk
 

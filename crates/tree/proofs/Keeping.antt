@@ -127,12 +127,6 @@ above-holds used e rooms rooms' g m s c o w j hm hs p q p' near r h =
           (g .below m s hm hs (λ q. omega arith) ∙ r) (h .which) (h .under);
     }
 
--- more claims keep the links
-linked-more : (rooms : List ℕ) (used n m : ℕ) → n ≤ m → Linked rooms used n → Linked rooms used m
-unfolding Linked
-linked-more rooms used n m le h w hw =
-    record { left = h w hw .left; stored = λ s hs. le-trans (h w hw .stored s hs) le; rises = h w hw .rises; leads = h w hw .leads }
-
 -- a claim stored on the right keeps them
 linked-right : (rooms : List ℕ) (used k m : ℕ) → m * 6 + 1 < length rooms → Linked rooms used k → Linked (put rooms m 1 (k + 1)) used (k + 1)
 unfolding Linked

@@ -1,5 +1,5 @@
 -- What the numbers of a side say of the claims under it. Assumes nothing.
-use Prim.Native.Nat.{ℕ, zero, suc, _+_, _-_, _<_, _≤_}
+use Prim.Native.Nat.{ℕ, zero, suc, _+_, _-_, _<_}
 use mathlib.Core.Path.{_≡_}
 use mathlib.Core.Logic.{_⊎_, inl, inr}
 use mathlib.Core.List.{List}
@@ -16,17 +16,6 @@ module _ (rooms : List ℕ) (e : ℕ → ℕ → ℕ) (m s : ℕ) where
   pub only : (k j : ℕ) → fieldAt rooms m s ≡ k + 1 → fieldAt rooms m (4 + s) ≡ 0 → Under rooms e m s j → j ≡ k
   only k j at0 at4 (here p) = omega arith
   only k j at0 at4 (deeper l x w y p q f g r h u) = absurd (omega arith)
-
-  -- a claim under a side is the side's, or is within its far distance
-  pub near-or : (k j : ℕ) → fieldAt rooms m s ≡ k + 1 → Under rooms e m s j → (j ≡ k) ⊎ (e k j ≤ fieldAt rooms m (2 + s))
-  near-or k j at0 (here p) = inl (omega arith)
-  near-or k j at0 (deeper l x w y p q f g r h u) = let z : l ≡ k = omega arith in inr (rw (← z) q)
-
-  -- a claim under a side is the side's, or is held by the room below
-  pub below-or : (k w j : ℕ) → fieldAt rooms m s ≡ k + 1 → fieldAt rooms m (4 + s) ≡ w + 1 → Under rooms e m s j → (j ≡ k) ⊎ Holds rooms e w j
-  below-or k v j at0 at4 (here p) = inl (omega arith)
-  below-or k v j at0 at4 (deeper l x w y p q f g r h u) =
-      let z : w ≡ v = omega arith in inr (rw (← z) (record { side = y; which = h; under = u }))
 
 two-sides-at : (rooms : List ℕ) (e : ℕ → ℕ → ℕ) (m j s : ℕ) → s < 2 → Under rooms e m s j → Under rooms e m 0 j ⊎ Under rooms e m 1 j
 two-sides-at rooms e m j zero h u = inl u

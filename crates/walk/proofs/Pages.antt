@@ -9,12 +9,12 @@ use native.Mathlib.Omega.{arith}
 use lib.Dec.{leb}
 use lib.ListN.{length, take, drop, getD, length-take}
 use lib.Seq.{take-add, take-all, getD-take}
-use borrow.Author.Tests.{ltb-true, ltb-false, lt-ltb, le-leb, eq-eqb, leb-true, leb-false}
+use borrow.Author.Tests.{lt-ltb, le-leb, eq-eqb, leb-true, leb-false}
 use Rattle.paper.specs.declared.orders.Mark.{Mark}
 use Rattle.paper.specs.declared.orders.Place.{Place}
 use Rattle.paper.specs.declared.orders.Place.the-variants.{Start, After}
 use Rattle.paper.specs.Points.{measureOf, Claim, noClaim}
-use Rattle.paper.specs.Orders.{Item, noItem, Query, itemOf, listed, following, pageOf, lastOf, nothing, firstOf, nearestOf, farQuery, farthestOf, markHolds}
+use Rattle.paper.specs.Orders.{Item, noItem, Query, itemOf, listed, following, pageOf, nothing, firstOf, nearestOf, farQuery, farthestOf, markHolds}
 use Rattle.paper.specs.Ends.{markOf}
 use Rattle.measure.proofs.Laws.{In32, distance-most}
 use Rattle.orders.proofs.Lists.{All, all-getD, take-again}
@@ -101,15 +101,6 @@ module _ (q : Query) (cs : List Claim) where
 pub page-grown : (q : Query) (cs more : List Claim) (n : ℕ) (m : Mark) (size : ℕ) → n ≤ length cs → pageOf q (cs ++ more) (After n m) size ≡ pageOf q cs (After n m) size
 unfolding pageOf following
 page-grown q cs more n m size h = rw (listed-grown q cs more n h)
-
--- a last page holds the rest, and one that is not last may have more behind it
-pub last-all : (size : ℕ) (r : List Item) → lastOf size r ≡ true → take size r ≡ r
-unfolding lastOf
-last-all size r p = take-all size r (omega (arith, length-take size r, ltb-true (length (take size r)) size p))
-
-pub last-not : (size : ℕ) (r : List Item) → lastOf size r ≡ false → length (take size r) ≡ size
-unfolding lastOf
-last-not size r p = omega (arith, length-take size r, ltb-false (length (take size r)) size p)
 
 -- the first of the order
 first-take : (size : ℕ) (l : List Item) → 0 < size → firstOf (take size l) ≡ firstOf l

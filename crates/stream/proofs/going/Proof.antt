@@ -1,6 +1,6 @@
 -- `stream::going` meets its contract. Assumes nothing.
 use borrow.Author.Tests.{ltb-true}
-use Rattle.stream.proofs.Laws.{never}
+use Rattle.serve.proofs.Moves.{never}
 use Rattle.stream.proofs.going.Statement.{statement}
 use Rattle.stream.proofs.going.Tie as tie
 

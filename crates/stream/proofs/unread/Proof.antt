@@ -2,7 +2,7 @@
 use mathlib.Core.Path.{sym}
 use mathlib.Core.Logic.{inl, inr}
 use native.Mathlib.Omega.{arith}
-use Rattle.stream.proofs.Laws.{never}
+use Rattle.serve.proofs.Moves.{never}
 use Rattle.stream.proofs.unread.Statement.{statement}
 use Rattle.stream.proofs.unread.Tie as tie
 

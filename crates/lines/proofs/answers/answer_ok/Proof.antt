@@ -3,7 +3,7 @@ use native.Mathlib.Omega.{arith}
 use mathlib.Core.Path.{_≡_, sym, _∙_}
 use Rattle.paper.specs.Lines.{answerOk, countIn}
 use Rattle.digits.specs.Places.{held}
-use Rattle.fields.proofs.PartLaws.{refuted}
+use Rattle.paper.proofs.Tests.{refuted}
 use Rattle.lines.proofs.Tests.{is-answer, answer-rule, count-at}
 use borrow.Author.Needs.{needs}
 use Rattle.lines.proofs.answers.answer_ok.Statement.{statement}

@@ -2,7 +2,7 @@ use native.Mathlib.Omega.{arith}
 use mathlib.Core.Path.{sym, _∙_}
 use Rattle.paper.specs.Lines.{askOk}
 use Rattle.digits.specs.Places.{held}
-use Rattle.fields.proofs.PartLaws.{refuted}
+use Rattle.paper.proofs.Tests.{refuted}
 use Rattle.lines.proofs.Tests.{is-ask, ask-rule}
 use borrow.Author.Needs.{needs}
 use Rattle.lines.proofs.asks.ask_ok.Statement.{statement}

@@ -2,7 +2,7 @@ use native.Mathlib.Omega.{arith}
 use mathlib.Core.Path.{sym}
 use Rattle.paper.specs.Lines.{claimOk}
 use Rattle.digits.specs.Places.{held}
-use Rattle.fields.proofs.PartLaws.{refuted}
+use Rattle.paper.proofs.Tests.{refuted}
 use Rattle.lines.proofs.Tests.{is-claim}
 use borrow.Author.Needs.{needs}
 use Rattle.lines.proofs.claims.claim_ok.Statement.{statement}

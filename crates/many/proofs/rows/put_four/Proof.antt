@@ -1,7 +1,10 @@
--- `many::rows::put_four` meets its contract. Assumes nothing.
+-- `many::rows::put_four` meets its contract: one number, and then three. Assumes nothing.
+use Prim.Native.Nat.{suc, _+_}
+use mathlib.Core.Path.{_≡_, ap, _∙_}
+use mathlib.Core.List.{[], _∷_}
 use native.Mathlib.Omega.{arith}
-use lib.ListN.{length-set}
-use Rattle.many.proofs.Ways.{four}
+use lib.ListN.{set, length-set}
+use lib.Seq.{sets}
 use borrow.Author.Needs.{needs}
 use Rattle.many.proofs.rows.put_four.Statement.{statement}
 use Rattle.many.proofs.rows.put_four.Tie as tie
@@ -12,53 +15,20 @@ mul-out c = search needs
 slice-write-out : tie.Need-slice-write-out
 slice-write-out c = search needs
 
-add-out : tie.Need-add-out
-add-out c = search needs
+add-put-three : tie.Need-add-put-three
+add-put-three c = search needs
 
-mul-out-2 : tie.Need-mul-out-2
-mul-out-2 c = search needs
-
-slice-write-out-2 : tie.Need-slice-write-out-2
-slice-write-out-2 c = simp length-set (omega arith)
-
-add-out-2 : tie.Need-add-out-2
-add-out-2 c = search needs
-
-mul-out-3 : tie.Need-mul-out-3
-mul-out-3 c = search needs
-
-slice-write-out-3 : tie.Need-slice-write-out-3
-slice-write-out-3 c = simp length-set (omega arith)
-
-add-out-3 : tie.Need-add-out-3
-add-out-3 c = search needs
-
-mul-out-4 : tie.Need-mul-out-4
-mul-out-4 c = search needs
-
-slice-write-out-4 : tie.Need-slice-write-out-4
-slice-write-out-4 c = simp length-set (omega arith)
+put-three-requires : tie.Need-put-three-requires
+put-three-requires c κs = simp length-set (omega arith)
 
 same-length : tie.Need-same-length
-same-length c = search needs
+same-length c = let b = c .before .before .before .before .before .args in c .before .before .put-three .kept .0 ∙ length-set (b .out .now) (b .a) (b .w)
 
 returns : tie.Need-returns
-returns c = let a = c .args in four (a .out .now) (a .a) (a .w) (a .x) (a .y) (a .z)
+returns c =
+    let b = c .before .before .before .before .before .args in
+    let e : b .a + 1 ≡ suc (b .a) = omega arith in
+    c .before .before .put-three .ensures ∙ ap (λ k. sets (set (b .out .now) (b .a) (b .w)) k (b .x ∷ b .y ∷ b .z ∷ [])) e
 
 pub put-four-spec : {M : Type 1} → statement M
-put-four-spec =
-    tie.close
-    (tie.spec
-    mul-out
-    slice-write-out
-    add-out
-    mul-out-2
-    slice-write-out-2
-    add-out-2
-    mul-out-3
-    slice-write-out-3
-    add-out-3
-    mul-out-4
-    slice-write-out-4
-    same-length
-    returns)
+put-four-spec = tie.close (tie.spec mul-out slice-write-out add-put-three put-three-requires same-length returns)
