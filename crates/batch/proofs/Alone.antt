@@ -18,13 +18,14 @@ use Rattle.paper.proofs.Outcomes.{must-go}
 use Rattle.batch.specs.Batch.{lineAt, Batch, start, answerNow, lengthSaid, rowPut, stepBy, step, goes, answered, startAt, nthLine, alone, lineSaid, answersOf, rowsOf, batchAt, AsAlone}
 use Rattle.batch.proofs.Cutting.{cut-on}
 use Rattle.batch.proofs.Steps.{goes-room-for, same-batch}
+use Rattle.paper.specs.Limits.{longestAnswer}
 
 -- ---- one step
 
 -- the single call asks for 573 characters, and more change nothing
-pub office-any-room : (s : Store) (room : ℕ) (line : List ℕ) → 573 ≤ room → officeCall s room line ≡ officeCall s 573 line
+pub office-any-room : (s : Store) (room : ℕ) (line : List ℕ) → longestAnswer ≤ room → officeCall s room line ≡ officeCall s longestAnswer line
 unfolding officeCall
-office-any-room s room line h = must-go (leb 573 room) 12 _ (le-leb 573 room h)
+office-any-room s room line h = must-go (leb longestAnswer room) 12 _ (le-leb longestAnswer room h)
 
 pub said-size : (o : Outcome (List ℕ)) → length (lineSaid o) ≡ lengthSaid o
 unfolding lineSaid lengthSaid
@@ -68,7 +69,7 @@ module _ (s : Store) (asks : List ℕ) where
       behind-said : drop (length Said) (Said ++ drop (length Said) out) ≡ drop (length Said) out
       behind-said = drop-at Said (drop (length Said) out) (length Said) refl
 
-      room-left : 573 ≤ length (drop (length Said) (Said ++ drop (length Said) out))
+      room-left : longestAnswer ≤ length (drop (length Said) (Said ++ drop (length Said) out))
       unfolding batchAt
       room-left =
           let h = goes-room-for asks (batchAt n s asks outcomes out) e .room in

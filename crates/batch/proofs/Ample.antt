@@ -26,10 +26,11 @@ use Rattle.desk.proofs.Ways.{ask-given}
 use Rattle.batch.specs.Batch.{Batch, start, lengthSaid, goes, answered, startAt, nthLine, alone, lineSaid, answersOf, rowsOf, batchAt}
 use Rattle.batch.proofs.Cutting.{cut-short}
 use Rattle.batch.proofs.Alone.{said-size, rows-long, batch-is, stops-for-want}
+use Rattle.paper.specs.Limits.{longestAnswer, mostPage}
 
 -- ---- an answer line is short
 
-answer-short : (t : Ends.Table) (a : Ask) → length (a .query .probe) ≤ 8 → a .size ≤ 16 → length (answerLine (answerOf t a)) ≤ 573
+answer-short : (t : Ends.Table) (a : Ask) → length (a .query .probe) ≤ 8 → a .size ≤ mostPage → length (answerLine (answerOf t a)) ≤ longestAnswer
 unfolding answerLine answerOf pageOf
 answer-short t a narrow most =
     let items = take (a .size) (following (a .query) (t .claims) (a .place)) in
@@ -39,22 +40,22 @@ answer-short t a narrow most =
     let f = length-answer 2 (a .query .table) (a .query .measure) (a .query .d) (a .query .probe) (scopeOf (a .query .reach) (a .place) (y .snapshot)) (cond (y .last) 1 0) (length items) (flat items) (flat-length items) in
     omega (arith, length-line frame, f, n)
 
-reply-short : (t : Ends.Table) (a : Ask) → length (a .query .probe) ≤ 8 → a .size ≤ 16 → lengthSaid (onto (answerTo t a) (λ y. gives (answerLine y))) ≤ 573
+reply-short : (t : Ends.Table) (a : Ask) → length (a .query .probe) ≤ 8 → a .size ≤ mostPage → lengthSaid (onto (answerTo t a) (λ y. gives (answerLine y))) ≤ longestAnswer
 unfolding answerTo lengthSaid
 reply-short t a narrow most = go (matches t (a .query)) (snapshotHolds (t .claims) (a .place)) (markHolds (a .query) (t .claims) (a .place))
   where
-    go : (x y z : Bool) → lengthSaid (onto (must x 11 (must y 7 (must z 8 (gives (answerOf t a))))) (λ y. gives (answerLine y))) ≤ 573
+    go : (x y z : Bool) → lengthSaid (onto (must x 11 (must y 7 (must z 8 (gives (answerOf t a))))) (λ y. gives (answerLine y))) ≤ longestAnswer
     go true true true = answer-short t a narrow most
     go true true false = omega arith
     go true false z = omega arith
     go false y z = omega arith
 
-served-short : (t : Ends.Table) (line : List ℕ) → lengthSaid (served lines t line) ≤ 573
+served-short : (t : Ends.Table) (line : List ℕ) → lengthSaid (served lines t line) ≤ longestAnswer
 unfolding served readAsk lengthSaid asked
 served-short t line = go (sound line) (askOk 1 (frameOf line)) refl
   where
     go : (x y : Bool) → askOk 1 (frameOf line) ≡ y
-        → lengthSaid (onto (must x 9 (must y 10 (gives (asked Near (askAt (frameOf line)))))) (λ a. onto (answerTo t a) (λ y. gives (answerLine y)))) ≤ 573
+        → lengthSaid (onto (must x 9 (must y 10 (gives (asked Near (askAt (frameOf line)))))) (λ a. onto (answerTo t a) (λ y. gives (answerLine y)))) ≤ longestAnswer
     go true true e =
         let g = ask-given (frameOf line) e in
         let m = length-take (askAt (frameOf line) .d) (askAt (frameOf line) .probe) in
@@ -62,11 +63,11 @@ served-short t line = go (sound line) (askOk 1 (frameOf line)) refl
     go true false e = omega arith
     go false y e = omega arith
 
-pub office-short : (s : Store) (room : ℕ) (line : List ℕ) → lengthSaid (officeCall s room line) ≤ 573
+pub office-short : (s : Store) (room : ℕ) (line : List ℕ) → lengthSaid (officeCall s room line) ≤ longestAnswer
 unfolding officeCall lengthSaid
-office-short s room line = go (leb 573 room) (fits s) (Tree.sound s)
+office-short s room line = go (leb longestAnswer room) (fits s) (Tree.sound s)
   where
-    go : (x y z : Bool) → lengthSaid (must x 12 (must y 1 (must z 2 (served lines (tableOf s) line)))) ≤ 573
+    go : (x y z : Bool) → lengthSaid (must x 12 (must y 1 (must z 2 (served lines (tableOf s) line)))) ≤ longestAnswer
     go true true true = served-short (tableOf s) line
     go true true false = omega arith
     go true false z = omega arith
@@ -75,13 +76,13 @@ office-short s room line = go (leb 573 room) (fits s) (Tree.sound s)
 -- ---- every line is answered
 
 module _ (s : Store) (asks : List ℕ) where
-  answers-short : (n : ℕ) → length (answersOf n s asks) ≤ 573 * n
+  answers-short : (n : ℕ) → length (answersOf n s asks) ≤ longestAnswer * n
   unfolding answersOf alone
   answers-short zero = omega arith
   answers-short (suc n) =
       let h = answers-short n in
       let m = length-append (answersOf n s asks) (lineSaid (alone s asks n)) in
-      omega (arith, m, said-size (alone s asks n), office-short s 573 (nthLine n asks))
+      omega (arith, m, said-size (alone s asks n), office-short s longestAnswer (nthLine n asks))
 
 start-inside : (asks : List ℕ) (n : ℕ) → startAt n asks ≤ length asks
 unfolding startAt
@@ -99,7 +100,7 @@ start-later asks n (suc m) =
     rw q (omega arith)
 
 module _ (s : Store) (asks outcomes out : List ℕ) (count : ℕ) (all : startAt count asks ≡ length asks)
-    (rows : 2 * count ≤ length outcomes) (room : 573 * count ≤ length out) where
+    (rows : 2 * count ≤ length outcomes) (room : longestAnswer * count ≤ length out) where
   goes-still : (n : ℕ) → startAt n asks < length asks → goes asks (batchAt n s asks outcomes out) ≡ true
   unfolding goes batchAt
   goes-still n h =
@@ -108,11 +109,11 @@ module _ (s : Store) (asks outcomes out : List ℕ) (count : ℕ) (all : startAt
       let x = length-append (rowsOf n s asks) (drop (2 * n) outcomes) in
       let y = length-append (answersOf n s asks) (drop (length (answersOf n s asks)) out) in
       let p : 2 * n + 2 ≤ length (rowsOf n s asks ++ drop (2 * n) outcomes) = omega (arith, x, rows-long s asks n, length-drop (2 * n) outcomes) in
-      let q : length (answersOf n s asks) + 573 ≤ length (answersOf n s asks ++ drop (length (answersOf n s asks)) out) = omega (arith, y, a, length-drop (length (answersOf n s asks)) out) in
+      let q : length (answersOf n s asks) + longestAnswer ≤ length (answersOf n s asks ++ drop (length (answersOf n s asks)) out) = omega (arith, y, a, length-drop (length (answersOf n s asks)) out) in
       rw (
         lt-ltb (startAt n asks) (length asks) h,
         le-leb (2 * n + 2) (length (rowsOf n s asks ++ drop (2 * n) outcomes)) p,
-        le-leb (length (answersOf n s asks) + 573) (length (answersOf n s asks ++ drop (length (answersOf n s asks)) out)) q,
+        le-leb (length (answersOf n s asks) + longestAnswer) (length (answersOf n s asks ++ drop (length (answersOf n s asks)) out)) q,
       )
     where
       earlier : Dec (count ≤ n) → n < count

@@ -12,6 +12,7 @@ use Rattle.paper.specs.Tree.{Store, fits, sound}
 use Rattle.batch.specs.declared.Answered.{Answered}
 use Rattle.batch.specs.Batch.{Batch, start, goes, answered, batchCall, batchAfter, batchOf, Promise, AsAlone}
 use Rattle.batch.proofs.Alone.{each-line-as-alone, stops-for-want}
+use Rattle.paper.specs.Limits.{longestAnswer}
 
 pub promise-settled : (o : Outcome Batch) (b : Batch) (r r' : Answered) (outcomes out outcomes' out' : List ℕ)
     → Promise o b r outcomes out → Promise o b r' outcomes' out' → (r ≡ r') × (outcomes ≡ outcomes') × (out ≡ out')
@@ -39,7 +40,7 @@ module _ (s : Store) (asks outcomes out : List ℕ) (r : Answered) (outcomes' ou
   pub promise-gives : batchOf r outcomes' out' ≡ answered (length asks) s asks (start outcomes out)
   unfolding batchCall batchAfter
   promise-gives =
-      let e = given (leb 573 (length out)) (fits s) (sound s) (answered (length asks) s asks (start outcomes out)) (sym (p .refusal) ∙ none) in
+      let e = given (leb longestAnswer (length out)) (fits s) (sound s) (answered (length asks) s asks (start outcomes out)) (sym (p .refusal) ∙ none) in
       p .batch ∙ ap (λ (u : Outcome Batch). batchAfter u (start outcomes out)) e
 
   pub promise-as-alone : (k : ℕ) → k < r .lines → AsAlone s asks (batchOf r outcomes' out') k

@@ -21,12 +21,13 @@ use Rattle.batch.specs.declared.Answered.{Answered}
 use Rattle.batch.specs.declared.rows.Said.{Said}
 use Rattle.batch.specs.Batch.{cutAt, lineAt, Batch, answerNow, lengthSaid, rowPut, stepBy, step, goes, batchOf, Stands, Turning, saidBy}
 use Rattle.batch.proofs.Cutting.{cut-inside}
+use Rattle.paper.specs.Limits.{longestAnswer}
 
 -- ---- whether there is a line to answer
 
 module _ (used asks rows outcomes written out : ℕ) where
   abbrev Test : Bool
-  Test = ltb used asks && (leb (2 * rows + 2) outcomes && leb (written + 573) out)
+  Test = ltb used asks && (leb (2 * rows + 2) outcomes && leb (written + longestAnswer) out)
 
   pub goes-used : asks ≤ used → false ≡ Test
   goes-used h = rw (le-ltb used asks h)
@@ -36,38 +37,38 @@ module _ (used asks rows outcomes written out : ℕ) where
     goes-rows h = rw (lt-ltb used asks h₁, lt-leb (2 * rows + 2) outcomes (omega arith))
 
     module _ (h₂ : rows < outcomes / 2) where
-      past : leb (written + 573) out ≡ Test
+      past : leb (written + longestAnswer) out ≡ Test
       past = rw (lt-ltb used asks h₁, le-leb (2 * rows + 2) outcomes (omega arith))
 
-      pub goes-room : out < 573 → false ≡ Test
-      goes-room h = sym (lt-leb (written + 573) out (omega arith)) ∙ past
+      pub goes-room : out < longestAnswer → false ≡ Test
+      goes-room h = sym (lt-leb (written + longestAnswer) out (omega arith)) ∙ past
 
-      pub goes-last : 573 ≤ out → leb written (out - 573) ≡ Test
-      goes-last h = go (decLe written (out - 573)) ∙ past
+      pub goes-last : longestAnswer ≤ out → leb written (out - longestAnswer) ≡ Test
+      goes-last h = go (decLe written (out - longestAnswer)) ∙ past
         where
-          go : Dec (written ≤ out - 573) → leb written (out - 573) ≡ leb (written + 573) out
-          go (yes le) = le-leb written (out - 573) le ∙ sym (le-leb (written + 573) out (omega arith))
-          go (no gt) = lt-leb written (out - 573) (omega arith) ∙ sym (lt-leb (written + 573) out (omega arith))
+          go : Dec (written ≤ out - longestAnswer) → leb written (out - longestAnswer) ≡ leb (written + longestAnswer) out
+          go (yes le) = le-leb written (out - longestAnswer) le ∙ sym (le-leb (written + longestAnswer) out (omega arith))
+          go (no gt) = lt-leb written (out - longestAnswer) (omega arith) ∙ sym (lt-leb (written + longestAnswer) out (omega arith))
 
 pub record Room (asks : List ℕ) (b : Batch) : Type 0 where
   pub unread : b .used < length asks
   pub row : 2 * b .lines + 2 ≤ length (b .outcomes)
-  pub room : b .written + 573 ≤ length (b .out)
+  pub room : b .written + longestAnswer ≤ length (b .out)
 
 pub goes-room-for : (asks : List ℕ) (b : Batch) → goes asks b ≡ true → Room asks b
 unfolding goes
 goes-room-for asks b e =
     let p = ltb (b .used) (length asks) in
     let q = leb (2 * b .lines + 2) (length (b .outcomes)) in
-    let r = leb (b .written + 573) (length (b .out)) in
+    let r = leb (b .written + longestAnswer) (length (b .out)) in
     record {
       unread = ltb-true (b .used) (length asks) (and-first p (q && r) e);
       row = leb-true (2 * b .lines + 2) (length (b .outcomes)) (and-first q r (and-second p (q && r) e));
-      room = leb-true (b .written + 573) (length (b .out)) (and-second q r (and-second p (q && r) e));
+      room = leb-true (b .written + longestAnswer) (length (b .out)) (and-second q r (and-second p (q && r) e));
     }
 
 pub goes-is : (asks : List ℕ) (b : Batch) (r x : Bool)
-    → r ≡ (ltb (b .used) (length asks) && (leb (2 * b .lines + 2) (length (b .outcomes)) && leb (b .written + 573) (length (b .out)))) → r ≡ x → goes asks b ≡ x
+    → r ≡ (ltb (b .used) (length asks) && (leb (2 * b .lines + 2) (length (b .outcomes)) && leb (b .written + longestAnswer) (length (b .out)))) → r ≡ x → goes asks b ≡ x
 unfolding goes
 goes-is asks b r x e h = sym e ∙ h
 
@@ -108,7 +109,7 @@ module _ (s : Store) (asks : List ℕ) (d : Answered) (outcomes out : List ℕ) 
       lent : take k (drop (d .written) out) ≡ drop (d .written) out
       lent = take-all k (drop (d .written) out) (omega (arith, length-drop (d .written) out))
 
-      long : 573 ≤ length (take k (drop (d .written) out))
+      long : longestAnswer ≤ length (take k (drop (d .written) out))
       long = let m = ap length lent ∙ length-drop (d .written) out in omega (arith, has .room)
 
       pub line-open : Open s (length (take k (drop (d .written) out)))

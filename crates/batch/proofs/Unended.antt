@@ -16,6 +16,7 @@ use Rattle.paper.proofs.Outcomes.{must-stop}
 use Rattle.nearby.specs.Checks.{tableRefusal}
 use Rattle.nearby.proofs.CallLaws.{table-goes}
 use Rattle.batch.specs.Batch.{cutAt, lineAt, startAt, nthLine, alone}
+use Rattle.paper.specs.Limits.{longestAnswer}
 
 -- 7A 0A 0A 30 31: a line of two characters, an empty one, and one that has no end
 abbrev three : List ℕ
@@ -38,7 +39,7 @@ unended (a ∷ b ∷ l) h = go (ltb (digit a) 16) (ltb (digit b) 16) (unended l 
 
 unsound : (l : List ℕ) → ended l ≡ false → sound l ≡ false
 unfolding sound
-unsound l e = go (ltb 1 (length l)) (leb (length l) 573)
+unsound l e = go (ltb 1 (length l)) (leb (length l) longestAnswer)
   where
     go : (x y : Bool) → (x && (y && ended l)) ≡ false
     go true true = e

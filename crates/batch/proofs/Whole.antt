@@ -12,6 +12,7 @@ use Rattle.nearby.specs.Checks.{tableRefusal}
 use Rattle.nearby.proofs.CallLaws.{table-refused, table-goes}
 use Rattle.batch.specs.declared.Answered.{Answered}
 use Rattle.batch.specs.Batch.{Batch, start, answered, batchCall, batchAfter, Promise, refusedBy, Stands}
+use Rattle.paper.specs.Limits.{longestAnswer}
 
 promise-refused : (o : Outcome Batch) (n : ℕ) (outcomes out : List ℕ) (r : Answered) → o ≡ refused n → r ≡ refusedBy n → Promise o (start outcomes out) r outcomes out
 unfolding batchAfter
@@ -22,17 +23,17 @@ unfolding batchAfter
 promise-given o b b₀ r outcomes out e q = record { refusal = rw e (q .refusal); batch = rw e (q .batch) }
 
 module _ (s : Store) (asks outcomes out : List ℕ) (r : Answered) where
-  pub all-12 : length out < 573 → r ≡ refusedBy 12 → Promise (batchCall s asks outcomes out) (start outcomes out) r outcomes out
+  pub all-12 : length out < longestAnswer → r ≡ refusedBy 12 → Promise (batchCall s asks outcomes out) (start outcomes out) r outcomes out
   unfolding batchCall
-  all-12 h q = promise-refused _ 12 outcomes out r (must-stop (leb 573 (length out)) 12 _ (lt-leb 573 (length out) h)) q
+  all-12 h q = promise-refused _ 12 outcomes out r (must-stop (leb longestAnswer (length out)) 12 _ (lt-leb longestAnswer (length out) h)) q
 
-  module _ (long : 573 ≤ length out) (n : ℕ) (we : n ≡ tableRefusal s) where
+  module _ (long : longestAnswer ≤ length out) (n : ℕ) (we : n ≡ tableRefusal s) where
     pub all-refused : (n ≡ 0 → ⊥) → r ≡ refusedBy n → Promise (batchCall s asks outcomes out) (start outcomes out) r outcomes out
     unfolding batchCall
-    all-refused h q = promise-refused _ n outcomes out r (must-go (leb 573 (length out)) 12 _ (le-leb 573 (length out) long) ∙ table-refused s n we _ h) q
+    all-refused h q = promise-refused _ n outcomes out r (must-go (leb longestAnswer (length out)) 12 _ (le-leb longestAnswer (length out) long) ∙ table-refused s n we _ h) q
 
     pub all-answered : n ≡ 0 → (outcomes' out' : List ℕ) → Stands (answered (length asks) s asks (start outcomes out)) r outcomes' out'
         → Promise (batchCall s asks outcomes out) (start outcomes out) r outcomes' out'
     unfolding batchCall
     all-answered h outcomes' out' q =
-        promise-given _ _ (start outcomes out) r outcomes' out' (must-go (leb 573 (length out)) 12 _ (le-leb 573 (length out) long) ∙ table-goes s n we h _) q
+        promise-given _ _ (start outcomes out) r outcomes' out' (must-go (leb longestAnswer (length out)) 12 _ (le-leb longestAnswer (length out) long) ∙ table-goes s n we h _) q

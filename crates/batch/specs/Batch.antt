@@ -15,6 +15,7 @@ use Rattle.paper.specs.Calls.{onTable, officeCall}
 use Rattle.nearby.specs.Checks.{tableRefusal}
 use Rattle.batch.specs.declared.Answered.{Answered}
 use Rattle.batch.specs.declared.rows.Said.{Said}
+use Rattle.paper.specs.Limits.{longestAnswer}
 
 -- how long the first line of a buffer is: up to and with its first 0A, or all that there is
 unfoldable pub cutAt : List ℕ → ℕ
@@ -66,7 +67,7 @@ step s asks b = stepBy (answerNow s asks b) asks b
 unfoldable pub goes : List ℕ → Batch → Bool
 goes asks b =
     ltb (b .used) (length asks)
-    && (leb (2 * b .lines + 2) (length (b .outcomes)) && leb (b .written + 573) (length (b .out)))
+    && (leb (2 * b .lines + 2) (length (b .outcomes)) && leb (b .written + longestAnswer) (length (b .out)))
 
 -- the first number bounds the steps
 unfoldable pub answered : ℕ → Store → List ℕ → Batch → Batch
@@ -95,7 +96,7 @@ nthLine k asks = lineAt asks (startAt k asks)
 
 -- what the single call gives for line k
 unfoldable pub alone : Store → List ℕ → ℕ → Outcome (List ℕ)
-alone s asks k = officeCall s 573 (nthLine k asks)
+alone s asks k = officeCall s longestAnswer (nthLine k asks)
 
 unfoldable pub lineSaid : Outcome (List ℕ) → List ℕ
 lineSaid (refused n) = []

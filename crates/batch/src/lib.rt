@@ -3,9 +3,10 @@
 mod rows;
 mod turns;
 
-ghost use Rattle.paper.specs.Tree.{store};
+ghost use Rattle.paper.specs.Tree.{lent};
 ghost use Rattle.batch.specs.Batch.{start, batchCall, Promise, refusedBy};
 ghost use mathlib.Core.Path.{_≡_};
+use paper::limits::LONGEST_ANSWER;
 use paper::tables::Table;
 use turns::answer_lines;
 
@@ -40,9 +41,9 @@ pub fn answer_all(
     outcomes: &mut [u64],
     out: &mut [u8],
 ) -> Answered
-    ensures { λ r. ⌜ Promise (batchCall (store t (now (references .entry)) (now (coordinates .entry)) (now (rooms .entry))) (now (asks .entry)) (now (outcomes .entry)) (now (out .entry))) (start (now (outcomes .entry)) (now (out .entry))) r (now (outcomes .exit)) (now (out .exit)) ⌝ }
+    ensures { λ r. ⌜ Promise (batchCall (lent t (references .entry) (coordinates .entry) (rooms .entry)) (now (asks .entry)) (now (outcomes .entry)) (now (out .entry))) (start (now (outcomes .entry)) (now (out .entry))) r (now (outcomes .exit)) (now (out .exit)) ⌝ }
 {
-    if out.len() < 573 {
+    if out.len() < LONGEST_ANSWER {
         return refused(12);
     }
     let why = nearby::table_refusal(t, references, coordinates, rooms);

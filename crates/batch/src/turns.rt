@@ -4,18 +4,20 @@ ghost use Prim.Native.Nat.{_+_, _*_};
 ghost use mathlib.Core.Bool.{_&&_};
 ghost use lib.Dec.{ltb, leb};
 ghost use lib.ListN.{length};
-ghost use Rattle.paper.specs.Tree.{store};
+ghost use Rattle.paper.specs.Tree.{lent};
 ghost use Rattle.nearby.specs.Checks.{tableRefusal};
 ghost use Rattle.batch.specs.Batch.{start, step, answered, batchOf, Stands, Turning};
+ghost use Rattle.paper.specs.Limits.{longestAnswer};
 use super::rows::line_end;
 use super::rows::put_row;
 use super::rows::said_of;
 use crate::Answered;
+use paper::limits::LONGEST_ANSWER;
 use paper::tables::Table;
 
 // Whether a byte of the asks is left, a row of the outcomes, and room for the longest line.
 fn goes_on(d: Answered, asks: usize, outcomes: usize, out: usize) -> bool
-    ensures { λ r. ⌜ r ≡ (ltb (d .used) asks && (leb (2 * d .lines + 2) outcomes && leb (d .written + 573) out)) ⌝ }
+    ensures { λ r. ⌜ r ≡ (ltb (d .used) asks && (leb (2 * d .lines + 2) outcomes && leb (d .written + longestAnswer) out)) ⌝ }
 {
     if asks <= d.used {
         return false;
@@ -23,10 +25,10 @@ fn goes_on(d: Answered, asks: usize, outcomes: usize, out: usize) -> bool
     if outcomes / 2 <= d.lines {
         return false;
     }
-    if out < 573 {
+    if out < LONGEST_ANSWER {
         return false;
     }
-    d.written <= out - 573
+    d.written <= out - LONGEST_ANSWER
 }
 
 // Answers the next line.
@@ -40,8 +42,8 @@ fn answer_next(
     outcomes: &mut [u64],
     out: &mut [u8],
 ) -> Answered
-    requires { ⌜ Turning (store t (now references) (now coordinates) (now rooms)) (now asks) (batchOf d (now outcomes) (now out)) ⌝ }
-    ensures { λ r. ⌜ Stands (step (store t (now (references .entry)) (now (coordinates .entry)) (now (rooms .entry))) (now (asks .entry)) (batchOf d (now (outcomes .entry)) (now (out .entry)))) r (now (outcomes .exit)) (now (out .exit)) ⌝ }
+    requires { ⌜ Turning (lent t references coordinates rooms) (now asks) (batchOf d (now outcomes) (now out)) ⌝ }
+    ensures { λ r. ⌜ Stands (step (lent t (references .entry) (coordinates .entry) (rooms .entry)) (now (asks .entry)) (batchOf d (now (outcomes .entry)) (now (out .entry)))) r (now (outcomes .exit)) (now (out .exit)) ⌝ }
 {
     let at = d.used;
     let w = d.written;
@@ -75,8 +77,8 @@ pub fn answer_lines(
     outcomes: &mut [u64],
     out: &mut [u8],
 ) -> Answered
-    requires { ⌜ 0 ≡ tableRefusal (store t (now references) (now coordinates) (now rooms)) ⌝ }
-    ensures { λ r. ⌜ Stands (answered (length (now (asks .entry))) (store t (now (references .entry)) (now (coordinates .entry)) (now (rooms .entry))) (now (asks .entry)) (start (now (outcomes .entry)) (now (out .entry)))) r (now (outcomes .exit)) (now (out .exit)) ⌝ }
+    requires { ⌜ 0 ≡ tableRefusal (lent t references coordinates rooms) ⌝ }
+    ensures { λ r. ⌜ Stands (answered (length (now (asks .entry))) (lent t (references .entry) (coordinates .entry) (rooms .entry)) (now (asks .entry)) (start (now (outcomes .entry)) (now (out .entry)))) r (now (outcomes .exit)) (now (out .exit)) ⌝ }
 {
     let mut d = Answered {
         refusal: 0,

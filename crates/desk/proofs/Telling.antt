@@ -20,12 +20,13 @@ use Rattle.paper.specs.Orders.{Item, Query, snapshotOf, earlier, insert, itemOf
 use Rattle.paper.specs.Tree.{Store, claimsIn}
 use Rattle.paper.specs.Outcomes.{gives}
 use Rattle.paper.specs.Frames.{lineOf, written}
-use Rattle.paper.specs.Fields.{ranged, scopeOk, numbersOk, referencesOk}
+use Rattle.paper.specs.Fields.{scopeOk, numbersOk, referencesOk}
 use Rattle.paper.specs.Lines.{Writes, wrote, room, answerFrame, answerRanges, answerFits}
 use Rattle.paper.specs.Ends.{answerOf, tableOf}
 use Rattle.paper.specs.Codec.{placeIn, scopeOf, answerLine, wroteOf, roomAfter}
 use Rattle.paper.proofs.Tests.{and-first, and-both}
-use Rattle.tree.specs.Soundness.{InRange, Good}
+use Rattle.tree.specs.Soundness.{Good}
+use Rattle.paper.proofs.Ranges.{is-range}
 use Rattle.tree.proofs.Known.{good-few}
 use Rattle.walk.specs.Asking.{queryOf, Pageable, Markable, PageIs}
 use Rattle.tree.proofs.Places.{claims-length}
@@ -33,11 +34,12 @@ use Rattle.orders.proofs.Rooms.{flat-length}
 use Rattle.walk.proofs.Bridge.{claims-at}
 use Rattle.walk.proofs.Answers.{good-measurable}
 use Rattle.desk.specs.Desk.{Says, Paging, askFor, flagged, pageLine}
+use Rattle.paper.specs.Limits.{itemRoom, longestAnswer, mostClaims, mostNumber, mostPage}
 
 -- ---- items that an answer can tell
 
 pub record Small (a : Item) : Type 0 where
-  pub number : a .number ≤ 4095
+  pub number : a .number ≤ mostNumber
   pub reference : a .reference < 4294967296
 
 abbrev pub AllSmall : List Item → Type 0
@@ -84,7 +86,7 @@ flat-references (a ∷ l) all = rw (lt-ltb (a .reference) 4294967296 (all .0 .re
 flat-numbers : (l : List Item) → AllSmall l → numbersOk (flat l) ≡ true
 unfolding flat numbersOk
 flat-numbers [] all = refl
-flat-numbers (a ∷ l) all = rw (le-leb (a .number) 4095 (all .0 .number)) (flat-numbers l (all .1))
+flat-numbers (a ∷ l) all = rw (le-leb (a .number) mostNumber (all .0 .number)) (flat-numbers l (all .1))
 
 -- ---- a scope, read and repeated
 
@@ -112,12 +114,12 @@ scope-after p n h e =
     rw (place-after p e)
     (ap (λ (k : ℕ). record { reach = p .reach; from = k; snapshot = p .snapshot; distance = p .distance; number = p .number }) q)
 
-scope-repeats : (p : Scope) (n : ℕ) → scopeOk p ≡ true → n ≤ 4096 → scopeOk (scopeOf (p .reach) (placeIn p) (snapshotOf (placeIn p) n)) ≡ true
+scope-repeats : (p : Scope) (n : ℕ) → scopeOk p ≡ true → n ≤ mostClaims → scopeOk (scopeOf (p .reach) (placeIn p) (snapshotOf (placeIn p) n)) ≡ true
 unfolding scopeOk
 scope-repeats p n e h = go (p .from) refl
   where
     go : (k : ℕ) → p .from ≡ k → scopeOk (scopeOf (p .reach) (placeIn p) (snapshotOf (placeIn p) n)) ≡ true
-    go zero q = rw (← scope-start p n q, le-leb n 4096 h)
+    go zero q = rw (← scope-start p n q, le-leb n mostClaims h)
     go (suc k) q = rw (← scope-after p n (scope-from p e) (λ z. omega arith)) e
 
 -- ---- what the walk asks of the table
@@ -128,16 +130,12 @@ markable s probe g aim p place e h = record { measurable = good-measurable s g p
 
 -- ---- the page, written
 
-says-line : (fits : Bool) (f before : List ℕ) (w : Wrote) (after : List ℕ) → fits ≡ true → 573 ≤ length before
-    → Writes fits 573 f before w after → Says (gives (lineOf f)) before w after
+says-line : (fits : Bool) (f before : List ℕ) (w : Wrote) (after : List ℕ) → fits ≡ true → longestAnswer ≤ length before
+    → Writes fits longestAnswer f before w after → Says (gives (lineOf f)) before w after
 unfolding wrote room written wroteOf roomAfter
 says-line fits f before w after e h x =
-    let q = le-leb 573 (length before) h in
+    let q = le-leb longestAnswer (length before) h in
     record { answer = rw (e, q) at (x .answer); room = rw (e, q) at (x .after) }
-
-same-range : (m d : ℕ) → InRange m d → ranged m d ≡ true
-unfolding ranged
-same-range m d r = rw (le-leb 1 m (r .first), le-leb m 3 (r .last), le-leb 1 d (r .wide), le-leb d 8 (r .narrow))
 
 flag-small : (b : Bool) → flagged b ≤ 1
 flag-small true = omega arith
@@ -150,7 +148,7 @@ module _ (s : Store) (probe : List ℤ) (p : Scope) (size out : ℕ) (h : Paging
   abbrev Scoped : Scope
   Scoped = scopeOf (p .reach) (placeIn p) (snapshotOf (placeIn p) (s .table .count))
 
-  pub pageable : (place : Place) (room : List ℕ) → place ≡ placeIn p → 48 ≤ length room → Pageable (s .table) place size room
+  pub pageable : (place : Place) (room : List ℕ) → place ≡ placeIn p → itemRoom ≤ length room → Pageable (s .table) place size room
   pageable place room e l =
       record { stored = rw e (h .stored); some = omega (arith, h .asking .some); most = h .asking .most; long = omega (arith, h .asking .most) }
 
@@ -178,7 +176,7 @@ module _ (s : Store) (probe : List ℤ) (p : Scope) (size out : ℕ) (h : Paging
     is-page : PageIs (queryOf (s .table) Order.Near probe (p .reach)) (claimsIn s) (placeIn p) size room room' r
     is-page = rw at at is
 
-    pub told-few : r .count ≤ 16
+    pub told-few : r .count ≤ mostPage
     told-few = omega (arith, is-page .count, page-few, h .asking .most)
 
     module _ (scope : Scope) (told : scope ≡ Scoped) (last : ℕ) (flag : last ≡ flagged (r .last)) (n : ℕ) (three : n ≡ 3 * r .count)
@@ -194,9 +192,9 @@ module _ (s : Store) (probe : List ℤ) (p : Scope) (size out : ℕ) (h : Paging
       fits =
           let g = h .asking .isOpen .good in
           let all = page-small known in
-          and-both _ _ (same-range (s .table .measure) (s .table .d) (g .fit .range)) (and-both _ _ (eq-eqb _ _ (h .asking .aimed))
+          and-both _ _ (is-range (s .table .measure) (s .table .d) (g .fit .range)) (and-both _ _ (eq-eqb _ _ (h .asking .aimed))
           (and-both _ _ (and-both _ _ (scope-repeats p (s .table .count) (h .asking .scope) (good-few s g))
-          (and-both _ _ (le-leb (flagged (r .last)) 1 (flag-small (r .last))) (le-leb (length Page) 16 (omega (arith, page-few, h .asking .most)))))
+          (and-both _ _ (le-leb (flagged (r .last)) 1 (flag-small (r .last))) (le-leb (length Page) mostPage (omega (arith, page-few, h .asking .most)))))
           (and-both _ _ (eq-eqb _ _ (flat-length Page)) (and-both _ _ (flat-references Page all) (flat-numbers Page all)))))
 
       line-is : lineOf (answerFrame 2 (s .table .number) (s .table .measure) (s .table .d) probe Scoped (flagged (r .last)) (length Page) (flat Page))
@@ -204,8 +202,8 @@ module _ (s : Store) (probe : List ℤ) (p : Scope) (size out : ℕ) (h : Paging
       unfolding answerLine answerOf
       line-is = rw (claims-length (s .table .d) (s .table .count) (s .references) (s .coordinates), is-page .last)
 
-      pub page-told : (before : List ℕ) (w : Wrote) (after : List ℕ) → 573 ≤ length before
-          → Writes (answerFits (s .table .measure) (s .table .d) probe scope last (r .count) (take n room')) 573
+      pub page-told : (before : List ℕ) (w : Wrote) (after : List ℕ) → longestAnswer ≤ length before
+          → Writes (answerFits (s .table .measure) (s .table .d) probe scope last (r .count) (take n room')) longestAnswer
           (answerFrame 2 (s .table .number) (s .table .measure) (s .table .d) probe scope last (r .count) (take n room')) before w after
           → Says (pageLine (tableOf s) (askFor (s .table) probe p size)) before w after
       page-told before w after long x =

@@ -31,6 +31,7 @@ use Rattle.walk.specs.Asking.{queryOf}
 use Rattle.tree.proofs.Places.{claims-length}
 use Rattle.desk.specs.Desk.{Says, Given, Answering, Asking, askFor, pageLine, pageReply}
 use Rattle.desk.proofs.Telling.{place-start, place-after}
+use Rattle.paper.specs.Limits.{mostPage}
 
 pub says-refused : (o : Outcome (List ℕ)) (n : ℕ) (before : List ℕ) → o ≡ refused n → Says o before (Refused n) before
 unfolding wroteOf roomAfter
@@ -143,13 +144,13 @@ ask-given f e =
     let p = scopeIn (behind f) in
     let n = num 1 (drop 21 (behind f)) in
     let i = is-ask 1 f e in
-    let a = and-second (scopeOk p) ((eqb (p .from) 1 || eqb (p .snapshot) 0) && (leb 1 n && leb n 16)) (i .rest) in
-    let b = and-second (eqb (p .from) 1 || eqb (p .snapshot) 0) (leb 1 n && leb n 16) a in
+    let a = and-second (scopeOk p) ((eqb (p .from) 1 || eqb (p .snapshot) 0) && (leb 1 n && leb n mostPage)) (i .rest) in
+    let b = and-second (eqb (p .from) 1 || eqb (p .snapshot) 0) (leb 1 n && leb n mostPage) a in
     record {
-      narrow = i .headed .range .d-high;
-      scope = and-first (scopeOk p) ((eqb (p .from) 1 || eqb (p .snapshot) 0) && (leb 1 n && leb n 16)) (i .rest);
-      some = leb-true 1 n (and-first (leb 1 n) (leb n 16) b);
-      most = leb-true n 16 (and-second (leb 1 n) (leb n 16) b);
+      narrow = i .headed .range .narrow;
+      scope = and-first (scopeOk p) ((eqb (p .from) 1 || eqb (p .snapshot) 0) && (leb 1 n && leb n mostPage)) (i .rest);
+      some = leb-true 1 n (and-first (leb 1 n) (leb n mostPage) b);
+      most = leb-true n mostPage (and-second (leb 1 n) (leb n mostPage) b);
     }
 
 -- a reader's answer: the line's ask, or the number of its refusal

@@ -19,6 +19,7 @@ use Rattle.paper.specs.Ends as Ends
 use Rattle.paper.specs.Codec.{placeIn, answerLine, wroteOf, roomAfter}
 use Rattle.tree.specs.Soundness.{Good}
 use Rattle.walk.specs.Asking.{queryOf}
+use Rattle.paper.specs.Limits.{longestAnswer, mostPage, mostPlaces}
 
 -- a call that writes a line: its answer, and what its room then holds
 pub record Says (o : Outcome (List ℕ)) (before : List ℕ) (r : Wrote) (after : List ℕ) : Type 0 where
@@ -27,15 +28,15 @@ pub record Says (o : Outcome (List ℕ)) (before : List ℕ) (r : Wrote) (after 
 
 -- an ask that a reader gives
 pub record Given (a : lines-Ask.Ask) : Type 0 where
-  pub narrow : a .d ≤ 8
+  pub narrow : a .d ≤ mostPlaces
   pub scope : scopeOk (a .scope) ≡ true
   pub some : 1 ≤ a .size
-  pub most : a .size ≤ 16
+  pub most : a .size ≤ mostPage
 
 -- a sound table, with room for the longest line
 pub record Open (s : Store) (out : ℕ) : Type 0 where
   pub good : Good s
-  pub room : 573 ≤ out
+  pub room : longestAnswer ≤ out
 
 pub record Answering (s : Store) (a : lines-Ask.Ask) (out : ℕ) : Type 0 where
   pub isOpen : Open s out
@@ -47,7 +48,7 @@ pub record Asking (s : Store) (probe : List ℤ) (p : Scope) (size out : ℕ) : 
   pub aimed : length probe ≡ s .table .d
   pub scope : scopeOk p ≡ true
   pub some : 1 ≤ size
-  pub most : size ≤ 16
+  pub most : size ≤ mostPage
 
 -- whose snapshot is not over the count
 pub record Paging (s : Store) (probe : List ℤ) (p : Scope) (size out : ℕ) : Type 0 where

@@ -5,7 +5,7 @@ ghost use lib.Dec.{leb, eqb};
 ghost use lib.ListN.{length};
 ghost use Rattle.paper.specs.declared.orders.Order.the-variants.{Near};
 ghost use Rattle.paper.specs.Orders.{snapshotOf};
-ghost use Rattle.paper.specs.Tree.{store};
+ghost use Rattle.paper.specs.Tree.{lent};
 ghost use Rattle.paper.specs.Ends.{tableOf, served};
 ghost use Rattle.paper.specs.Codec.{placeIn, asked};
 ghost use Rattle.paper.specs.Codec.{lines as Codec·lines};
@@ -51,8 +51,8 @@ fn answer_here(
     size: u8,
     out: &mut [u8],
 ) -> Wrote
-    requires { ⌜ Asking (store t (now references) (now coordinates) (now rooms)) (now probe) p size (length (now out)) ⌝ }
-    ensures { λ r. ⌜ Says (pageReply (tableOf (store t (now (references .entry)) (now (coordinates .entry)) (now (rooms .entry)))) (askFor t (now (probe .entry)) p size)) (now (out .entry)) r (now (out .exit)) ⌝ }
+    requires { ⌜ Asking (lent t references coordinates rooms) (now probe) p size (length (now out)) ⌝ }
+    ensures { λ r. ⌜ Says (pageReply (tableOf (lent t (references .entry) (coordinates .entry) (rooms .entry))) (askFor t (now (probe .entry)) p size)) (now (out .entry)) r (now (out .exit)) ⌝ }
 {
     if !snapshot_holds(p, t.count) {
         return Wrote::Refused(7);
@@ -73,8 +73,8 @@ pub fn answer_ask(
     ask: Ask,
     out: &mut [u8],
 ) -> Wrote
-    requires { ⌜ Answering (store t (now references) (now coordinates) (now rooms)) ask (length (now out)) ⌝ }
-    ensures { λ r. ⌜ Says (replyTo (tableOf (store t (now (references .entry)) (now (coordinates .entry)) (now (rooms .entry)))) (asked Near ask)) (now (out .entry)) r (now (out .exit)) ⌝ }
+    requires { ⌜ Answering (lent t references coordinates rooms) ask (length (now out)) ⌝ }
+    ensures { λ r. ⌜ Says (replyTo (tableOf (lent t (references .entry) (coordinates .entry) (rooms .entry))) (asked Near ask)) (now (out .entry)) r (now (out .exit)) ⌝ }
 {
     if !is_ours(t, ask.table, ask.measure, ask.d) {
         return Wrote::Refused(11);
@@ -103,8 +103,8 @@ pub fn answer_line(
     line: &[u8],
     out: &mut [u8],
 ) -> Wrote
-    requires { ⌜ Open (store t (now references) (now coordinates) (now rooms)) (length (now out)) ⌝ }
-    ensures { λ r. ⌜ Says (served Codec·lines (tableOf (store t (now (references .entry)) (now (coordinates .entry)) (now (rooms .entry)))) (now (line .entry))) (now (out .entry)) r (now (out .exit)) ⌝ }
+    requires { ⌜ Open (lent t references coordinates rooms) (length (now out)) ⌝ }
+    ensures { λ r. ⌜ Says (served Codec·lines (tableOf (lent t (references .entry) (coordinates .entry) (rooms .entry))) (now (line .entry))) (now (out .entry)) r (now (out .exit)) ⌝ }
 {
     let read = lines::read_ask(line);
     if read.refusal != 0 {

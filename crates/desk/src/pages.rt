@@ -3,10 +3,11 @@ ghost use mathlib.Core.Path.{_≡_};
 ghost use Prim.Native.Nat.{_≤_};
 ghost use lib.ListN.{length};
 ghost use Rattle.paper.specs.Orders.{snapshotOf};
-ghost use Rattle.paper.specs.Tree.{store};
+ghost use Rattle.paper.specs.Tree.{lent};
 ghost use Rattle.paper.specs.Ends.{tableOf};
 ghost use Rattle.paper.specs.Codec.{placeIn, scopeOf};
 ghost use Rattle.desk.specs.Desk.{Says, Paging, askFor, flagged, pageLine};
+use paper::limits::ITEM_ROOM;
 use paper::lines::Scope;
 use paper::lines::Wrote;
 use paper::orders::Mark;
@@ -58,10 +59,10 @@ pub fn tell_page(
     size: u8,
     out: &mut [u8],
 ) -> Wrote
-    requires { ⌜ Paging (store t (now references) (now coordinates) (now rooms)) (now probe) p size (length (now out)) ⌝ }
-    ensures { λ r. ⌜ Says (pageLine (tableOf (store t (now (references .entry)) (now (coordinates .entry)) (now (rooms .entry)))) (askFor t (now (probe .entry)) p size)) (now (out .entry)) r (now (out .exit)) ⌝ }
+    requires { ⌜ Paging (lent t references coordinates rooms) (now probe) p size (length (now out)) ⌝ }
+    ensures { λ r. ⌜ Says (pageLine (tableOf (lent t (references .entry) (coordinates .entry) (rooms .entry))) (askFor t (now (probe .entry)) p size)) (now (out .entry)) r (now (out .exit)) ⌝ }
 {
-    let mut room = [0u64; 48];
+    let mut room = [0u64; ITEM_ROOM];
     let near = Order::Near;
     let place = place_in(p);
     let paged = walk::questions::page_of(

@@ -12,6 +12,7 @@ use lib.Dec.{ltb, leb, eqb}
 use borrow.Author.Tests.{ltb-true, ltb-false, leb-true, eqb-true, lt-ltb, le-ltb, le-leb}
 use Rattle.paper.specs.Frames.{be, num, glyph, digit, hexes, lineOf, ended, sound, frameOf}
 use Rattle.digits.specs.Places.{over, held}
+use Rattle.paper.specs.Limits.{longestAnswer, longestFrame}
 
 -- every number of the list is a byte
 abbrev pub Bytes : List ℕ → Type 0
@@ -157,15 +158,15 @@ line-frame (a ∷ b ∷ l) e =
     let e2 : (digit a % 16 * 16 + digit b % 16) % 16 ≡ digit b = omega arith in
     rw (e1, e2, glyph-digit a ha, glyph-digit b hb, line-frame l (q .1))
 
-pub sound-line : (f : List ℕ) → Bytes f → 0 < length f → length f ≤ 286 → sound (lineOf f) ≡ true
+pub sound-line : (f : List ℕ) → Bytes f → 0 < length f → length f ≤ longestFrame → sound (lineOf f) ≡ true
 unfolding sound
 sound-line f p h k =
-    rw (length-line f, lt-ltb 1 (2 * length f + 1) (omega arith), le-leb (2 * length f + 1) 573 (omega arith)) (ended-line f p)
+    rw (length-line f, lt-ltb 1 (2 * length f + 1) (omega arith), le-leb (2 * length f + 1) longestAnswer (omega arith)) (ended-line f p)
 
 pub line-of-sound : (l : List ℕ) → sound l ≡ true → lineOf (frameOf l) ≡ l
 unfolding sound
 line-of-sound l e =
-    line-frame l (and-both (leb (length l) 573) (ended l) (and-both (ltb 1 (length l)) (leb (length l) 573 && ended l) e .1) .1)
+    line-frame l (and-both (leb (length l) longestAnswer) (ended l) (and-both (ltb 1 (length l)) (leb (length l) longestAnswer && ended l) e .1) .1)
 
 pub length-frame : (l : List ℕ) → length (frameOf l) ≡ length l / 2
 unfolding frameOf
@@ -311,7 +312,7 @@ pub held-all : (s : List ℕ) → held s ≡ s
 unfolding held
 held-all s = refl
 
-pub sound-size : (l : List ℕ) → sound l ≡ true → length l ≤ 573
+pub sound-size : (l : List ℕ) → sound l ≡ true → length l ≤ longestAnswer
 unfolding sound
 sound-size l e =
-    leb-true (length l) 573 (and-both (leb (length l) 573) (ended l) (and-both (ltb 1 (length l)) (leb (length l) 573 && ended l) e .1) .0)
+    leb-true (length l) longestAnswer (and-both (leb (length l) longestAnswer) (ended l) (and-both (ltb 1 (length l)) (leb (length l) longestAnswer && ended l) e .1) .0)

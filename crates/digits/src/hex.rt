@@ -5,6 +5,7 @@ ghost use Prim.Native.Nat.{_/_, _≤_, _<_};
 ghost use lib.ListN.{length, drop};
 ghost use Rattle.paper.specs.Frames.{sound, frameOf};
 ghost use Rattle.paper.specs.Frames.{glyph as Frames·glyph, digit as Frames·digit};
+use paper::limits::LONGEST_ANSWER;
 
 pub fn glyph(n: u64) -> u8
     requires { ⌜ n < 16 ⌝ }
@@ -40,7 +41,7 @@ pub fn is_sound(line: &[u8]) -> bool
     if n < 2 {
         return false;
     }
-    if 573 < n {
+    if LONGEST_ANSWER < n {
         return false;
     }
     if n % 2 == 0 {

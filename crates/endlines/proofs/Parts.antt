@@ -15,8 +15,8 @@ use Rattle.paper.specs.declared.lines.Scope.{Scope}
 use Rattle.paper.specs.declared.orders.Place.{Place}
 use Rattle.paper.specs.declared.orders.Place.the-variants.{Start, After}
 use Rattle.paper.specs.Frames.{num}
-use Rattle.paper.specs.Fields.{ranged, coordsIn, scopeOk, itemsIn, numbersOk, referencesOk}
-use Rattle.paper.specs.Tree.{inRange}
+use Rattle.paper.specs.Fields.{coordsIn, scopeOk, itemsIn, numbersOk, referencesOk}
+use Rattle.paper.specs.Points.{inRange}
 use Rattle.paper.specs.Orders.{Item, snapshotOf, flat}
 use Rattle.paper.specs.Lists as lists
 use Rattle.paper.specs.Codec.{scopeOf, placeIn}
@@ -26,12 +26,9 @@ use Rattle.fields.proofs.ItemLaws.{Distances}
 use Rattle.orders.specs.Laws.{PlaceOk, ItemOk}
 use Rattle.paper.proofs.Tests.{and-first, and-second, and-both}
 use Rattle.orders.proofs.Lists.{All}
+use Rattle.paper.specs.Limits.{mostClaims, mostNumber}
 
 -- "measure 1 to 3, d 1 to 8", in a call and in a line
-pub same-range : (m d : ℕ) → inRange m d ≡ ranged m d
-unfolding ranged inRange
-same-range m d = and-assoc (leb 1 m) (leb m 3) (leb 1 d && leb d 8)
-
 -- a place's scope, and the place of a scope
 pub scope-reach : (reach : ℕ) (p : Place) (s : ℕ) → scopeOf reach p s .reach ≡ reach
 unfolding scopeOf
@@ -49,7 +46,7 @@ scope-snapshot reach Start s = refl
 scope-snapshot reach (After n m) s = refl
 
 -- the snapshot of an ask: its place's, or 0 from the start
-pub asked-small : (p : Place) → PlaceOk p → snapshotOf p 0 ≤ 4096
+pub asked-small : (p : Place) → PlaceOk p → snapshotOf p 0 ≤ mostClaims
 asked-small Start ok = omega arith
 asked-small (After n m) ok = ok .snapshot
 
@@ -57,14 +54,14 @@ pub asked-used : (p : Place) → snapshotOf p (snapshotOf p 0) ≡ snapshotOf p 
 asked-used Start = refl
 asked-used (After n m) = refl
 
-pub scope-ok : (reach : ℕ) (p : Place) (s : ℕ) → PlaceOk p → s ≤ 4096 → scopeOk (scopeOf reach p s) ≡ true
+pub scope-ok : (reach : ℕ) (p : Place) (s : ℕ) → PlaceOk p → s ≤ mostClaims → scopeOk (scopeOf reach p s) ≡ true
 unfolding scopeOf scopeOk
-scope-ok reach Start s ok h = rw (le-leb s 4096 h)
+scope-ok reach Start s ok h = rw (le-leb s mostClaims h)
 scope-ok reach (After n m) s ok h =
-    let k : m .number ≤ 4095 = omega (arith, ok .number) in
-    rw (le-leb s 4096 h, le-leb (m .number) 4095 k)
+    let k : m .number ≤ mostNumber = omega (arith, ok .number) in
+    rw (le-leb s mostClaims h, le-leb (m .number) mostNumber k)
 
-pub scope-fit : (reach : ℕ) (p : Place) (s : ℕ) → reach < 2 ^ 64 → PlaceOk p → s ≤ 4096 → ScopeFit (scopeOf reach p s)
+pub scope-fit : (reach : ℕ) (p : Place) (s : ℕ) → reach < 2 ^ 64 → PlaceOk p → s ≤ mostClaims → ScopeFit (scopeOf reach p s)
 unfolding scopeOf
 scope-fit reach Start s r ok h = record { reach = r; from = lit< tt; snapshot = omega arith; distance = lit< tt; number = lit< tt }
 scope-fit reach (After n m) s r ok h =
@@ -80,10 +77,10 @@ pub place-ok : (s : Scope) → scopeOk s ≡ true → s .distance < 2 ^ 64 → P
 unfolding scopeOk placeIn
 place-ok s e far =
     let e1 = and-second (leb (s .from) 1) _ e in
-    let e2 = and-second (leb (s .snapshot) 4096) _ e1 in
+    let e2 = and-second (leb (s .snapshot) mostClaims) _ e1 in
     go (eqb (s .from) 0) (leb-true _ _ (and-first _ _ e1)) (leb-true _ _ (and-first _ _ e2))
   where
-    go : (b : Bool) → s .snapshot ≤ 4096 → s .number ≤ 4095
+    go : (b : Bool) → s .snapshot ≤ mostClaims → s .number ≤ mostNumber
         → PlaceOk (cond b Start (After (s .snapshot) (record { distance = s .distance; number = s .number })))
     go true n k = tt
     go false n k = record { snapshot = n; distance = far; number = omega arith }
@@ -96,7 +93,7 @@ place-used s = go (eqb (s .from) 0)
     go true = refl
     go false = refl
 
-pub scope-small : (s : Scope) → scopeOk s ≡ true → s .snapshot ≤ 4096
+pub scope-small : (s : Scope) → scopeOk s ≡ true → s .snapshot ≤ mostClaims
 unfolding scopeOk
 scope-small s e = leb-true _ _ (and-first _ _ (and-second (leb (s .from) 1) _ e))
 
@@ -114,7 +111,7 @@ probe-read (suc d) f b = (sfits-toZ {w = w32} {n = num 4 f} (record { fits = num
 pub flat-numbers : (l : List Item) → All ItemOk l → numbersOk (flat l) ≡ true
 unfolding flat numbersOk
 flat-numbers [] h = refl
-flat-numbers (x ∷ l) h = and-both _ _ (le-leb (x .number) 4095 (omega (arith, h .0 .number))) (flat-numbers l (h .1))
+flat-numbers (x ∷ l) h = and-both _ _ (le-leb (x .number) mostNumber (omega (arith, h .0 .number))) (flat-numbers l (h .1))
 
 pub flat-references : (l : List Item) → All ItemOk l → referencesOk (flat l) ≡ true
 unfolding flat referencesOk
@@ -132,9 +129,9 @@ unfolding itemsIn numbersOk lists.itemsIn
 items-ok zero g r b e = tt
 items-ok (suc k) g r b e = (
   record {
-    number = omega (arith, leb-true (num 2 g) 4095 (and-first _ _ e));
+    number = omega (arith, leb-true (num 2 g) mostNumber (and-first _ _ e));
     reference = num-lt 4 (drop 2 g) (bytes-drop 2 g b);
     distance = num-lt 8 (drop 6 g) (bytes-drop 6 g b);
   },
-  items-ok k (drop 14 g) r (bytes-drop 14 g b) (and-second (leb (num 2 g) 4095) _ e),
+  items-ok k (drop 14 g) r (bytes-drop 14 g b) (and-second (leb (num 2 g) mostNumber) _ e),
 )

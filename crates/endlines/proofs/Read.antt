@@ -12,7 +12,8 @@ use Rattle.paper.specs.declared.lines.AskRead.{AskRead}
 use Rattle.paper.specs.declared.lines.AnswerRead.{AnswerRead}
 use Rattle.paper.specs.declared.orders.Order.the-variants.{Near}
 use Rattle.paper.specs.Frames.{num, frameOf}
-use Rattle.paper.specs.Fields.{ranged, coordsIn, places, scopeIn, scopeOk, itemPlaces}
+use Rattle.paper.specs.Points.{inRange}
+use Rattle.paper.specs.Fields.{coordsIn, places, scopeIn, scopeOk, itemPlaces}
 use Rattle.paper.specs.Fields as fields
 use Rattle.paper.specs.Lines.{behind, askRanges, askOk, askAt, anAsk, noAsk, askOf, answerRanges, countIn, answerOk, answerAt, anAnswer, noAnswer, answerOf}
 use Rattle.paper.specs.Outcomes.{gives}
@@ -29,7 +30,8 @@ use Rattle.paper.proofs.Tests.{and-first, and-second}
 use Rattle.paper.proofs.Outcomes.{must-test, must-rest, same-given}
 use Rattle.orders.proofs.Lists.{all-mem}
 use Rattle.orders.proofs.Rooms.{length-in}
-use Rattle.endlines.proofs.Parts.{same-range, place-ok, place-used, scope-small, probe-read, items-ok}
+use Rattle.endlines.proofs.Parts.{place-ok, place-used, scope-small, probe-read, items-ok}
+use Rattle.paper.specs.Limits.{itemRoom}
 
 -- what stands behind the probe is bytes
 bytes-behind : (f : List ℕ) → Bytes f → Bytes (behind f)
@@ -40,13 +42,13 @@ module _ (f : List ℕ) (b : Bytes f) where
   abbrev d : ℕ
   d = num 1 (drop 6 f)
 
-  query-ok : ranged (num 1 (drop 5 f)) d ≡ true
+  query-ok : inRange (num 1 (drop 5 f)) d ≡ true
       → QueryOk (queryIn Near (num 4 (drop 1 f)) (num 1 (drop 5 f)) d (places d (coordsIn d (drop 7 f))) (scopeIn (behind f)))
   unfolding scopeIn
   query-ok e =
       let t : take d (places d (coordsIn d (drop 7 f))) ≡ coordsIn d (drop 7 f) = take-places d (drop 7 f) in
       record {
-        range = same-range _ _ ∙ e;
+        range = e;
         long = ap length t ∙ length-coordsIn d (drop 7 f);
         typed = record {
           table = num-lt 4 (drop 1 f) (bytes-drop 1 f b);
@@ -86,7 +88,7 @@ module _ (f : List ℕ) (b : Bytes f) where
         snapshot = scope-small (scopeIn (behind f)) s;
         used = place-used (scopeIn (behind f));
         few = omega (arith, q .few, length-in n room);
-        items = λ x m. all-mem _ x _ (items-ok n (drop 23 (behind f)) (replicate (48 - 3 * n) 0) (bytes-drop 23 (behind f) (bytes-behind f b)) (q .numbers)) m;
+        items = λ x m. all-mem _ x _ (items-ok n (drop 23 (behind f)) (replicate (itemRoom - 3 * n) 0) (bytes-drop 23 (behind f) (bytes-behind f b)) (q .numbers)) m;
       }
 
 -- a line that reads

@@ -25,7 +25,8 @@ use Rattle.orders.specs.Laws.{QueryOk, AskOk, AnswerOk}
 use Rattle.paper.proofs.Tests.{no-way, and-both}
 use Rattle.orders.proofs.Lists.{all-of-mem}
 use Rattle.orders.proofs.Rooms.{read-flat, flat-length}
-use Rattle.endlines.proofs.Parts.{same-range, scope-reach, scope-place, scope-snapshot, asked-small, asked-used, scope-ok, scope-fit, scope-asks, probe-fit, flat-numbers, flat-references, flat-distances}
+use Rattle.endlines.proofs.Parts.{scope-reach, scope-place, scope-snapshot, asked-small, asked-used, scope-ok, scope-fit, scope-asks, probe-fit, flat-numbers, flat-references, flat-distances}
+use Rattle.paper.specs.Limits.{itemRoom, mostPage}
 
 near : (o : Order) → isNear o ≡ true → Near ≡ o
 near Near e = refl
@@ -64,9 +65,9 @@ module _ (a : Ask) (ok : AskOk a) where
   ask-reads =
       let fits : askFits (a .query .measure) (a .query .d) (a .query .probe) scope (a .size) ≡ true =
       unfold askFits askRanges in
-      and-both _ _ (sym (same-range _ _) ∙ ok .query .range) (and-both _ _ (eq-eqb _ _ (ok .query .long))
+      and-both _ _ (ok .query .range) (and-both _ _ (eq-eqb _ _ (ok .query .long))
       (and-both _ _ (scope-ok (a .query .reach) (a .place) (snapshotOf (a .place) 0) (ok .place) (asked-small (a .place) (ok .place)))
-      (and-both _ _ (scope-asks (a .query .reach) (a .place)) (and-both _ _ (le-leb 1 (a .size) (ok .one)) (le-leb (a .size) 16 (ok .most)))))) in
+      (and-both _ _ (scope-asks (a .query .reach) (a .place)) (and-both _ _ (le-leb 1 (a .size) (ok .one)) (le-leb (a .size) mostPage (ok .most)))))) in
       ask-reads-back 1 _ _ _ _ _ _ fits (lit< tt) (ok .query .typed .table) (probe-fit _ (ok .query .typed .probe))
       (scope-fit (a .query .reach) (a .place) (snapshotOf (a .place) 0) (ok .query .typed .reach) (ok .place) (asked-small (a .place) (ok .place)))
 
@@ -106,9 +107,9 @@ module _ (y : Answer) (ok : AnswerOk y) where
       let all = all-of-mem _ (y .items) (ok .items) in
       let fits : answerFits (y .query .measure) (y .query .d) (y .query .probe) around (bit (y .last)) pages (flat (y .items)) ≡ true =
       unfold answerFits answerRanges in
-      and-both _ _ (sym (same-range _ _) ∙ ok .query .range) (and-both _ _ (eq-eqb _ _ (ok .query .long))
+      and-both _ _ (ok .query .range) (and-both _ _ (eq-eqb _ _ (ok .query .long))
       (and-both _ _ (and-both _ _ (scope-ok (y .query .reach) (y .place) (y .snapshot) (ok .place) (ok .snapshot))
-      (and-both _ _ (le-leb (bit (y .last)) 1 (bit-small (y .last))) (le-leb pages 16 (ok .few))))
+      (and-both _ _ (le-leb (bit (y .last)) 1 (bit-small (y .last))) (le-leb pages mostPage (ok .few))))
       (and-both _ _ (eq-eqb _ _ (flat-length (y .items))) (and-both _ _ (flat-references (y .items) all) (flat-numbers (y .items) all))))) in
       answer-reads-back 2 _ _ _ _ _ _ _ _ fits (lit< tt) (ok .query .typed .table) (probe-fit _ (ok .query .typed .probe))
       (scope-fit (y .query .reach) (y .place) (y .snapshot) (ok .query .typed .reach) (ok .place) (ok .snapshot)) (flat-distances (y .items) all)
@@ -130,7 +131,7 @@ module _ (y : Answer) (ok : AnswerOk y) where
       let p = scope-place (y .query .reach) (y .place) (y .snapshot) (ok .used) in
       let s = scope-snapshot (y .query .reach) (y .place) (y .snapshot) in
       let l = bit-back (y .last) in
-      let m = read-flat (y .items) (replicate (48 - 3 * pages) 0) in
+      let m = read-flat (y .items) (replicate (itemRoom - 3 * pages) 0) in
       λ i. record { query = q i; place = p i; snapshot = s i; last = l i; items = m i }
 
   pub answer-back : isNear (y .query .order) ≡ true → readAnswer Near (answerLine y) ≡ gives y

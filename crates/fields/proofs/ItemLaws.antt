@@ -14,6 +14,7 @@ use Rattle.digits.specs.Places.{over}
 use Rattle.digits.proofs.Laws.{and-false, and-both, num-lt, Bytes, bytes-append, bytes-be, bytes-drop, length-be, field-read, field-back}
 use Rattle.paper.specs.Fields.{item, itemBytes, itemsIn, numbersOk, referencesOk}
 use Rattle.fields.proofs.PartLaws.{over-to}
+use Rattle.paper.specs.Limits.{itemRoom, mostNumber}
 
 pub length-item : (n r x : ℕ) → length (item n r x) ≡ 14
 unfolding item
@@ -83,12 +84,12 @@ three (h ∷ p) q (suc n) a b c x y z e =
     rw (e1, e2) (ap (λ (l : List ℕ). h ∷ l) (three p q n a b c x y z (omega arith)))
 
 pub places-step : (f : List ℕ) (i : ℕ) → i < 16
-    → set (set (set (itemsIn i f ++ replicate (48 - 3 * i) 0) (3 * i) (num 2 (drop (14 * i) f))) (3 * i + 1) (num 4 (drop (14 * i + 2) f))) (3 * i + 2) (num 8 (drop (14 * i + 6) f))
-    ≡ itemsIn (i + 1) f ++ replicate (48 - 3 * (i + 1)) 0
+    → set (set (set (itemsIn i f ++ replicate (itemRoom - 3 * i) 0) (3 * i) (num 2 (drop (14 * i) f))) (3 * i + 1) (num 4 (drop (14 * i + 2) f))) (3 * i + 2) (num 8 (drop (14 * i + 6) f))
+    ≡ itemsIn (i + 1) f ++ replicate (itemRoom - 3 * (i + 1)) 0
 places-step f i h =
-    let e : 48 - 3 * i ≡ suc (suc (suc (48 - 3 * (i + 1)))) = omega arith in
+    let e : itemRoom - 3 * i ≡ suc (suc (suc (itemRoom - 3 * (i + 1)))) = omega arith in
     rw (e, add-one i, items-snoc i f, ← add-one i)
-    (three (itemsIn i f) (replicate (48 - 3 * (i + 1)) 0) (3 * i) (num 2 (drop (14 * i) f)) (num 4 (drop (14 * i + 2) f)) (num 8 (drop (14 * i + 6) f)) 0 0 0 (length-itemsIn i f))
+    (three (itemsIn i f) (replicate (itemRoom - 3 * (i + 1)) 0) (3 * i) (num 2 (drop (14 * i) f)) (num 4 (drop (14 * i + 2) f)) (num 8 (drop (14 * i + 6) f)) 0 0 0 (length-itemsIn i f))
 
 -- there and back
 pub items-back : (k : ℕ) (f : List ℕ) → Bytes f → 14 * k ≤ length f → itemBytes (itemsIn k f) ++ drop (14 * k) f ≡ f
@@ -128,19 +129,19 @@ items-read (suc k) (n ∷ r ∷ x ∷ ns) g p =
 
 -- of the items that are left to test, the first is in range, or is not
 module _ (k i : ℕ) (g : List ℕ) (h : i < k) where
-  pub number-more : num 2 (drop (14 * i) g) ≤ 4095
+  pub number-more : num 2 (drop (14 * i) g) ≤ mostNumber
       → numbersOk (itemsIn (k - i) (drop (14 * i) g)) ≡ numbersOk (itemsIn (k - (i + 1)) (drop (14 * (i + 1)) g))
   unfolding itemsIn numbersOk
   number-more q =
       let e1 : k - i ≡ suc (k - (i + 1)) = omega arith in
       let e2 : 14 * (i + 1) ≡ 14 * i + 14 = omega arith in
-      rw (e1, e2, le-leb (num 2 (drop (14 * i) g)) 4095 q, drop-drop 14 (14 * i) g)
+      rw (e1, e2, le-leb (num 2 (drop (14 * i) g)) mostNumber q, drop-drop 14 (14 * i) g)
 
-  pub number-bad : 4095 < num 2 (drop (14 * i) g) → numbersOk (itemsIn (k - i) (drop (14 * i) g)) ≡ false
+  pub number-bad : mostNumber < num 2 (drop (14 * i) g) → numbersOk (itemsIn (k - i) (drop (14 * i) g)) ≡ false
   unfolding itemsIn numbersOk
   number-bad q =
       let e1 : k - i ≡ suc (k - (i + 1)) = omega arith in
-      rw (e1, lt-leb (num 2 (drop (14 * i) g)) 4095 q)
+      rw (e1, lt-leb (num 2 (drop (14 * i) g)) mostNumber q)
 
 -- the same of items that a writer is handed
 unfoldable pub fitting : List ℕ → Bool
@@ -154,15 +155,15 @@ three-drop ns j h =
     rw (e1, e2, e3, drop-cons ns j 0 (omega arith), drop-cons ns (suc j) 0 (omega arith), drop-cons ns (suc (suc j)) 0 (omega arith))
 
 module _ (ns : List ℕ) (j : ℕ) (h : j + 2 < length ns) where
-  pub fit-more : getD ns j 0 ≤ 4095 → getD ns (j + 1) 0 ≤ 4294967295 → fitting (drop j ns) ≡ fitting (drop (j + 3) ns)
+  pub fit-more : getD ns j 0 ≤ mostNumber → getD ns (j + 1) 0 ≤ 4294967295 → fitting (drop j ns) ≡ fitting (drop (j + 3) ns)
   unfolding fitting referencesOk numbersOk
   fit-more p q =
-      rw (three-drop ns j h, le-leb (getD ns j 0) 4095 p, lt-ltb (getD ns (j + 1) 0) 4294967296 (omega arith))
+      rw (three-drop ns j h, le-leb (getD ns j 0) mostNumber p, lt-ltb (getD ns (j + 1) 0) 4294967296 (omega arith))
 
-  pub fit-number : 4095 < getD ns j 0 → fitting (drop j ns) ≡ false
+  pub fit-number : mostNumber < getD ns j 0 → fitting (drop j ns) ≡ false
   unfolding fitting referencesOk numbersOk
   fit-number p =
-      rw (three-drop ns j h, lt-leb (getD ns j 0) 4095 p) (and-false (ltb (getD ns (j + 1) 0) 4294967296 && referencesOk (drop (j + 3) ns)))
+      rw (three-drop ns j h, lt-leb (getD ns j 0) mostNumber p) (and-false (ltb (getD ns (j + 1) 0) 4294967296 && referencesOk (drop (j + 3) ns)))
 
   pub fit-reference : 4294967295 < getD ns (j + 1) 0 → fitting (drop j ns) ≡ false
   unfolding fitting referencesOk numbersOk
@@ -184,9 +185,9 @@ items-fitting (suc k) (n ∷ []) e p q h = absurd (omega arith)
 items-fitting (suc k) (n ∷ r ∷ []) e p q h = absurd (omega arith)
 items-fitting (suc k) (n ∷ r ∷ x ∷ ns) e p q h =
     let a = and-both (ltb r 4294967296) (referencesOk ns) p in
-    let b = and-both (leb n 4095) (numbersOk ns) q in
+    let b = and-both (leb n mostNumber) (numbersOk ns) q in
     let hr : r < 4294967296 = ltb-true r 4294967296 (a .0) in
-    let hn : n ≤ 4095 = leb-true n 4095 (b .0) in
+    let hn : n ≤ mostNumber = leb-true n mostNumber (b .0) in
     (omega arith, (omega arith, (h .0, items-fitting k ns (omega arith) (a .1) (b .1) (h .1))))
 
 -- a reference that was read is in range

@@ -16,9 +16,12 @@ use Rattle.paper.specs.Frames.{be, num}
 use Rattle.digits.specs.Places.{over}
 use Rattle.digits.proofs.Laws.{Bytes, bytes-append, bytes-be, length-be, over-append, and-both}
 use borrow.Author.Tests.{leb-true, le-leb, eqb-true, eq-eqb}
-use Rattle.paper.specs.Fields.{ranged, head, front, coordBytes, coordsIn, scopeBytes, scopeOk}
+use Rattle.paper.specs.Points.{inRange, InRange}
+use Rattle.paper.proofs.Ranges.{range-is}
+use Rattle.paper.specs.Fields.{head, front, coordBytes, coordsIn, scopeBytes, scopeOk}
 use Rattle.paper.specs.Lines.{headOk}
 use Rattle.paper.specs.declared.lines.Scope.{Scope}
+use Rattle.paper.specs.Limits.{mostClaims, mostNumber}
 
 -- ---- writing
 
@@ -110,37 +113,23 @@ place-step f i h =
 
 -- ---- ranges
 
-pub record Ranged (m d : ℕ) : Type 0 where
-  pub m-low : 1 ≤ m
-  pub m-high : m ≤ 3
-  pub d-low : 1 ≤ d
-  pub d-high : d ≤ 8
-
-pub ranged-yes : (m d : ℕ) → ranged m d ≡ true → Ranged m d
-unfolding ranged
-ranged-yes m d e =
-    let p = and-both (leb 1 m) (leb m 3 && (leb 1 d && leb d 8)) e in
-    let q = and-both (leb m 3) (leb 1 d && leb d 8) (p .1) in
-    let r = and-both (leb 1 d) (leb d 8) (q .1) in
-    record { m-low = leb-true 1 m (p .0); m-high = leb-true m 3 (q .0); d-low = leb-true 1 d (r .0); d-high = leb-true d 8 (r .1) }
-
 -- a scope's ranges, and then its zero rule
-pub scope-rule : (p : Scope) → p .from ≤ 1 → p .snapshot ≤ 4096 → p .number ≤ 4095 → scopeOk p ≡ eqb (p .from) 1 || (eqb (p .distance) 0 && eqb (p .number) 0)
+pub scope-rule : (p : Scope) → p .from ≤ 1 → p .snapshot ≤ mostClaims → p .number ≤ mostNumber → scopeOk p ≡ eqb (p .from) 1 || (eqb (p .distance) 0 && eqb (p .number) 0)
 unfolding scopeOk
-scope-rule p a b c = rw (le-leb (p .from) 1 a, le-leb (p .snapshot) 4096 b, le-leb (p .number) 4095 c)
+scope-rule p a b c = rw (le-leb (p .from) 1 a, le-leb (p .snapshot) mostClaims b, le-leb (p .number) mostNumber c)
 
 -- what a head of kind k is known for
 pub record Headed (k : ℕ) (f : List ℕ) : Type 0 where
   pub kind : num 1 f ≡ k
-  pub test : ranged (num 1 (drop 5 f)) (num 1 (drop 6 f)) ≡ true
-  pub range : Ranged (num 1 (drop 5 f)) (num 1 (drop 6 f))
+  pub test : inRange (num 1 (drop 5 f)) (num 1 (drop 6 f)) ≡ true
+  pub range : InRange (num 1 (drop 5 f)) (num 1 (drop 6 f))
 
 pub is-head : (k : ℕ) (f : List ℕ) → headOk k f ≡ true → Headed k f
 unfolding headOk
 is-head k f e =
-    let p = and-both (eqb (num 1 f) k) (ranged (num 1 (drop 5 f)) (num 1 (drop 6 f))) e in
-    record { kind = eqb-true (num 1 f) k (p .0); test = p .1; range = ranged-yes (num 1 (drop 5 f)) (num 1 (drop 6 f)) (p .1) }
+    let p = and-both (eqb (num 1 f) k) (inRange (num 1 (drop 5 f)) (num 1 (drop 6 f))) e in
+    record { kind = eqb-true (num 1 f) k (p .0); test = p .1; range = range-is (num 1 (drop 5 f)) (num 1 (drop 6 f)) (p .1) }
 
-pub head-rule : (k m d : ℕ) (f : List ℕ) → num 1 f ≡ k → num 1 (drop 5 f) ≡ m → num 1 (drop 6 f) ≡ d → ranged m d ≡ true → headOk k f ≡ true
+pub head-rule : (k m d : ℕ) (f : List ℕ) → num 1 f ≡ k → num 1 (drop 5 f) ≡ m → num 1 (drop 6 f) ≡ d → inRange m d ≡ true → headOk k f ≡ true
 unfolding headOk
 head-rule k m d f a b c e = rw (a, b, c, eq-eqb k k refl) e

@@ -6,10 +6,11 @@ use Rattle.paper.specs.Frames.{num}
 use Rattle.paper.specs.Fields.{coordsIn, places, scopeIn}
 use Rattle.paper.specs.Lines.{behind}
 use Rattle.fields.specs.declared.parts.Front.{Front}
+use Rattle.paper.specs.Limits.{mostPlaces}
 
 -- a frame that has all of it
 pub record Begun (f : List ℕ) : Type 0 where
-  pub few : num 1 (drop 6 f) ≤ 8
+  pub few : num 1 (drop 6 f) ≤ mostPlaces
   pub long : 28 + 4 * num 1 (drop 6 f) ≤ length f
 
 unfoldable pub frontAt : List ℕ → Front

@@ -6,6 +6,9 @@ ghost use lib.ListN.{length, drop};
 ghost use lib.Dec.{eqb};
 ghost use Rattle.paper.specs.Fields.{item, itemBytes, itemsIn, itemPlaces, numbersOk, referencesOk};
 ghost use Rattle.digits.specs.Places.{held, over};
+ghost use Rattle.paper.specs.Limits.{mostPage};
+use paper::limits::ITEM_ROOM;
+use paper::limits::MOST_NUMBER;
 
 fn put_item(out: &mut [u8], at: usize, n: u64, r: u64, x: u64)
     requires { ⌜ 2 * (at + 14) ≤ length (now out) ⌝ }
@@ -17,7 +20,7 @@ fn put_item(out: &mut [u8], at: usize, n: u64, r: u64, x: u64)
 }
 
 pub fn put_items(out: &mut [u8], at: usize, items: &[u64], k: usize)
-    requires { ⌜ (length (now items) ≡ 3 * k) × ((k ≤ 16) × (2 * (at + 14 * k) ≤ length (now out))) ⌝ }
+    requires { ⌜ (length (now items) ≡ 3 * k) × ((k ≤ mostPage) × (2 * (at + 14 * k) ≤ length (now out))) ⌝ }
     ensures { λ _. ⌜ now (out .exit) ≡ over (now (out .entry)) at (itemBytes (now (items .entry))) ⌝ }
 {
     let mut i = 0;
@@ -28,11 +31,11 @@ pub fn put_items(out: &mut [u8], at: usize, items: &[u64], k: usize)
     }
 }
 
-pub fn items_at(src: &[u8], at: usize, k: usize) -> [u64; 48]
-    requires { ⌜ (at + 14 * k ≤ length (held (now src))) × (k ≤ 16) ⌝ }
+pub fn items_at(src: &[u8], at: usize, k: usize) -> [u64; ITEM_ROOM]
+    requires { ⌜ (at + 14 * k ≤ length (held (now src))) × (k ≤ mostPage) ⌝ }
     ensures { λ r. ⌜ r ≡ itemPlaces k (itemsIn k (drop at (held (now (src .entry))))) ⌝ }
 {
-    let mut found = [0u64; 48];
+    let mut found = [0u64; ITEM_ROOM];
     let mut i = 0;
     while i < k {
         let j = 3 * i;
@@ -52,7 +55,7 @@ pub fn numbers_ok(src: &[u8], at: usize, k: usize) -> bool
 {
     let mut i = 0;
     while i < k {
-        if 4095 < digits::number(src, at + 14 * i, 2) {
+        if MOST_NUMBER < digits::number(src, at + 14 * i, 2) {
             return false;
         }
         i += 1;
@@ -69,7 +72,7 @@ pub fn items_fit(items: &[u64], k: u8) -> bool
     }
     let mut j = 0;
     while j < items.len() {
-        if 4095 < items[j] {
+        if MOST_NUMBER < items[j] {
             return false;
         }
         if 4294967295 < items[j + 1] {

@@ -14,6 +14,5 @@ pub use parts::kind;
 pub use parts::put_coords;
 pub use parts::put_front;
 pub use parts::put_head;
-pub use parts::ranged;
 pub use parts::scope_at;
 pub use parts::scope_ok;

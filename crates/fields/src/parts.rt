@@ -4,26 +4,14 @@ ghost use Prim.Native.Nat.{_+_, _*_, _≤_};
 ghost use lib.ListN.{length, drop};
 ghost use Rattle.paper.specs.Frames.{num};
 ghost use Rattle.paper.specs.Fields.{head, coordBytes, coordsIn, places, scopeBytes, scopeIn, scopeOk};
-ghost use Rattle.paper.specs.Fields.{ranged as Fields·ranged, front as Fields·front};
+ghost use Rattle.paper.specs.Fields.{front as Fields·front};
 ghost use Rattle.paper.specs.Lines.{headOk};
 ghost use Rattle.digits.specs.Places.{held, over};
 ghost use Rattle.fields.specs.Fronts.{Begun, frontAt};
+ghost use Rattle.paper.specs.Limits.{mostPlaces};
+use paper::limits::MOST_PLACES;
 use paper::lines::Scope;
-
-pub fn ranged(measure: u64, d: u64) -> bool
-    ensures { λ r. ⌜ r ≡ Fields·ranged measure d ⌝ }
-{
-    if measure < 1 {
-        return false;
-    }
-    if 3 < measure {
-        return false;
-    }
-    if d < 1 {
-        return false;
-    }
-    d <= 8
-}
+use paper::points::in_range;
 
 // The kind of the frame that `src` holds.
 pub fn kind(src: &[u8]) -> u64
@@ -39,7 +27,10 @@ pub fn head_ok(src: &[u8], kind: u8) -> bool
     ensures { λ r. ⌜ r ≡ headOk kind (held (now (src .entry))) ⌝ }
 {
     if digits::number(src, 0, 1) == kind as u64 {
-        return ranged(digits::number(src, 5, 1), digits::number(src, 6, 1));
+        return in_range(
+            digits::number(src, 5, 1) as u8,
+            digits::number(src, 6, 1) as usize,
+        );
     }
     false
 }
@@ -65,11 +56,11 @@ pub fn put_coords(out: &mut [u8], at: usize, coords: &[i32])
     }
 }
 
-pub fn coords_at(src: &[u8], at: usize, d: usize) -> [i32; 8]
-    requires { ⌜ (at + 4 * d ≤ length (held (now src))) × (d ≤ 8) ⌝ }
+pub fn coords_at(src: &[u8], at: usize, d: usize) -> [i32; MOST_PLACES]
+    requires { ⌜ (at + 4 * d ≤ length (held (now src))) × (d ≤ mostPlaces) ⌝ }
     ensures { λ r. ⌜ r ≡ places d (coordsIn d (drop at (held (now (src .entry))))) ⌝ }
 {
-    let mut found = [0i32; 8];
+    let mut found = [0i32; MOST_PLACES];
     let mut i = 0;
     while i < d {
         found[i] = digits::signed(digits::number(src, at + 4 * i, 4) as u32);
@@ -84,10 +75,10 @@ pub fn scope_ok(p: Scope) -> bool
     if 1 < p.from {
         return false;
     }
-    if 4096 < p.snapshot {
+    if Scope::MOST_SNAPSHOT < p.snapshot {
         return false;
     }
-    if 4095 < p.number {
+    if Scope::MOST_NUMBER < p.number {
         return false;
     }
     if p.from == 1 {
@@ -128,7 +119,7 @@ pub struct Front {
     pub table: u32,
     pub measure: u8,
     pub d: u8,
-    pub probe: [i32; 8],
+    pub probe: [i32; MOST_PLACES],
     pub scope: Scope,
 }
 

@@ -11,7 +11,7 @@ use Rattle.paper.specs.declared.orders.Place.{Place}
 use Rattle.paper.specs.declared.orders.Place.the-variants.{Start, After}
 use Rattle.paper.specs.Points.{noClaim}
 use Rattle.paper.specs.Orders.{Item, noItem, Query, itemOf, listed, snapshotOf, following, pageOf, lastOf, snapshotHolds, markHolds}
-use Rattle.paper.specs.Tree.{inRange}
+use Rattle.paper.specs.Points.{inRange}
 use Rattle.paper.specs.Outcomes.{gives}
 use Rattle.paper.specs.Ends.{Ask, Answer, Table, count, matches, answerOf, answerTo, Listing, lastItem, markOf, presentPlace, presentAsk, rising, every, fitting, startedWell, soundIn, toPresent, pageHolds, joinedTo, taken}
 use Rattle.paper.proofs.Tests.{and-first, and-second, and-both, or-right, or-left, false-not}
@@ -23,10 +23,11 @@ use Rattle.orders.proofs.Taking.{present-start, present-after, query-same, plac
 use Rattle.orders.specs.Laws.{QueryOk, PlaceOk, AskOk, ItemOk, AnswerOk}
 use Rattle.journey.specs.World.{TableOk}
 use Rattle.journey.proofs.Kept.{Kept, after, Vouched, kept-are, is-fitting}
+use Rattle.paper.specs.Limits.{mostClaims, mostPage}
 
 -- what a sound list says of its present place
 record Parts (L : Listing) : Type 0 where
-  small : L .snapshot ≤ 4096
+  small : L .snapshot ≤ mostClaims
   fit : All (λ x. fitting (L .query .reach) (L .snapshot) x ≡ true) (L .items)
   some : L .started ≡ true → L .complete ≡ false → 1 ≤ length (L .items)
 
@@ -35,12 +36,12 @@ unfolding soundIn startedWell
 parts room L e =
     let e1 = and-second (inRange (L .query .measure) (L .query .d)) _ e in
     let e2 = and-second (eqb (length (L .query .probe)) (L .query .d)) _ e1 in
-    let e3 = and-second (leb (L .snapshot) 4096) _ e2 in
+    let e3 = and-second (leb (L .snapshot) mostClaims) _ e2 in
     let e4 = and-second (leb (length (L .items)) room) _ e3 in
     let e5 = and-second (rising (L .query .order) (L .items)) _ e4 in
     let e6 = and-second (every (fitting (L .query .reach) (L .snapshot)) (L .items)) _ e5 in
     record {
-      small = leb-true (L .snapshot) 4096 (and-first _ _ e2);
+      small = leb-true (L .snapshot) mostClaims (and-first _ _ e2);
       fit = every-all _ (L .items) (and-first _ _ e5);
       some = λ p c. let e7 : (leb 1 (length (L .items)) || L .complete) ≡ true = rw p at e6 in leb-true _ _ (or-left _ _ e7 c);
     }
@@ -59,7 +60,7 @@ present-ok room L ok e c = go (L .started) refl (parts room L e)
         subst PlaceOk (sym (present-after L p))
         (record { snapshot = s .small; distance = omega (arith, ok .typed .reach); number = omega (arith, s .small) })
 
-pub asked-ok : (room n : ℕ) (L : Listing) → QueryOk (L .query) → soundIn room L ≡ true → L .complete ≡ false → 1 ≤ n → n ≤ 16 → AskOk (presentAsk L n)
+pub asked-ok : (room n : ℕ) (L : Listing) → QueryOk (L .query) → soundIn room L ≡ true → L .complete ≡ false → 1 ≤ n → n ≤ mostPage → AskOk (presentAsk L n)
 asked-ok room n L ok e c one most = record { query = ok; place = present-ok room L ok e c; one = one; most = most }
 
 -- what the office gives is in range, and vouched for

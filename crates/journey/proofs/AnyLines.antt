@@ -12,6 +12,7 @@ use Rattle.journey.specs.Promise.{allOf, Truthful, MayAsk, Answered, Gro
 use Rattle.journey.proofs.Kept.{Kept, Grown, grown-matches, kept-grown, kept-sound}
 use Rattle.journey.proofs.Growth.{Ready, is-answered, has-grown}
 use Rattle.journey.proofs.Journey.{Good, always, later-grown, later-reachable, later-lists}
+use Rattle.paper.specs.Limits.{mostClaims}
 
 module _ (c : Codec) (law : Lawful c) (Elsewhere : List ℕ → Type 0) (w : World) (r : Reachable c Elsewhere w) where
   module _ (L : Listing) (m : List·Memᴰ L (w .lists)) (alone : Unshared c Elsewhere (L .query .table)) where
@@ -21,7 +22,7 @@ module _ (c : Codec) (law : Lawful c) (Elsewhere : List ℕ → Type 0) (w : Wor
     pub truthful : Truthful (w .table) L
     truthful =
         let ok = always c law Elsewhere r .table in
-        let few : count (w .table) ≤ 4096 = omega (arith, ok .fits, ok .small) in
+        let few : count (w .table) ≤ mostClaims = omega (arith, ok .fits, ok .small) in
         record { sound = λ room h. kept-sound (w .table) L room kept few h; held = kept .held; front = kept .front; ours = kept .ours }
 
     pub whole : L .complete ≡ true → L .items ≡ allOf (w .table) L

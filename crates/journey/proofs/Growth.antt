@@ -17,6 +17,7 @@ use Rattle.journey.specs.World.{World, noListing, theList, sent, moved, 
 use Rattle.journey.specs.Promise.{askOf, replyTo, Answered, Grows}
 use Rattle.journey.proofs.Kept.{Kept, Grown, grown-listed, kept-sound, Continues, continues, longer}
 use Rattle.journey.proofs.Answers.{asked-ok, answer-ok, present-snapshot, present-held, present-answered, reply-taken}
+use Rattle.paper.specs.Limits.{longestAnswer, longestAsk, mostClaims, mostPage}
 
 -- a list that may ask this table for a page
 pub record Ready (c : Codec) (t : Table) (L : Listing) (size : ℕ) : Type 0 where
@@ -26,10 +27,10 @@ pub record Ready (c : Codec) (t : Table) (L : Listing) (size : ℕ) : Type 0 whe
   pub ours : matches t (L .query) ≡ true
   pub unfinished : L .complete ≡ false
   pub one : 1 ≤ size
-  pub most : size ≤ 16
+  pub most : size ≤ mostPage
 
 module _ (c : Codec) (law : Lawful c) (t : Table) (L : Listing) (size : ℕ) (r : Ready c t L size) where
-  few : count t ≤ 4096
+  few : count t ≤ mostClaims
   few = omega (arith, r .table .fits, r .table .small)
 
   ask-ok : AskOk (presentAsk L size)
@@ -45,16 +46,16 @@ module _ (c : Codec) (law : Lawful c) (t : Table) (L : Listing) (size : ℕ) (r 
   reply-ok : AnswerOk reply
   reply-ok = answer-ok t (presentAsk L size) (r .table) ask-ok held
 
-  pub asks-line : (room out : ℕ) → length (L .items) ≤ room → 123 ≤ out → asking c room size out L ≡ gives (askOf c L size)
+  pub asks-line : (room out : ℕ) → length (L .items) ≤ room → longestAsk ≤ out → asking c room size out L ≡ gives (askOf c L size)
   unfolding asking
   asks-line room out h g =
       must-go _ _ _ (kept-sound t L room (r .kept) few h) ∙ must-go _ _ _ (false-not _ (r .unfinished))
-      ∙ must-go _ _ _ (and-both _ _ (le-leb 1 size (r .one)) (le-leb size 16 (r .most))) ∙ must-go _ _ _ (le-leb 123 out g)
+      ∙ must-go _ _ _ (and-both _ _ (le-leb 1 size (r .one)) (le-leb size mostPage (r .most))) ∙ must-go _ _ _ (le-leb longestAsk out g)
 
-  pub office-line : (out : ℕ) → 573 ≤ out → office c t out (askOf c L size) ≡ gives (replyTo c t L size)
+  pub office-line : (out : ℕ) → longestAnswer ≤ out → office c t out (askOf c L size) ≡ gives (replyTo c t L size)
   unfolding office served
   office-line out h =
-      must-go _ _ _ (le-leb 573 out h)
+      must-go _ _ _ (le-leb longestAnswer out h)
       ∙ ap (λ (x : Outcome Ask). onto x (λ a. onto (answerTo t a) (λ y. gives (c .answerLine y)))) (law .ask-back (presentAsk L size) ask-ok (r .spoken))
       ∙ ap (λ (x : Outcome Answer). onto x (λ y. gives (c .answerLine y))) (present-answered t L (r .kept) (r .unfinished) size (r .ours))
 

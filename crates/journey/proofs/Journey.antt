@@ -11,7 +11,7 @@ use borrow.Author.Tests.{leb-true, eqb-true, not-true}
 use Rattle.paper.specs.declared.orders.Order.{Order}
 use Rattle.paper.specs.Points.{Claim}
 use Rattle.paper.specs.Orders.{Query}
-use Rattle.paper.specs.Tree.{inRange}
+use Rattle.paper.specs.Points.{inRange}
 use Rattle.paper.specs.Outcomes.{Outcome, refused, gives}
 use Rattle.paper.specs.Ends.{Ask, Answer, Codec, Table, count, answerOf, answerTo, served, answerRoom, office, Listing, fresh, opening, presentAsk, every, soundIn, sizeHolds, askRoom, asking, taking}
 use Rattle.paper.proofs.Tests.{and-first, and-second}

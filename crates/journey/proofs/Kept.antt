@@ -19,6 +19,7 @@ use Rattle.orders.proofs.Page.{last-all, last-more}
 use Rattle.orders.proofs.Taking.{present-start, present-after, Fits}
 use Rattle.orders.specs.Laws.{QueryOk}
 use Rattle.journey.specs.Promise.{allOf}
+use Rattle.paper.specs.Limits.{mostClaims}
 
 pub record Kept (t : Table) (L : Listing) : Type 0 where
   pub query : QueryOk (L .query)
@@ -193,12 +194,12 @@ started-well t L k = go (L .started) (L .complete) refl refl
         let e : f ≡ false = sym q ∙ ap (λ (X : Listing). X .complete) (k .unstarted p) in
         rw (a, b, e)
 
-pub kept-sound : (t : Table) (L : Listing) (room : ℕ) → Kept t L → count t ≤ 4096 → length (L .items) ≤ room → soundIn room L ≡ true
+pub kept-sound : (t : Table) (L : Listing) (room : ℕ) → Kept t L → count t ≤ mostClaims → length (L .items) ≤ room → soundIn room L ≡ true
 unfolding soundIn
 kept-sound t L room k small r =
     and-both _ _ (k .query .range)
     (and-both _ _ (eq-eqb _ _ (k .query .long))
-    (and-both _ _ (le-leb (L .snapshot) 4096 (omega (arith, k .held)))
+    (and-both _ _ (le-leb (L .snapshot) mostClaims (omega (arith, k .held)))
     (and-both _ _ (le-leb (length (L .items)) room r)
     (and-both _ _ (rising-test (L .query .order) (L .items) (kept-rising t L k))
     (and-both _ _ (every-true _ (L .items) (all-map _ _ (λ x p. is-fitting (L .query) (t .claims) (L .snapshot) x p) (L .items) (kept-are t L k)))

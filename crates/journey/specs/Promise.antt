@@ -7,6 +7,7 @@ use lib.ListN.{length, take, drop}
 use Rattle.paper.specs.Orders.{Item, listed, lastOf}
 use Rattle.paper.specs.Ends.{Codec, Table, count, matches, answerOf, Listing, presentAsk, soundIn}
 use Rattle.journey.specs.World.{World, theList, asks, receives, takes, next}
+use Rattle.paper.specs.Limits.{longestAnswer, longestAsk, mostPage}
 
 -- the claims within reach, in order, that the table held at the count that the list names
 abbrev pub allOf : Table → Listing → List Item
@@ -33,13 +34,13 @@ pub record MayAsk (w : World) (i size : ℕ) : Type 0 where
   pub ours : matches (w .table) (theList w i .query) ≡ true
   pub unfinished : theList w i .complete ≡ false
   pub one : 1 ≤ size
-  pub most : size ≤ 16
+  pub most : size ≤ mostPage
 
 -- list i writes its present ask in w, and the ask reaches the office in v
 pub record Answered (c : Codec) (w v : World) (i size : ℕ) : Type 0 where
-  pub written : (room out : ℕ) → length (theList w i .items) ≤ room → 123 ≤ out
+  pub written : (room out : ℕ) → length (theList w i .items) ≤ room → longestAsk ≤ out
       → List·Memᴰ (askOf c (theList w i) size) (next c w (asks i size room out) .air)
-  pub answered : (out : ℕ) → 573 ≤ out
+  pub answered : (out : ℕ) → longestAnswer ≤ out
       → List·Memᴰ (replyTo c (v .table) (theList w i) size) (next c v (receives (askOf c (theList w i) size) out) .air)
 
 -- and list i takes this answer in u

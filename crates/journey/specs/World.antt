@@ -13,6 +13,7 @@ use Rattle.paper.specs.Orders.{Query}
 use Rattle.paper.specs.Outcomes.{Outcome, refused, gives, must}
 use Rattle.paper.specs.Ends.{Answer, Codec, Table, count, office, Listing, fresh, opening, every, asking, taking}
 use Rattle.orders.specs.Laws.{Typed}
+use Rattle.paper.specs.Limits.{mostClaims}
 
 pub record World : Type 0 where
   pub table : Table
@@ -84,7 +85,7 @@ Allowed c Elsewhere w (strays s) = Elsewhere s
 
 pub record TableOk (t : Table) : Type 0 where
   pub fits : count t ≤ t .capacity
-  pub small : t .capacity ≤ 4096
+  pub small : t .capacity ≤ mostClaims
   pub references : (k : Claim) → List·Memᴰ k (t .claims) → k .reference < 2 ^ 32
 
 pub data Reachable (c : Codec) (Elsewhere : List ℕ → Type 0) : World → Type 0 where

@@ -8,6 +8,7 @@ ghost use Rattle.paper.specs.Orders.{before};
 ghost use Rattle.paper.specs.Orders.{rank as Orders·rank};
 ghost use Rattle.keep.specs.Kept.{Roomy, PlaceIs, shifted, written, heldAt, KeepIs};
 ghost use Rattle.keep.specs.Skips.{admitted, boundOf, halfOf, beyondOf, passedOf};
+ghost use Rattle.paper.specs.Limits.{mostPage};
 use paper::orders::Mark;
 use paper::orders::Order;
 
@@ -134,7 +135,7 @@ pub fn passed(ask: Asked, x: u64, far: u64) -> bool
 
 // The place of distance x and number k among the first `count` items.
 fn place(order: Order, room: &[u64], count: usize, x: u64, k: u64) -> usize
-    requires { ⌜ (count * 3 ≤ length (now room)) × (count ≤ 16) ⌝ }
+    requires { ⌜ (count * 3 ≤ length (now room)) × (count ≤ mostPage) ⌝ }
     ensures { λ r. ⌜ PlaceIs order (now (room .entry)) count x k r ⌝ }
 {
     let mut i = count;
@@ -171,7 +172,7 @@ fn write(room: &mut [u64], a: usize, x: u64, y: u64, z: u64)
 
 // Whether item p is there, and is claim k.
 fn held(room: &[u64], p: usize, count: usize, k: u64) -> bool
-    requires { ⌜ (count * 3 ≤ length (now room)) × (count ≤ 16) ⌝ }
+    requires { ⌜ (count * 3 ≤ length (now room)) × (count ≤ mostPage) ⌝ }
     ensures { λ r. ⌜ r ≡ heldAt (now (room .entry)) p count k ⌝ }
 {
     if p < count {

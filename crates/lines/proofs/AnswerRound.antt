@@ -21,6 +21,7 @@ use Rattle.fields.proofs.ItemLaws.{Distances, items-fitting, items-read, items-
 use Rattle.fields.proofs.Round.{Fit, ScopeFit, Fronts, front-read, front-back, take-places}
 use Rattle.lines.proofs.Ways.{reads, accepted}
 use Rattle.lines.proofs.Tests.{last-at, items-from, length-answer, bytes-answer, answer-fits, is-answer, answer-begun}
+use Rattle.paper.specs.Limits.{itemRoom}
 
 -- ---- what is written is read
 
@@ -113,7 +114,7 @@ pub record AnswerBack (k : ℕ) (l : List ℕ) (a : Answer) : Type 0 where
 
 take-items : (n : ℕ) (g : List ℕ) → take (3 * n) (itemPlaces n (itemsIn n g)) ≡ itemsIn n g
 unfolding itemPlaces
-take-items n g = take-at (itemsIn n g) (replicate (48 - 3 * n) 0) (3 * n) (length-itemsIn n g)
+take-items n g = take-at (itemsIn n g) (replicate (itemRoom - 3 * n) 0) (3 * n) (length-itemsIn n g)
 
 answer-back : (k : ℕ) (l : List ℕ) → sound l ≡ true → answerOk k (frameOf l) ≡ true → AnswerBack k l (answerAt (frameOf l))
 unfolding answerAt

@@ -10,15 +10,18 @@ use lib.Dec.{leb, eqb}
 use lib.IntN.{ℤ}
 use borrow.Author.Tests.{leb-true, eqb-true, eq-eqb, ne-eqb, le-leb, lt-leb}
 use Rattle.paper.specs.Frames.{be, num}
-use Rattle.paper.specs.Fields.{ranged, head, front, coordBytes, scopeIn, scopeOk, itemBytes, itemsIn, itemPlaces, numbersOk, referencesOk}
+use Rattle.paper.specs.Points.{inRange, InRange}
+use Rattle.paper.proofs.Ranges.{range-is}
+use Rattle.paper.specs.Fields.{head, front, coordBytes, scopeIn, scopeOk, itemBytes, itemsIn, itemPlaces, numbersOk, referencesOk}
 use Rattle.paper.specs.Lines.{headOk, behind, askFrame, askRanges, askFits, askOk, askAt, answerFrame, answerRanges, answerFits, countIn, answerOk, answerAt, claimFrame, claimFits, claimOk}
 use Rattle.paper.specs.declared.lines.Scope.{Scope}
 use Rattle.digits.proofs.Laws.{and-false, and-both, Bytes, bytes-append, bytes-be, length-be}
 use Rattle.fields.specs.Fronts.{Begun, frontAt}
 use Rattle.fields.specs.declared.parts.Front.{Front}
-use Rattle.fields.proofs.PartLaws.{Ranged, ranged-yes, Headed, is-head, length-front, bytes-front, length-head, bytes-head, length-coordBytes, bytes-coordBytes}
+use Rattle.fields.proofs.PartLaws.{Headed, is-head, length-front, bytes-front, length-head, bytes-head, length-coordBytes, bytes-coordBytes}
 use Rattle.fields.proofs.ItemLaws.{length-items, bytes-items}
 use Rattle.fields.proofs.Round.{behind-eq}
+use Rattle.paper.specs.Limits.{mostPage}
 
 and-true : (t : Bool) → t && true ≡ t
 and-true true = refl
@@ -39,26 +42,26 @@ pub bytes-ask : (k t m d : ℕ) (cs : List ℤ) (p : Scope) (s : ℕ) → Bytes 
 unfolding askFrame
 bytes-ask k t m d cs p s = bytes-append (front k t m d cs p) (be 1 s) (bytes-front k t m d cs p) (bytes-be 1 s)
 
-pub page-size : (p : Scope) (s : ℕ) → askRanges p s ≡ true → s ≤ 16
+pub page-size : (p : Scope) (s : ℕ) → askRanges p s ≡ true → s ≤ mostPage
 unfolding askRanges
 page-size p s e =
-    let a = and-both (scopeOk p) ((eqb (p .from) 1 || eqb (p .snapshot) 0) && (leb 1 s && leb s 16)) e in
-    let b = and-both (eqb (p .from) 1 || eqb (p .snapshot) 0) (leb 1 s && leb s 16) (a .1) in
-    leb-true s 16 (and-both (leb 1 s) (leb s 16) (b .1) .1)
+    let a = and-both (scopeOk p) ((eqb (p .from) 1 || eqb (p .snapshot) 0) && (leb 1 s && leb s mostPage)) e in
+    let b = and-both (eqb (p .from) 1 || eqb (p .snapshot) 0) (leb 1 s && leb s mostPage) (a .1) in
+    leb-true s mostPage (and-both (leb 1 s) (leb s mostPage) (b .1) .1)
 
 -- what the writer's test says
 pub record AskFits (m d : ℕ) (cs : List ℤ) (p : Scope) (s : ℕ) : Type 0 where
-  pub test : ranged m d ≡ true
-  pub range : Ranged m d
+  pub test : inRange m d ≡ true
+  pub range : InRange m d
   pub count : length cs ≡ d
   pub rest : askRanges p s ≡ true
 
 pub ask-fits : (m d : ℕ) (cs : List ℤ) (p : Scope) (s : ℕ) → askFits m d cs p s ≡ true → AskFits m d cs p s
 unfolding askFits
 ask-fits m d cs p s e =
-    let a = and-both (ranged m d) (eqb (length cs) d && askRanges p s) e in
+    let a = and-both (inRange m d) (eqb (length cs) d && askRanges p s) e in
     let b = and-both (eqb (length cs) d) (askRanges p s) (a .1) in
-    record { test = a .0; range = ranged-yes m d (a .0); count = eqb-true (length cs) d (b .0); rest = b .1 }
+    record { test = a .0; range = range-is m d (a .0); count = eqb-true (length cs) d (b .0); rest = b .1 }
 
 -- what the reader's test says
 pub record AskFrame (k : ℕ) (f : List ℕ) : Type 0 where
@@ -76,7 +79,7 @@ is-ask k f e =
     record { headed = is-head k f (p .0); size = eqb-true (length f) (29 + 4 * num 1 (drop 6 f)) (q .0); rest = q .1 }
 
 pub ask-begun : (k : ℕ) (f : List ℕ) → askOk k f ≡ true → Begun f
-ask-begun k f e = let p = is-ask k f e in record { few = p .headed .range .d-high; long = omega arith }
+ask-begun k f e = let p = is-ask k f e in record { few = p .headed .range .narrow; long = omega arith }
 
 -- the ask that a frame holds, from its parts
 pub ask-value : (f : List ℕ) (x : Front) (at s : ℕ) → x ≡ frontAt f → at ≡ 28 + 4 * x .d → s ≡ num 1 (drop at f)
@@ -94,15 +97,15 @@ module _ (p : Scope) (s : ℕ) (e : scopeOk p ≡ true) where
 
   pub page-high : 1 ≤ s → 16 < s → askRanges p s ≡ false
   unfolding askRanges
-  page-high l h = rw (e, le-leb 1 s l, lt-leb s 16 h) (and-false (eqb (p .from) 1 || eqb (p .snapshot) 0))
+  page-high l h = rw (e, le-leb 1 s l, lt-leb s mostPage h) (and-false (eqb (p .from) 1 || eqb (p .snapshot) 0))
 
-  pub placed : 1 ≤ s → s ≤ 16 → p .from ≡ 1 → askRanges p s ≡ true
+  pub placed : 1 ≤ s → s ≤ mostPage → p .from ≡ 1 → askRanges p s ≡ true
   unfolding askRanges
-  placed l h q = rw (e, le-leb 1 s l, le-leb s 16 h, eq-eqb (p .from) 1 q)
+  placed l h q = rw (e, le-leb 1 s l, le-leb s mostPage h, eq-eqb (p .from) 1 q)
 
-  pub unplaced : 1 ≤ s → s ≤ 16 → (p .from ≡ 1 → ⊥) → askRanges p s ≡ eqb (p .snapshot) 0
+  pub unplaced : 1 ≤ s → s ≤ mostPage → (p .from ≡ 1 → ⊥) → askRanges p s ≡ eqb (p .snapshot) 0
   unfolding askRanges
-  unplaced l h q = rw (e, le-leb 1 s l, le-leb s 16 h, ne-eqb (p .from) 1 q) (and-true (eqb (p .snapshot) 0))
+  unplaced l h q = rw (e, le-leb 1 s l, le-leb s mostPage h, ne-eqb (p .from) 1 q) (and-true (eqb (p .snapshot) 0))
 
 -- what is left to test where the head and the length are right
 pub ask-rule : (k : ℕ) (f : List ℕ) (d : ℕ) → headOk k f ≡ true → d ≡ num 1 (drop 6 f) → length f ≡ 29 + 4 * d
@@ -127,22 +130,22 @@ bytes-answer k t m d cs p last n ns =
 
 -- what the writer's test says
 pub record AnswerFits (m d : ℕ) (cs : List ℤ) (p : Scope) (last n : ℕ) (ns : List ℕ) : Type 0 where
-  pub test : ranged m d ≡ true
-  pub range : Ranged m d
+  pub test : inRange m d ≡ true
+  pub range : InRange m d
   pub probe : length cs ≡ d
   pub rest : answerRanges p last n ≡ true
   pub last-high : last ≤ 1
-  pub few : n ≤ 16
+  pub few : n ≤ mostPage
   pub count : length ns ≡ 3 * n
   pub references : referencesOk ns ≡ true
   pub numbers : numbersOk ns ≡ true
 
-pub few-items : (p : Scope) (last n : ℕ) → answerRanges p last n ≡ true → (last ≤ 1) × (n ≤ 16)
+pub few-items : (p : Scope) (last n : ℕ) → answerRanges p last n ≡ true → (last ≤ 1) × (n ≤ mostPage)
 unfolding answerRanges
 few-items p last n e =
-    let a = and-both (scopeOk p) (leb last 1 && leb n 16) e in
-    let b = and-both (leb last 1) (leb n 16) (a .1) in
-    (leb-true last 1 (b .0), leb-true n 16 (b .1))
+    let a = and-both (scopeOk p) (leb last 1 && leb n mostPage) e in
+    let b = and-both (leb last 1) (leb n mostPage) (a .1) in
+    (leb-true last 1 (b .0), leb-true n mostPage (b .1))
 
 pub answer-fits : (m d : ℕ) (cs : List ℤ) (p : Scope) (last n : ℕ) (ns : List ℕ) → answerFits m d cs p last n ns ≡ true → AnswerFits m d cs p last n ns
 unfolding answerFits
@@ -150,7 +153,7 @@ answer-fits m d cs p last n ns e =
     let t5 = referencesOk ns && numbersOk ns in
     let t4 = eqb (length ns) (3 * n) && t5 in
     let t3 = answerRanges p last n && t4 in
-    let a = and-both (ranged m d) (eqb (length cs) d && t3) e in
+    let a = and-both (inRange m d) (eqb (length cs) d && t3) e in
     let b = and-both (eqb (length cs) d) t3 (a .1) in
     let r = and-both (answerRanges p last n) t4 (b .1) in
     let s = and-both (eqb (length ns) (3 * n)) t5 (r .1) in
@@ -158,7 +161,7 @@ answer-fits m d cs p last n ns e =
     let w = few-items p last n (r .0) in
     record {
       test = a .0;
-      range = ranged-yes m d (a .0);
+      range = range-is m d (a .0);
       probe = eqb-true (length cs) d (b .0);
       rest = r .0;
       last-high = w .0;
@@ -173,7 +176,7 @@ pub record AnswerFrame (k : ℕ) (f : List ℕ) : Type 0 where
   pub headed : Headed k f
   pub size : length f ≡ 30 + 4 * num 1 (drop 6 f) + 14 * countIn f
   pub rest : answerRanges (scopeIn (behind f)) (num 1 (drop 21 (behind f))) (countIn f) ≡ true
-  pub few : countIn f ≤ 16
+  pub few : countIn f ≤ mostPage
   pub numbers : numbersOk (itemsIn (countIn f) (drop 23 (behind f))) ≡ true
 
 pub is-answer : (k : ℕ) (f : List ℕ) → answerOk k f ≡ true → AnswerFrame k f
@@ -194,7 +197,7 @@ is-answer k f e =
     }
 
 pub answer-begun : (k : ℕ) (f : List ℕ) → answerOk k f ≡ true → Begun f
-answer-begun k f e = let p = is-answer k f e in record { few = p .headed .range .d-high; long = omega arith }
+answer-begun k f e = let p = is-answer k f e in record { few = p .headed .range .narrow; long = omega arith }
 
 -- where the item count stands
 pub count-at : (f : List ℕ) (at : ℕ) → at ≡ 28 + 4 * num 1 (drop 6 f) → countIn f ≡ num 1 (drop (at + 1) f)
@@ -244,15 +247,15 @@ bytes-claim t m d r cs =
 
 -- what the writer's test says
 pub record ClaimFits (m d : ℕ) (cs : List ℤ) : Type 0 where
-  pub test : ranged m d ≡ true
-  pub range : Ranged m d
+  pub test : inRange m d ≡ true
+  pub range : InRange m d
   pub count : length cs ≡ d
 
 pub claim-fits : (m d : ℕ) (cs : List ℤ) → claimFits m d cs ≡ true → ClaimFits m d cs
 unfolding claimFits
 claim-fits m d cs e =
-    let a = and-both (ranged m d) (eqb (length cs) d) e in
-    record { test = a .0; range = ranged-yes m d (a .0); count = eqb-true (length cs) d (a .1) }
+    let a = and-both (inRange m d) (eqb (length cs) d) e in
+    record { test = a .0; range = range-is m d (a .0); count = eqb-true (length cs) d (a .1) }
 
 -- what the reader's test says
 pub record ClaimFrame (f : List ℕ) : Type 0 where

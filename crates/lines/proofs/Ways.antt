@@ -12,6 +12,7 @@ use Rattle.paper.specs.Lines.{wrote, room, Writes, reading}
 use Rattle.paper.specs.declared.lines.Wrote.the-variants.{Line, Refused}
 use Rattle.digits.specs.Places.{over, held}
 use Rattle.digits.proofs.Laws.{over-eq, length-hexes, length-line, length-frame, held-all, sound-size}
+use Rattle.paper.specs.Limits.{longestFrame}
 
 -- ---- writers
 
@@ -50,7 +51,7 @@ front-is-line f o = take-at (lineOf f) (drop (length (lineOf f)) o) (length (lin
 -- ---- readers
 
 -- a sound line's frame fits the buffer of 286 bytes
-pub buffered : (l : List ℕ) → sound l ≡ true → length l / 2 ≤ 286
+pub buffered : (l : List ℕ) → sound l ≡ true → length l / 2 ≤ longestFrame
 buffered l e = omega (arith, sound-size l e)
 
 -- what the front of the buffer holds that `unhex` filled

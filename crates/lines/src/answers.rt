@@ -9,10 +9,17 @@ ghost use Rattle.paper.specs.Fields.{scopeIn, itemBytes, itemsIn, numbersOk};
 ghost use Rattle.paper.specs.Lines.{Writes, answerFrame, answerRanges, answerFits, answerOk, answerAt, noAnswer, answerOf};
 ghost use Rattle.digits.specs.Places.{held, over};
 ghost use Rattle.lines.specs.Kinds.{IsAnswer};
+ghost use Rattle.paper.specs.Limits.{longestAnswer, mostPage, mostPlaces};
+use paper::limits::ITEM_ROOM;
+use paper::limits::LONGEST_ANSWER;
+use paper::limits::LONGEST_FRAME;
+use paper::limits::MOST_PAGE;
+use paper::limits::MOST_PLACES;
 use paper::lines::Answer;
 use paper::lines::AnswerRead;
 use paper::lines::Scope;
 use paper::lines::Wrote;
+use paper::points::in_range;
 
 fn answer_ranges(p: Scope, last: u64, count: u64) -> bool
     ensures { λ r. ⌜ r ≡ answerRanges p last count ⌝ }
@@ -21,7 +28,7 @@ fn answer_ranges(p: Scope, last: u64, count: u64) -> bool
         if 1 < last {
             return false;
         }
-        return count <= 16;
+        return count as usize <= MOST_PAGE;
     }
     false
 }
@@ -37,7 +44,7 @@ fn answer_fits(
 ) -> bool
     ensures { λ r. ⌜ r ≡ answerFits measure d (now (probe .entry)) p last count (now (items .entry)) ⌝ }
 {
-    if fields::ranged(measure as u64, d as u64) {
+    if in_range(measure, d as usize) {
         if probe.len() == d as usize {
             if answer_ranges(p, last as u64, count as u64) {
                 return fields::items_fit(items, count);
@@ -49,7 +56,7 @@ fn answer_fits(
 
 // Writes what an answer has behind its mark number.
 fn put_tail(out: &mut [u8], at: usize, last: u8, count: u8, items: &[u64])
-    requires { ⌜ (length (now items) ≡ 3 * count) × ((count ≤ 16) × (2 * (at + 2 + 14 * count) ≤ length (now out))) ⌝ }
+    requires { ⌜ (length (now items) ≡ 3 * count) × ((count ≤ mostPage) × (2 * (at + 2 + 14 * count) ≤ length (now out))) ⌝ }
     ensures { λ _. ⌜ now (out .exit) ≡ over (now (out .entry)) at (be 1 last ++ (be 1 count ++ itemBytes (now (items .entry)))) ⌝ }
 {
     digits::put(out, at, 1, last as u64);
@@ -70,7 +77,7 @@ fn fill_answer(
     items: &[u64],
     out: &mut [u8],
 ) -> usize
-    requires { ⌜ (length (now probe) ≤ 8) × ((length (now items) ≡ 3 * count) × ((count ≤ 16) × (573 ≤ length (now out)))) ⌝ }
+    requires { ⌜ (length (now probe) ≤ mostPlaces) × ((length (now items) ≡ 3 * count) × ((count ≤ mostPage) × (longestAnswer ≤ length (now out)))) ⌝ }
     ensures { λ r. ⌜ (r ≡ length (lineOf (answerFrame kind table measure d (now (probe .entry)) p last count (now (items .entry))))) × (now (out .exit) ≡ written (answerFrame kind table measure d (now (probe .entry)) p last count (now (items .entry))) (now (out .entry))) ⌝ }
 {
     fields::put_front(out, kind, table, measure, d, probe, p);
@@ -92,10 +99,10 @@ pub fn write_answer_as(
     items: &[u64],
     out: &mut [u8],
 ) -> Wrote
-    ensures { λ r. ⌜ Writes (answerFits measure d (now (probe .entry)) p last count (now (items .entry))) 573 (answerFrame kind table measure d (now (probe .entry)) p last count (now (items .entry))) (now (out .entry)) r (now (out .exit)) ⌝ }
+    ensures { λ r. ⌜ Writes (answerFits measure d (now (probe .entry)) p last count (now (items .entry))) longestAnswer (answerFrame kind table measure d (now (probe .entry)) p last count (now (items .entry))) (now (out .entry)) r (now (out .exit)) ⌝ }
 {
     if answer_fits(measure, d, probe, p, last, count, items) {
-        if out.len() < 573 {
+        if out.len() < LONGEST_ANSWER {
             return Wrote::Refused(12);
         }
         let n = fill_answer(kind, table, measure, d, probe, p, last, count, items, out);
@@ -115,7 +122,7 @@ pub fn write_answer(
     items: &[u64],
     out: &mut [u8],
 ) -> Wrote
-    ensures { λ r. ⌜ Writes (answerFits measure d (now (probe .entry)) p last count (now (items .entry))) 573 (answerFrame 2 table measure d (now (probe .entry)) p last count (now (items .entry))) (now (out .entry)) r (now (out .exit)) ⌝ }
+    ensures { λ r. ⌜ Writes (answerFits measure d (now (probe .entry)) p last count (now (items .entry))) longestAnswer (answerFrame 2 table measure d (now (probe .entry)) p last count (now (items .entry))) (now (out .entry)) r (now (out .exit)) ⌝ }
 {
     write_answer_as(2, table, measure, d, probe, p, last, count, items, out)
 }
@@ -188,11 +195,11 @@ fn no_answer(n: u8) -> AnswerRead
         table: 0,
         measure: 0,
         d: 0,
-        probe: [0i32; 8],
+        probe: [0i32; MOST_PLACES],
         scope,
         last: 0,
         count: 0,
-        items: [0u64; 48],
+        items: [0u64; ITEM_ROOM],
     };
     AnswerRead { refusal: n, answer }
 }
@@ -201,7 +208,7 @@ pub fn read_answer_as(kind: u8, line: &[u8]) -> AnswerRead
     ensures { λ r. ⌜ r ≡ answerOf kind (now (line .entry)) ⌝ }
 {
     if digits::is_sound(line) {
-        let mut frame = [0u8; 286];
+        let mut frame = [0u8; LONGEST_FRAME];
         let n = digits::unhex(line, &mut frame);
         let src = &frame[..n];
         if answer_ok(src, kind) {

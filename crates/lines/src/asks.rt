@@ -6,10 +6,16 @@ ghost use Rattle.paper.specs.Frames.{lineOf, written};
 ghost use Rattle.paper.specs.Lines.{Writes, askFrame, askRanges, askFits, askOk, askAt, noAsk, askOf};
 ghost use Rattle.digits.specs.Places.{held};
 ghost use Rattle.lines.specs.Kinds.{IsAsk};
+ghost use Rattle.paper.specs.Limits.{longestAsk, mostPlaces};
+use paper::limits::LONGEST_ASK;
+use paper::limits::LONGEST_FRAME;
+use paper::limits::MOST_PAGE;
+use paper::limits::MOST_PLACES;
 use paper::lines::Ask;
 use paper::lines::AskRead;
 use paper::lines::Scope;
 use paper::lines::Wrote;
+use paper::points::in_range;
 
 fn ask_ranges(p: Scope, size: u64) -> bool
     ensures { λ r. ⌜ r ≡ askRanges p size ⌝ }
@@ -18,7 +24,7 @@ fn ask_ranges(p: Scope, size: u64) -> bool
         if size < 1 {
             return false;
         }
-        if 16 < size {
+        if MOST_PAGE < size as usize {
             return false;
         }
         if p.from == 1 {
@@ -32,7 +38,7 @@ fn ask_ranges(p: Scope, size: u64) -> bool
 fn ask_fits(measure: u8, d: u8, probe: &[i32], p: Scope, size: u8) -> bool
     ensures { λ r. ⌜ r ≡ askFits measure d (now (probe .entry)) p size ⌝ }
 {
-    if fields::ranged(measure as u64, d as u64) {
+    if in_range(measure, d as usize) {
         if probe.len() == d as usize {
             return ask_ranges(p, size as u64);
         }
@@ -51,7 +57,7 @@ fn fill_ask(
     size: u8,
     out: &mut [u8],
 ) -> usize
-    requires { ⌜ (length (now probe) ≤ 8) × (123 ≤ length (now out)) ⌝ }
+    requires { ⌜ (length (now probe) ≤ mostPlaces) × (longestAsk ≤ length (now out)) ⌝ }
     ensures { λ r. ⌜ (r ≡ length (lineOf (askFrame kind table measure d (now (probe .entry)) p size))) × (now (out .exit) ≡ written (askFrame kind table measure d (now (probe .entry)) p size) (now (out .entry))) ⌝ }
 {
     fields::put_front(out, kind, table, measure, d, probe, p);
@@ -71,10 +77,10 @@ pub fn write_ask_as(
     size: u8,
     out: &mut [u8],
 ) -> Wrote
-    ensures { λ r. ⌜ Writes (askFits measure d (now (probe .entry)) p size) 123 (askFrame kind table measure d (now (probe .entry)) p size) (now (out .entry)) r (now (out .exit)) ⌝ }
+    ensures { λ r. ⌜ Writes (askFits measure d (now (probe .entry)) p size) longestAsk (askFrame kind table measure d (now (probe .entry)) p size) (now (out .entry)) r (now (out .exit)) ⌝ }
 {
     if ask_fits(measure, d, probe, p, size) {
-        if out.len() < 123 {
+        if out.len() < LONGEST_ASK {
             return Wrote::Refused(12);
         }
         let n = fill_ask(kind, table, measure, d, probe, p, size, out);
@@ -92,7 +98,7 @@ pub fn write_ask(
     size: u8,
     out: &mut [u8],
 ) -> Wrote
-    ensures { λ r. ⌜ Writes (askFits measure d (now (probe .entry)) p size) 123 (askFrame 1 table measure d (now (probe .entry)) p size) (now (out .entry)) r (now (out .exit)) ⌝ }
+    ensures { λ r. ⌜ Writes (askFits measure d (now (probe .entry)) p size) longestAsk (askFrame 1 table measure d (now (probe .entry)) p size) (now (out .entry)) r (now (out .exit)) ⌝ }
 {
     write_ask_as(1, table, measure, d, probe, p, size, out)
 }
@@ -147,7 +153,7 @@ fn no_ask(n: u8) -> AskRead
         table: 0,
         measure: 0,
         d: 0,
-        probe: [0i32; 8],
+        probe: [0i32; MOST_PLACES],
         scope,
         size: 0,
     };
@@ -158,7 +164,7 @@ pub fn read_ask_as(kind: u8, line: &[u8]) -> AskRead
     ensures { λ r. ⌜ r ≡ askOf kind (now (line .entry)) ⌝ }
 {
     if digits::is_sound(line) {
-        let mut frame = [0u8; 286];
+        let mut frame = [0u8; LONGEST_FRAME];
         let n = digits::unhex(line, &mut frame);
         let src = &frame[..n];
         if ask_ok(src, kind) {

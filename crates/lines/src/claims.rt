@@ -6,14 +6,19 @@ ghost use lib.ListN.{length};
 ghost use Rattle.paper.specs.Frames.{lineOf, written};
 ghost use Rattle.paper.specs.Lines.{Writes, claimFrame, claimFits, claimOk, claimAt, noClaim, claimOf};
 ghost use Rattle.digits.specs.Places.{held};
+ghost use Rattle.paper.specs.Limits.{longestClaim, mostPlaces};
+use paper::limits::LONGEST_CLAIM;
+use paper::limits::LONGEST_FRAME;
+use paper::limits::MOST_PLACES;
 use paper::lines::ClaimLine;
 use paper::lines::ClaimRead;
 use paper::lines::Wrote;
+use paper::points::in_range;
 
 fn claim_fits(measure: u8, d: u8, coords: &[i32]) -> bool
     ensures { λ r. ⌜ r ≡ claimFits measure d (now (coords .entry)) ⌝ }
 {
-    if fields::ranged(measure as u64, d as u64) {
+    if in_range(measure, d as usize) {
         return coords.len() == d as usize;
     }
     false
@@ -28,7 +33,7 @@ fn fill_claim(
     coords: &[i32],
     out: &mut [u8],
 ) -> usize
-    requires { ⌜ (length (now coords) ≤ 8) × (87 ≤ length (now out)) ⌝ }
+    requires { ⌜ (length (now coords) ≤ mostPlaces) × (longestClaim ≤ length (now out)) ⌝ }
     ensures { λ r. ⌜ (r ≡ length (lineOf (claimFrame table measure d reference (now (coords .entry))))) × (now (out .exit) ≡ written (claimFrame table measure d reference (now (coords .entry))) (now (out .entry))) ⌝ }
 {
     fields::put_head(out, 3, table, measure, d);
@@ -47,10 +52,10 @@ pub fn write_claim(
     coords: &[i32],
     out: &mut [u8],
 ) -> Wrote
-    ensures { λ r. ⌜ Writes (claimFits measure d (now (coords .entry))) 87 (claimFrame table measure d reference (now (coords .entry))) (now (out .entry)) r (now (out .exit)) ⌝ }
+    ensures { λ r. ⌜ Writes (claimFits measure d (now (coords .entry))) longestClaim (claimFrame table measure d reference (now (coords .entry))) (now (out .entry)) r (now (out .exit)) ⌝ }
 {
     if claim_fits(measure, d, coords) {
-        if out.len() < 87 {
+        if out.len() < LONGEST_CLAIM {
             return Wrote::Refused(12);
         }
         let n = fill_claim(table, measure, d, reference, coords, out);
@@ -95,7 +100,7 @@ fn no_claim(n: u8) -> ClaimRead
         measure: 0,
         d: 0,
         reference: 0,
-        coordinates: [0i32; 8],
+        coordinates: [0i32; MOST_PLACES],
     };
     ClaimRead { refusal: n, claim }
 }
@@ -104,7 +109,7 @@ pub fn read_claim(line: &[u8]) -> ClaimRead
     ensures { λ r. ⌜ r ≡ claimOf (now (line .entry)) ⌝ }
 {
     if digits::is_sound(line) {
-        let mut frame = [0u8; 286];
+        let mut frame = [0u8; LONGEST_FRAME];
         let n = digits::unhex(line, &mut frame);
         let src = &frame[..n];
         if claim_ok(src) {

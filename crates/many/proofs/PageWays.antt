@@ -32,6 +32,7 @@ use Rattle.many.specs.Rows.{row, each}
 use Rattle.many.specs.Counts.{manyRefusal}
 use Rattle.many.specs.Pages.{placeAt, pageAt, pageRow, putPage, putItems, Rooms, bothRooms, pagesRefusal, pagesEach, Pages, Askable, OnePage, AllPages}
 use Rattle.many.proofs.Ways.{part-point, part-length, many-refused, many-goes}
+use Rattle.paper.specs.Limits.{mostPage}
 
 -- ---- rows
 
@@ -117,11 +118,11 @@ module _ (s : Store) (probes n places size outcomes items : ℕ) where
         pages-6 h = sym (to-6 ∙ ap number (must-stop (sizeHolds size) 6 _ (sym be ∙ not-true b h)))
 
         module _ (hb : not b ≡ false) where
-          pub pages-small : size ≤ 16
-          pages-small = leb-true size 16 (and-second (leb 1 size) (leb size 16) (sym be ∙ not-false b hb))
+          pub pages-small : size ≤ mostPage
+          pages-small = leb-true size mostPage (and-second (leb 1 size) (leb size mostPage) (sym be ∙ not-false b hb))
 
           pub pages-some : 1 ≤ size
-          pages-some = leb-true 1 size (and-first (leb 1 size) (leb size 16) (sym be ∙ not-false b hb))
+          pages-some = leb-true 1 size (and-first (leb 1 size) (leb size mostPage) (sym be ∙ not-false b hb))
 
           module _ (e : Bool) (ee : e ≡ leb (n * 3) outcomes) where
             abbrev from-12 : Outcome ℕ

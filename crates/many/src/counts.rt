@@ -2,7 +2,7 @@
 ghost use mathlib.Core.Path.{_≡_};
 ghost use Prim.Native.Nat.{_*_, _≤_};
 ghost use lib.Dec.{leb};
-ghost use Rattle.paper.specs.Tree.{store};
+ghost use Rattle.paper.specs.Tree.{lent};
 ghost use Rattle.many.specs.Counts.{manyRefusal};
 use paper::tables::Table;
 
@@ -26,7 +26,7 @@ pub fn many_refusal(
     probes: usize,
     n: usize,
 ) -> u8
-    ensures { λ r. ⌜ r ≡ manyRefusal (store t (now (references .entry)) (now (coordinates .entry)) (now (rooms .entry))) probes n ⌝ }
+    ensures { λ r. ⌜ r ≡ manyRefusal (lent t (references .entry) (coordinates .entry) (rooms .entry)) probes n ⌝ }
 {
     let why = nearby::table_refusal(t, references, coordinates, rooms);
     if why != 0 {

@@ -6,7 +6,7 @@ ghost use Prim.Native.Nat.{_*_};
 ghost use Rattle.paper.specs.declared.orders.Order.the-variants.{Near};
 ghost use Rattle.paper.specs.Points.{point};
 ghost use Rattle.paper.specs.Orders.{nearestOf, farthestOf};
-ghost use Rattle.paper.specs.Tree.{store, claimsIn};
+ghost use Rattle.paper.specs.Tree.{lent, claimsIn};
 ghost use Rattle.paper.specs.Calls.{tableQuery};
 ghost use Rattle.many.specs.Rows.{each, putFound, foundRow};
 ghost use Rattle.many.specs.Many.{nearestAt, farthestAt, nearestEach, farthestEach, Answers, Many, One};
@@ -26,8 +26,8 @@ fn nearest_row(
     reach: u64,
     out: &mut [u64],
 )
-    requires { ⌜ One (store t (now references) (now coordinates) (now rooms)) (length (now probes)) i 4 (length (now out)) ⌝ }
-    ensures { λ _. ⌜ now (out .exit) ≡ sets (now (out .entry)) (i * 4) (foundRow (nearestOf (tableQuery (store t (now (references .entry)) (now (coordinates .entry)) (now (rooms .entry))) Near (point (t .d) (now (probes .entry)) i) reach) (claimsIn (store t (now (references .entry)) (now (coordinates .entry)) (now (rooms .entry)))))) ⌝ }
+    requires { ⌜ One (lent t references coordinates rooms) (length (now probes)) i 4 (length (now out)) ⌝ }
+    ensures { λ _. ⌜ now (out .exit) ≡ sets (now (out .entry)) (i * 4) (foundRow (nearestOf (tableQuery (lent t (references .entry) (coordinates .entry) (rooms .entry)) Near (point (t .d) (now (probes .entry)) i) reach) (claimsIn (lent t (references .entry) (coordinates .entry) (rooms .entry))))) ⌝ }
 {
     let d = t.d;
     let a = i * d;
@@ -46,8 +46,8 @@ fn farthest_row(
     i: usize,
     out: &mut [u64],
 )
-    requires { ⌜ One (store t (now references) (now coordinates) (now rooms)) (length (now probes)) i 4 (length (now out)) ⌝ }
-    ensures { λ _. ⌜ now (out .exit) ≡ putFound (farthestAt (store t (now (references .entry)) (now (coordinates .entry)) (now (rooms .entry))) (now (probes .entry))) i (now (out .entry)) ⌝ }
+    requires { ⌜ One (lent t references coordinates rooms) (length (now probes)) i 4 (length (now out)) ⌝ }
+    ensures { λ _. ⌜ now (out .exit) ≡ putFound (farthestAt (lent t (references .entry) (coordinates .entry) (rooms .entry)) (now (probes .entry))) i (now (out .entry)) ⌝ }
 {
     let d = t.d;
     let a = i * d;
@@ -65,8 +65,8 @@ fn nearest_rows(
     reaches: &[u64],
     out: &mut [u64],
 )
-    requires { ⌜ Many (store t (now references) (now coordinates) (now rooms)) (length (now probes)) (length (now reaches)) 4 (length (now out)) ⌝ }
-    ensures { λ _. ⌜ now (out .exit) ≡ each (putFound (nearestAt (store t (now (references .entry)) (now (coordinates .entry)) (now (rooms .entry))) (now (probes .entry)) (now (reaches .entry)))) (length (now (reaches .entry))) (now (out .entry)) ⌝ }
+    requires { ⌜ Many (lent t references coordinates rooms) (length (now probes)) (length (now reaches)) 4 (length (now out)) ⌝ }
+    ensures { λ _. ⌜ now (out .exit) ≡ each (putFound (nearestAt (lent t (references .entry) (coordinates .entry) (rooms .entry)) (now (probes .entry)) (now (reaches .entry)))) (length (now (reaches .entry))) (now (out .entry)) ⌝ }
 {
     let mut i = 0;
     while i < reaches.len() {
@@ -93,8 +93,8 @@ fn farthest_rows(
     n: usize,
     out: &mut [u64],
 )
-    requires { ⌜ Many (store t (now references) (now coordinates) (now rooms)) (length (now probes)) n 4 (length (now out)) ⌝ }
-    ensures { λ _. ⌜ now (out .exit) ≡ each (putFound (farthestAt (store t (now (references .entry)) (now (coordinates .entry)) (now (rooms .entry))) (now (probes .entry)))) n (now (out .entry)) ⌝ }
+    requires { ⌜ Many (lent t references coordinates rooms) (length (now probes)) n 4 (length (now out)) ⌝ }
+    ensures { λ _. ⌜ now (out .exit) ≡ each (putFound (farthestAt (lent t (references .entry) (coordinates .entry) (rooms .entry)) (now (probes .entry)))) n (now (out .entry)) ⌝ }
 {
     let mut i = 0;
     while i < n {
@@ -113,7 +113,7 @@ pub fn nearest_each(
     reaches: &[u64],
     out: &mut [u64],
 ) -> u8
-    ensures { λ r. ⌜ Answers (nearestEach (store t (now (references .entry)) (now (coordinates .entry)) (now (rooms .entry))) (now (probes .entry)) (now (reaches .entry)) (now (out .entry))) (now (out .entry)) r (now (out .exit)) ⌝ }
+    ensures { λ r. ⌜ Answers (nearestEach (lent t (references .entry) (coordinates .entry) (rooms .entry)) (now (probes .entry)) (now (reaches .entry)) (now (out .entry))) (now (out .entry)) r (now (out .exit)) ⌝ }
 {
     let why = many_refusal(
         t,
@@ -143,7 +143,7 @@ pub fn farthest_each(
     n: usize,
     out: &mut [u64],
 ) -> u8
-    ensures { λ r. ⌜ Answers (farthestEach (store t (now (references .entry)) (now (coordinates .entry)) (now (rooms .entry))) (now (probes .entry)) n (now (out .entry))) (now (out .entry)) r (now (out .exit)) ⌝ }
+    ensures { λ r. ⌜ Answers (farthestEach (lent t (references .entry) (coordinates .entry) (rooms .entry)) (now (probes .entry)) n (now (out .entry))) (now (out .entry)) r (now (out .exit)) ⌝ }
 {
     let why = many_refusal(t, references, coordinates, rooms, probes.len(), n);
     if why != 0 {

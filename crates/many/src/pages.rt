@@ -4,7 +4,7 @@ ghost use Prim.Native.Nat.{_*_};
 ghost use lib.ListN.{length};
 ghost use Rattle.paper.specs.declared.orders.Order.the-variants.{Near};
 ghost use Rattle.paper.specs.Points.{point};
-ghost use Rattle.paper.specs.Tree.{store};
+ghost use Rattle.paper.specs.Tree.{lent};
 ghost use Rattle.paper.specs.Calls.{pageCall};
 ghost use Rattle.many.specs.Rows.{each};
 ghost use Rattle.many.specs.Pages.{placeAt, pageAt, putPage, putItems, bothRooms, pagesRefusal, pagesEach, Pages, OnePage, AllPages};
@@ -29,9 +29,9 @@ fn page_row(
     outcomes: &mut [u64],
     items: &mut [u64],
 )
-    requires { ⌜ OnePage (store t (now references) (now coordinates) (now rooms)) (length (now probes)) (length (now places)) i size (length (now outcomes)) (length (now items)) ⌝ }
-    ensures told { λ _. ⌜ now (outcomes .exit) ≡ putPage (λ k. pageCall (store t (now (references .entry)) (now (coordinates .entry)) (now (rooms .entry))) Near (point (t .d) (now (probes .entry)) i) reach (placeAt (now (places .entry)) i) size (size * 3)) i (now (outcomes .entry)) ⌝ }
-    ensures filled { λ _. ⌜ now (items .exit) ≡ putItems (λ k. pageCall (store t (now (references .entry)) (now (coordinates .entry)) (now (rooms .entry))) Near (point (t .d) (now (probes .entry)) i) reach (placeAt (now (places .entry)) i) size (size * 3)) (size * 3) i (now (items .entry)) ⌝ }
+    requires { ⌜ OnePage (lent t references coordinates rooms) (length (now probes)) (length (now places)) i size (length (now outcomes)) (length (now items)) ⌝ }
+    ensures told { λ _. ⌜ now (outcomes .exit) ≡ putPage (λ k. pageCall (lent t (references .entry) (coordinates .entry) (rooms .entry)) Near (point (t .d) (now (probes .entry)) i) reach (placeAt (now (places .entry)) i) size (size * 3)) i (now (outcomes .entry)) ⌝ }
+    ensures filled { λ _. ⌜ now (items .exit) ≡ putItems (λ k. pageCall (lent t (references .entry) (coordinates .entry) (rooms .entry)) Near (point (t .d) (now (probes .entry)) i) reach (placeAt (now (places .entry)) i) size (size * 3)) (size * 3) i (now (items .entry)) ⌝ }
 {
     let d = t.d;
     let a = i * d;
@@ -66,9 +66,9 @@ fn page_rows(
     outcomes: &mut [u64],
     items: &mut [u64],
 )
-    requires { ⌜ AllPages (store t (now references) (now coordinates) (now rooms)) (length (now probes)) (length (now reaches)) (length (now places)) size (length (now outcomes)) (length (now items)) ⌝ }
-    ensures told { λ _. ⌜ now (outcomes .exit) ≡ each (putPage (pageAt (store t (now (references .entry)) (now (coordinates .entry)) (now (rooms .entry))) (now (probes .entry)) (now (reaches .entry)) (now (places .entry)) size)) (length (now (reaches .entry))) (now (outcomes .entry)) ⌝ }
-    ensures filled { λ _. ⌜ now (items .exit) ≡ each (putItems (pageAt (store t (now (references .entry)) (now (coordinates .entry)) (now (rooms .entry))) (now (probes .entry)) (now (reaches .entry)) (now (places .entry)) size) (size * 3)) (length (now (reaches .entry))) (now (items .entry)) ⌝ }
+    requires { ⌜ AllPages (lent t references coordinates rooms) (length (now probes)) (length (now reaches)) (length (now places)) size (length (now outcomes)) (length (now items)) ⌝ }
+    ensures told { λ _. ⌜ now (outcomes .exit) ≡ each (putPage (pageAt (lent t (references .entry) (coordinates .entry) (rooms .entry)) (now (probes .entry)) (now (reaches .entry)) (now (places .entry)) size)) (length (now (reaches .entry))) (now (outcomes .entry)) ⌝ }
+    ensures filled { λ _. ⌜ now (items .exit) ≡ each (putItems (pageAt (lent t (references .entry) (coordinates .entry) (rooms .entry)) (now (probes .entry)) (now (reaches .entry)) (now (places .entry)) size) (size * 3)) (length (now (reaches .entry))) (now (items .entry)) ⌝ }
 {
     let mut i = 0;
     while i < reaches.len() {
@@ -102,7 +102,7 @@ fn pages_refusal(
     outcomes: usize,
     items: usize,
 ) -> u8
-    ensures { λ r. ⌜ r ≡ pagesRefusal (store t (now (references .entry)) (now (coordinates .entry)) (now (rooms .entry))) probes n places size outcomes items ⌝ }
+    ensures { λ r. ⌜ r ≡ pagesRefusal (lent t (references .entry) (coordinates .entry) (rooms .entry)) probes n places size outcomes items ⌝ }
 {
     let why = many_refusal(t, references, coordinates, rooms, probes, n);
     if why != 0 {
@@ -137,7 +137,7 @@ pub fn pages_each(
     outcomes: &mut [u64],
     items: &mut [u64],
 ) -> u8
-    ensures { λ r. ⌜ Pages (pagesEach (store t (now (references .entry)) (now (coordinates .entry)) (now (rooms .entry))) (now (probes .entry)) (now (reaches .entry)) (now (places .entry)) size (bothRooms (now (outcomes .entry)) (now (items .entry)))) (bothRooms (now (outcomes .entry)) (now (items .entry))) r (bothRooms (now (outcomes .exit)) (now (items .exit))) ⌝ }
+    ensures { λ r. ⌜ Pages (pagesEach (lent t (references .entry) (coordinates .entry) (rooms .entry)) (now (probes .entry)) (now (reaches .entry)) (now (places .entry)) size (bothRooms (now (outcomes .entry)) (now (items .entry)))) (bothRooms (now (outcomes .entry)) (now (items .entry))) r (bothRooms (now (outcomes .exit)) (now (items .exit))) ⌝ }
 {
     let why = pages_refusal(
         t,

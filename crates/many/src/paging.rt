@@ -4,7 +4,7 @@ ghost use Prim.Native.Nat.{_+_, _*_, _≤_};
 ghost use lib.ListN.{length};
 ghost use Rattle.paper.specs.declared.orders.Order.the-variants.{Near};
 ghost use Rattle.paper.specs.Outcomes.{number};
-ghost use Rattle.paper.specs.Tree.{store};
+ghost use Rattle.paper.specs.Tree.{lent};
 ghost use Rattle.paper.specs.Calls.{pageCall};
 ghost use Rattle.nearby.specs.Checks.{PagePromise};
 ghost use Rattle.many.specs.Pages.{placeAt, Askable};
@@ -38,8 +38,8 @@ fn place_refusal(
     size: usize,
     room: usize,
 ) -> u8
-    requires { ⌜ Askable (store t (now references) (now coordinates) (now rooms)) (length (now probe)) size room ⌝ }
-    ensures { λ r. ⌜ r ≡ number (pageCall (store t (now (references .entry)) (now (coordinates .entry)) (now (rooms .entry))) Near (now (probe .entry)) reach place size room) ⌝ }
+    requires { ⌜ Askable (lent t references coordinates rooms) (length (now probe)) size room ⌝ }
+    ensures { λ r. ⌜ r ≡ number (pageCall (lent t (references .entry) (coordinates .entry) (rooms .entry)) Near (now (probe .entry)) reach place size room) ⌝ }
 {
     if !nearby::snapshot_holds(t.count, place) {
         return 7;
@@ -62,8 +62,8 @@ pub fn page_here(
     size: usize,
     room: &mut [u64],
 ) -> Page
-    requires { ⌜ Askable (store t (now references) (now coordinates) (now rooms)) (length (now probe)) size (length (now room)) ⌝ }
-    ensures { λ r. ⌜ PagePromise (pageCall (store t (now (references .entry)) (now (coordinates .entry)) (now (rooms .entry))) Near (now (probe .entry)) reach place size (length (now (room .entry)))) r (now (room .entry)) (now (room .exit)) ⌝ }
+    requires { ⌜ Askable (lent t references coordinates rooms) (length (now probe)) size (length (now room)) ⌝ }
+    ensures { λ r. ⌜ PagePromise (pageCall (lent t (references .entry) (coordinates .entry) (rooms .entry)) Near (now (probe .entry)) reach place size (length (now (room .entry)))) r (now (room .entry)) (now (room .exit)) ⌝ }
 {
     let why = place_refusal(
         t,

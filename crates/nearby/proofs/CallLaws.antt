@@ -35,6 +35,7 @@ use Rattle.tablet.specs.Holding.{TakenIs}
 use Rattle.paper.proofs.Outcomes.{must-stop, must-go, number-0}
 use Rattle.tablet.proofs.TakeLaws.{refuse-is}
 use Rattle.nearby.specs.Checks.{tableRefusal, PagePromise}
+use Rattle.paper.specs.Limits.{longestAnswer, mostPage}
 
 -- ---- 1 and 2
 
@@ -179,7 +180,7 @@ module _ (s : Store) (probe : List ℤ) (reach : ℕ) (place : Place) (size : �
       record { answer = rw e; room = rw e }
 
   module _ (z : n ≡ 0) where
-    parts : (fits s ≡ true) × (sound s ≡ true) × (length probe ≡ s .table .d) × (1 ≤ size) × (size ≤ 16)
+    parts : (fits s ≡ true) × (sound s ≡ true) × (length probe ≡ s .table .d) × (1 ≤ size) × (size ≤ mostPage)
         × (snapshotOf place (s .table .count) ≤ s .table .count) × (size * 3 ≤ length room)
         × (pageCall s Near probe reach place size (length room) ≡ gives (thePage (tableQuery s Near probe reach) s place size))
     unfolding pageCall snapshotHolds
@@ -195,8 +196,8 @@ module _ (s : Store) (probe : List ℤ) (reach : ℕ) (place : Place) (size : �
           p₁ .0,
           p₂ .0,
           eqb-true (length probe) (s .table .d) (p₅ .0),
-          leb-true 1 size (and-first (leb 1 size) (leb size 16) (p₆ .0)),
-          leb-true size 16 (and-second (leb 1 size) (leb size 16) (p₆ .0)),
+          leb-true 1 size (and-first (leb 1 size) (leb size mostPage) (p₆ .0)),
+          leb-true size mostPage (and-second (leb 1 size) (leb size mostPage) (p₆ .0)),
           (rw cl at (leb-true (snapshotOf place (length (claimsIn s))) (length (claimsIn s)) (p₇ .0))),
           leb-true (size * 3) (length room) (p₁₂ .0),
           must-go (fits s) 1 _ (p₁ .0) ∙ must-go (sound s) 2 _ (p₂ .0) ∙ must-go (eqb (length probe) (s .table .d)) 5 _ (p₅ .0)
@@ -219,14 +220,14 @@ module _ (s : Store) (probe : List ℤ) (reach : ℕ) (place : Place) (size : �
 
 -- the office: 12, 1, 2
 module _ (s : Store) (out line : List ℕ) where
-  pub office-12 : length out < 573 → Says (officeCall s (length out) line) out (Refused 12) out
+  pub office-12 : length out < longestAnswer → Says (officeCall s (length out) line) out (Refused 12) out
   unfolding officeCall
-  office-12 h = says-refused _ 12 out (must-stop (leb 573 (length out)) 12 _ (lt-leb 573 (length out) h))
+  office-12 h = says-refused _ 12 out (must-stop (leb longestAnswer (length out)) 12 _ (lt-leb longestAnswer (length out) h))
 
-  module _ (long : 573 ≤ length out) (n : ℕ) (we : n ≡ tableRefusal s) where
+  module _ (long : longestAnswer ≤ length out) (n : ℕ) (we : n ≡ tableRefusal s) where
     pub office-refused : (n ≡ 0 → ⊥) → Says (officeCall s (length out) line) out (Refused n) out
     unfolding officeCall
-    office-refused h = says-refused _ n out (must-go (leb 573 (length out)) 12 _ (le-leb 573 (length out) long) ∙ table-refused s n we _ h)
+    office-refused h = says-refused _ n out (must-go (leb longestAnswer (length out)) 12 _ (le-leb longestAnswer (length out) long) ∙ table-refused s n we _ h)
 
     pub office-open : n ≡ 0 → Open s (length out)
     office-open ok = record { good = table-good s n we ok; room = long }
@@ -235,7 +236,7 @@ module _ (s : Store) (out line : List ℕ) where
     unfolding officeCall
     office-answers ok r after w =
         let e : officeCall s (length out) line ≡ served lines (tableOf s) line =
-        must-go (leb 573 (length out)) 12 _ (le-leb 573 (length out) long) ∙ table-goes s n we ok _ in
+        must-go (leb longestAnswer (length out)) 12 _ (le-leb longestAnswer (length out) long) ∙ table-goes s n we ok _ in
         rw e w
 
 -- ---- a list that is not sound: 2

@@ -1,10 +1,11 @@
 // The office: one ask line in, one answer line out.
 ghost use mathlib.Core.Path.{_≡_};
 ghost use lib.ListN.{length};
-ghost use Rattle.paper.specs.Tree.{store};
+ghost use Rattle.paper.specs.Tree.{lent};
 ghost use Rattle.paper.specs.Calls.{officeCall};
 ghost use Rattle.desk.specs.Desk.{Says};
 use crate::tables::table_refusal;
+use paper::limits::LONGEST_ANSWER;
 use paper::lines::Wrote;
 use paper::tables::Table;
 
@@ -17,9 +18,9 @@ pub fn answer(
     line: &[u8],
     out: &mut [u8],
 ) -> Wrote
-    ensures { λ r. ⌜ Says (officeCall (store t (now (references .entry)) (now (coordinates .entry)) (now (rooms .entry))) (length (now (out .entry))) (now (line .entry))) (now (out .entry)) r (now (out .exit)) ⌝ }
+    ensures { λ r. ⌜ Says (officeCall (lent t (references .entry) (coordinates .entry) (rooms .entry)) (length (now (out .entry))) (now (line .entry))) (now (out .entry)) r (now (out .exit)) ⌝ }
 {
-    if out.len() < 573 {
+    if out.len() < LONGEST_ANSWER {
         return Wrote::Refused(12);
     }
     let why = table_refusal(t, references, coordinates, rooms);

@@ -6,11 +6,12 @@ ghost use lib.Dec.{leb};
 ghost use Rattle.paper.specs.declared.orders.Order.the-variants.{Near};
 ghost use Rattle.paper.specs.Orders.{snapshotOf};
 ghost use Rattle.paper.specs.Outcomes.{number};
-ghost use Rattle.paper.specs.Tree.{store};
+ghost use Rattle.paper.specs.Tree.{lent};
 ghost use Rattle.paper.specs.Ends.{sizeHolds};
 ghost use Rattle.paper.specs.Calls.{nearestCall, farthestCall, nearestTold, pageCall};
 ghost use Rattle.nearby.specs.Checks.{PagePromise};
 use crate::tables::table_refusal;
+use paper::limits::MOST_PAGE;
 use paper::orders::Nearest;
 use paper::orders::Order;
 use paper::orders::Page;
@@ -26,7 +27,7 @@ pub fn nearest(
     probe: &[i32],
     reach: u64,
 ) -> Nearest
-    ensures { λ r. ⌜ nearestTold r ≡ nearestCall (store t (now (references .entry)) (now (coordinates .entry)) (now (rooms .entry))) (now (probe .entry)) reach ⌝ }
+    ensures { λ r. ⌜ nearestTold r ≡ nearestCall (lent t (references .entry) (coordinates .entry) (rooms .entry)) (now (probe .entry)) reach ⌝ }
 {
     let why = table_refusal(t, references, coordinates, rooms);
     if why != 0 {
@@ -47,7 +48,7 @@ pub fn farthest(
     rooms: &[u64],
     probe: &[i32],
 ) -> Nearest
-    ensures { λ r. ⌜ nearestTold r ≡ farthestCall (store t (now (references .entry)) (now (coordinates .entry)) (now (rooms .entry))) (now (probe .entry)) ⌝ }
+    ensures { λ r. ⌜ nearestTold r ≡ farthestCall (lent t (references .entry) (coordinates .entry) (rooms .entry)) (now (probe .entry)) ⌝ }
 {
     let why = table_refusal(t, references, coordinates, rooms);
     if why != 0 {
@@ -66,7 +67,7 @@ pub fn size_holds(size: usize) -> bool
     if size < 1 {
         return false;
     }
-    size <= 16
+    size <= MOST_PAGE
 }
 
 pub fn snapshot_holds(count: usize, place: Place) -> bool
@@ -90,7 +91,7 @@ fn page_refusal(
     size: usize,
     room: usize,
 ) -> u8
-    ensures { λ r. ⌜ r ≡ number (pageCall (store t (now (references .entry)) (now (coordinates .entry)) (now (rooms .entry))) Near (now (probe .entry)) reach place size room) ⌝ }
+    ensures { λ r. ⌜ r ≡ number (pageCall (lent t (references .entry) (coordinates .entry) (rooms .entry)) Near (now (probe .entry)) reach place size room) ⌝ }
 {
     let why = table_refusal(t, references, coordinates, rooms);
     if why != 0 {
@@ -126,7 +127,7 @@ pub fn page(
     size: usize,
     room: &mut [u64],
 ) -> Page
-    ensures { λ r. ⌜ PagePromise (pageCall (store t (now (references .entry)) (now (coordinates .entry)) (now (rooms .entry))) Near (now (probe .entry)) reach place size (length (now (room .entry)))) r (now (room .entry)) (now (room .exit)) ⌝ }
+    ensures { λ r. ⌜ PagePromise (pageCall (lent t (references .entry) (coordinates .entry) (rooms .entry)) Near (now (probe .entry)) reach place size (length (now (room .entry)))) r (now (room .entry)) (now (room .exit)) ⌝ }
 {
     let why = page_refusal(
         t,

@@ -1,6 +1,6 @@
 // Making an empty table, and entering claims.
 ghost use mathlib.Core.Path.{_≡_};
-ghost use Rattle.paper.specs.Tree.{store};
+ghost use Rattle.paper.specs.Tree.{lent};
 ghost use Rattle.paper.specs.Runs.{emptyTable, makeCall, madeTold, enterCall, enteredTold, ending, endingOf};
 ghost use Rattle.nearby.specs.Checks.{tableRefusal};
 use paper::tables::Entered;
@@ -17,7 +17,7 @@ pub fn make_table(
     coordinates: &[i32],
     rooms: &[u64],
 ) -> Made
-    ensures { λ r. ⌜ madeTold r ≡ makeCall (store (emptyTable number measure d capacity) (now (references .entry)) (now (coordinates .entry)) (now (rooms .entry))) ⌝ }
+    ensures { λ r. ⌜ madeTold r ≡ makeCall (lent (emptyTable number measure d capacity) (references .entry) (coordinates .entry) (rooms .entry)) ⌝ }
 {
     tree::runs::make_table(number, measure, d, capacity, references, coordinates, rooms)
 }
@@ -32,15 +32,15 @@ pub fn enter(
     places: &[i32],
 ) -> Entered
     ensures { λ r. ⌜ ending (enteredTold r) (now (references .exit)) (now (coordinates .exit)) (now (rooms .exit))
-        ≡ endingOf (store t (now (references .entry)) (now (coordinates .entry)) (now (rooms .entry)))
-        (enterCall (store t (now (references .entry)) (now (coordinates .entry)) (now (rooms .entry))) (now (given .entry)) (now (places .entry))) ⌝ }
+        ≡ endingOf (lent t (references .entry) (coordinates .entry) (rooms .entry))
+        (enterCall (lent t (references .entry) (coordinates .entry) (rooms .entry)) (now (given .entry)) (now (places .entry))) ⌝ }
 {
     tree::runs::enter_run(t, references, coordinates, rooms, given, places)
 }
 
 // Why a table may not be asked: 1 or 2, or 0 where it may.
 pub fn table_refusal(t: Table, references: &[u32], coordinates: &[i32], rooms: &[u64]) -> u8
-    ensures { λ r. ⌜ r ≡ tableRefusal (store t (now (references .entry)) (now (coordinates .entry)) (now (rooms .entry))) ⌝ }
+    ensures { λ r. ⌜ r ≡ tableRefusal (lent t (references .entry) (coordinates .entry) (rooms .entry)) ⌝ }
 {
     if !tree::soundness::is_fit(t, references, coordinates, rooms) {
         return 1;

@@ -1,7 +1,7 @@
 // The office: one ask line in, one answer line out.
 ghost use mathlib.Core.Path.{_≡_};
 ghost use lib.ListN.{length};
-ghost use Rattle.paper.specs.Tree.{store};
+ghost use Rattle.paper.specs.Tree.{lent};
 ghost use Rattle.paper.specs.Calls.{officeCall};
 ghost use Rattle.nearby_c.specs.Values.{Tells};
 use crate::values::Written;
@@ -18,7 +18,7 @@ pub extern "C" fn nearby_answer(
     line: &[u8],
     out: &mut [u8],
 ) -> Written
-    ensures { λ r. ⌜ Tells (officeCall (store t (now (references .entry)) (now (coordinates .entry)) (now (rooms .entry))) (length (now (out .entry))) (now (line .entry))) (now (out .entry)) r (now (out .exit)) ⌝ }
+    ensures { λ r. ⌜ Tells (officeCall (lent t (references .entry) (coordinates .entry) (rooms .entry)) (length (now (out .entry))) (now (line .entry))) (now (out .entry)) r (now (out .exit)) ⌝ }
 {
     let wrote = nearby::answer(t, references, coordinates, rooms, line, out);
     line_of(wrote)

@@ -2,7 +2,7 @@
 ghost use mathlib.Core.Path.{_≡_};
 ghost use lib.ListN.{length};
 ghost use Rattle.paper.specs.declared.orders.Order.the-variants.{Near};
-ghost use Rattle.paper.specs.Tree.{store};
+ghost use Rattle.paper.specs.Tree.{lent};
 ghost use Rattle.paper.specs.Calls.{nearestCall, farthestCall, pageCall};
 ghost use Rattle.nearby_c.specs.Values.{foundOf, placeOf, Fills};
 use crate::values::Filled;
@@ -23,7 +23,7 @@ pub extern "C" fn nearby_nearest(
     probe: &[i32],
     reach: u64,
 ) -> Item
-    ensures { λ r. ⌜ r ≡ foundOf (nearestCall (store t (now (references .entry)) (now (coordinates .entry)) (now (rooms .entry))) (now (probe .entry)) reach) ⌝ }
+    ensures { λ r. ⌜ r ≡ foundOf (nearestCall (lent t (references .entry) (coordinates .entry) (rooms .entry)) (now (probe .entry)) reach) ⌝ }
 {
     item_of(nearby::nearest(t, references, coordinates, rooms, probe, reach))
 }
@@ -37,7 +37,7 @@ pub extern "C" fn nearby_farthest(
     rooms: &[u64],
     probe: &[i32],
 ) -> Item
-    ensures { λ r. ⌜ r ≡ foundOf (farthestCall (store t (now (references .entry)) (now (coordinates .entry)) (now (rooms .entry))) (now (probe .entry))) ⌝ }
+    ensures { λ r. ⌜ r ≡ foundOf (farthestCall (lent t (references .entry) (coordinates .entry) (rooms .entry)) (now (probe .entry))) ⌝ }
 {
     item_of(nearby::farthest(t, references, coordinates, rooms, probe))
 }
@@ -55,7 +55,7 @@ pub extern "C" fn nearby_page(
     size: usize,
     room: &mut [u64],
 ) -> Filled
-    ensures { λ r. ⌜ Fills (pageCall (store t (now (references .entry)) (now (coordinates .entry)) (now (rooms .entry))) Near (now (probe .entry)) reach (placeOf start) size (length (now (room .entry)))) (now (room .entry)) r (now (room .exit)) ⌝ }
+    ensures { λ r. ⌜ Fills (pageCall (lent t (references .entry) (coordinates .entry) (rooms .entry)) Near (now (probe .entry)) reach (placeOf start) size (length (now (room .entry)))) (now (room .entry)) r (now (room .exit)) ⌝ }
 {
     let place = place_of(start);
     let page = nearby::page(

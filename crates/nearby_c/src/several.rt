@@ -1,6 +1,6 @@
 // Many questions and many lines, for which the table is tested once.
 ghost use mathlib.Core.Path.{_≡_};
-ghost use Rattle.paper.specs.Tree.{store};
+ghost use Rattle.paper.specs.Tree.{lent};
 ghost use Rattle.many.specs.Many.{nearestEach, farthestEach, Answers};
 ghost use Rattle.many.specs.Pages.{bothRooms, pagesEach, Pages};
 ghost use Rattle.batch.specs.Batch.{start, batchCall, Promise};
@@ -18,7 +18,7 @@ pub extern "C" fn nearby_many_nearest(
     reaches: &[u64],
     out: &mut [u64],
 ) -> u8
-    ensures { λ r. ⌜ Answers (nearestEach (store t (now (references .entry)) (now (coordinates .entry)) (now (rooms .entry))) (now (probes .entry)) (now (reaches .entry)) (now (out .entry))) (now (out .entry)) r (now (out .exit)) ⌝ }
+    ensures { λ r. ⌜ Answers (nearestEach (lent t (references .entry) (coordinates .entry) (rooms .entry)) (now (probes .entry)) (now (reaches .entry)) (now (out .entry))) (now (out .entry)) r (now (out .exit)) ⌝ }
 {
     many::nearest_each(t, references, coordinates, rooms, probes, reaches, out)
 }
@@ -34,7 +34,7 @@ pub extern "C" fn nearby_many_farthest(
     n: usize,
     out: &mut [u64],
 ) -> u8
-    ensures { λ r. ⌜ Answers (farthestEach (store t (now (references .entry)) (now (coordinates .entry)) (now (rooms .entry))) (now (probes .entry)) n (now (out .entry))) (now (out .entry)) r (now (out .exit)) ⌝ }
+    ensures { λ r. ⌜ Answers (farthestEach (lent t (references .entry) (coordinates .entry) (rooms .entry)) (now (probes .entry)) n (now (out .entry))) (now (out .entry)) r (now (out .exit)) ⌝ }
 {
     many::farthest_each(t, references, coordinates, rooms, probes, n, out)
 }
@@ -53,7 +53,7 @@ pub extern "C" fn nearby_many_pages(
     outcomes: &mut [u64],
     items: &mut [u64],
 ) -> u8
-    ensures { λ r. ⌜ Pages (pagesEach (store t (now (references .entry)) (now (coordinates .entry)) (now (rooms .entry))) (now (probes .entry)) (now (reaches .entry)) (now (places .entry)) size (bothRooms (now (outcomes .entry)) (now (items .entry)))) (bothRooms (now (outcomes .entry)) (now (items .entry))) r (bothRooms (now (outcomes .exit)) (now (items .exit))) ⌝ }
+    ensures { λ r. ⌜ Pages (pagesEach (lent t (references .entry) (coordinates .entry) (rooms .entry)) (now (probes .entry)) (now (reaches .entry)) (now (places .entry)) size (bothRooms (now (outcomes .entry)) (now (items .entry)))) (bothRooms (now (outcomes .entry)) (now (items .entry))) r (bothRooms (now (outcomes .exit)) (now (items .exit))) ⌝ }
 {
     many::pages_each(
         t,
@@ -80,7 +80,7 @@ pub extern "C" fn nearby_many_answers(
     outcomes: &mut [u64],
     out: &mut [u8],
 ) -> Answered
-    ensures { λ r. ⌜ Promise (batchCall (store t (now (references .entry)) (now (coordinates .entry)) (now (rooms .entry))) (now (asks .entry)) (now (outcomes .entry)) (now (out .entry))) (start (now (outcomes .entry)) (now (out .entry))) r (now (outcomes .exit)) (now (out .exit)) ⌝ }
+    ensures { λ r. ⌜ Promise (batchCall (lent t (references .entry) (coordinates .entry) (rooms .entry)) (now (asks .entry)) (now (outcomes .entry)) (now (out .entry))) (start (now (outcomes .entry)) (now (out .entry))) r (now (outcomes .exit)) (now (out .exit)) ⌝ }
 {
     batch::answer_all(t, references, coordinates, rooms, asks, outcomes, out)
 }

@@ -1,6 +1,6 @@
 // Making a table, testing it, and entering claims.
 ghost use mathlib.Core.Path.{_≡_};
-ghost use Rattle.paper.specs.Tree.{store};
+ghost use Rattle.paper.specs.Tree.{lent};
 ghost use Rattle.paper.specs.Runs.{emptyTable, makeCall, enterCall};
 ghost use Rattle.nearby.specs.Checks.{tableRefusal};
 ghost use Rattle.nearby_c.specs.Values.{tabled, Enters};
@@ -20,7 +20,7 @@ pub extern "C" fn nearby_make_table(
     coordinates: &[i32],
     rooms: &[u64],
 ) -> Tabled
-    ensures { λ r. ⌜ r ≡ tabled (makeCall (store (emptyTable number measure d capacity) (now (references .entry)) (now (coordinates .entry)) (now (rooms .entry)))) ⌝ }
+    ensures { λ r. ⌜ r ≡ tabled (makeCall (lent (emptyTable number measure d capacity) (references .entry) (coordinates .entry) (rooms .entry))) ⌝ }
 {
     table_made(nearby::make_table(number, measure, d, capacity, references, coordinates, rooms))
 }
@@ -33,7 +33,7 @@ pub extern "C" fn nearby_test_table(
     coordinates: &[i32],
     rooms: &[u64],
 ) -> u8
-    ensures { λ r. ⌜ r ≡ tableRefusal (store t (now (references .entry)) (now (coordinates .entry)) (now (rooms .entry))) ⌝ }
+    ensures { λ r. ⌜ r ≡ tableRefusal (lent t (references .entry) (coordinates .entry) (rooms .entry)) ⌝ }
 {
     nearby::table_refusal(t, references, coordinates, rooms)
 }
@@ -48,7 +48,7 @@ pub extern "C" fn nearby_enter(
     given: &[u32],
     places: &[i32],
 ) -> Tabled
-    ensures { λ r. ⌜ Enters (store t (now (references .entry)) (now (coordinates .entry)) (now (rooms .entry))) (enterCall (store t (now (references .entry)) (now (coordinates .entry)) (now (rooms .entry))) (now (given .entry)) (now (places .entry))) r (now (references .exit)) (now (coordinates .exit)) (now (rooms .exit)) ⌝ }
+    ensures { λ r. ⌜ Enters (lent t (references .entry) (coordinates .entry) (rooms .entry)) (enterCall (lent t (references .entry) (coordinates .entry) (rooms .entry)) (now (given .entry)) (now (places .entry))) r (now (references .exit)) (now (coordinates .exit)) (now (rooms .exit)) ⌝ }
 {
     let e = nearby::enter(t, references, coordinates, rooms, given, places);
     table_entered(e)

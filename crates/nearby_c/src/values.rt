@@ -5,6 +5,7 @@ ghost use Rattle.paper.specs.Outcomes.{refused};
 ghost use Rattle.paper.specs.Runs.{madeTold, enteredTold};
 ghost use Rattle.paper.specs.Calls.{nearestTold, pageTold};
 ghost use Rattle.nearby_c.specs.Values.{flagOf, tabled, foundOf, filledOf, writtenOf, placeOf, listIn, listOut};
+use paper::limits::MOST_PLACES;
 use paper::lines::Wrote;
 use paper::lists::List;
 use paper::orders::Found;
@@ -65,7 +66,7 @@ pub struct Listing {
     pub started: u8,
     pub complete: u8,
     pub d: usize,
-    pub probe: [i32; 8],
+    pub probe: [i32; MOST_PLACES],
     pub reach: u64,
     pub snapshot: u64,
     pub count: usize,

@@ -10,7 +10,7 @@ use borrow.Author.Tests.{leb-true, le-leb, eqb-true, eq-eqb}
 use Rattle.paper.specs.declared.orders.Order.{Order}
 use Rattle.paper.specs.declared.orders.Place.the-variants.{After}
 use Rattle.paper.specs.Orders.{Item, follows, earlier}
-use Rattle.paper.specs.Tree.{inRange}
+use Rattle.paper.specs.Points.{inRange}
 use Rattle.paper.specs.Outcomes.{gives}
 use Rattle.paper.specs.Ends.{Answer, Codec, Listing, lastItem, markOf, leads, rising, every, fitting, startedWell, soundIn, pageHolds, joinedTo, taking}
 use Rattle.paper.proofs.Tests.{and-first, and-second, and-both, or-left, or-right}
@@ -18,6 +18,7 @@ use Rattle.paper.proofs.Outcomes.{must-test, must-rest, through}
 use Rattle.orders.proofs.Lists.{All, all-append, every-all, every-true}
 use Rattle.orders.specs.Laws.{AnswerOk, Lawful}
 use Rattle.orders.proofs.Taking.{Took, took, Fits, fits-present, present-after}
+use Rattle.paper.specs.Limits.{mostClaims}
 
 last-cons : (x y : Item) (l : List Item) → lastItem (x ∷ y ∷ l) ≡ lastItem (y ∷ l)
 last-cons x y l =
@@ -58,7 +59,7 @@ some-joined a b f p = go f refl
 pub record Soundness (room : ℕ) (L : Listing) : Type 0 where
   pub range : inRange (L .query .measure) (L .query .d) ≡ true
   pub long : length (L .query .probe) ≡ L .query .d
-  pub small : L .snapshot ≤ 4096
+  pub small : L .snapshot ≤ mostClaims
   pub roomy : length (L .items) ≤ room
   pub rises : rising (L .query .order) (L .items) ≡ true
   pub fit : All (λ x. fitting (L .query .reach) (L .snapshot) x ≡ true) (L .items)
@@ -69,13 +70,13 @@ unfolding soundIn
 soundness room L e =
     let e1 = and-second (inRange (L .query .measure) (L .query .d)) _ e in
     let e2 = and-second (eqb (length (L .query .probe)) (L .query .d)) _ e1 in
-    let e3 = and-second (leb (L .snapshot) 4096) _ e2 in
+    let e3 = and-second (leb (L .snapshot) mostClaims) _ e2 in
     let e4 = and-second (leb (length (L .items)) room) _ e3 in
     let e5 = and-second (rising (L .query .order) (L .items)) _ e4 in
     record {
       range = and-first _ _ e;
       long = eqb-true _ _ (and-first _ _ e1);
-      small = leb-true (L .snapshot) 4096 (and-first _ _ e2);
+      small = leb-true (L .snapshot) mostClaims (and-first _ _ e2);
       roomy = leb-true (length (L .items)) room (and-first _ _ e3);
       rises = and-first (rising (L .query .order) (L .items)) _ e4;
       fit = every-all _ (L .items) (and-first _ _ e5);

@@ -11,9 +11,10 @@ use Rattle.paper.specs.declared.orders.Order.{Order}
 use Rattle.paper.specs.declared.orders.Place.{Place}
 use Rattle.paper.specs.declared.orders.Place.the-variants.{Start, After}
 use Rattle.paper.specs.Orders.{Item, Query, snapshotOf}
-use Rattle.paper.specs.Tree.{inRange}
+use Rattle.paper.specs.Points.{inRange}
 use Rattle.paper.specs.Outcomes.{gives}
 use Rattle.paper.specs.Ends.{Ask, Answer, Codec}
+use Rattle.paper.specs.Limits.{mostClaims, mostPage}
 
 -- what the types of a call's arguments say: a table number of 32 bits, a reach of 64, signed coordinates of 32
 pub record Typed (q : Query) : Type 0 where
@@ -28,9 +29,9 @@ pub record QueryOk (q : Query) : Type 0 where
 
 -- "snapshot 0 to 4,096, numbers 0 to 4,095"
 pub record MarkOk (n : ℕ) (m : Mark) : Type 0 where
-  pub snapshot : n ≤ 4096
+  pub snapshot : n ≤ mostClaims
   pub distance : m .distance < 2 ^ 64
-  pub number : m .number < 4096
+  pub number : m .number < mostClaims
 
 abbrev pub PlaceOk : Place → Type 0
 PlaceOk Start = Unit {0}
@@ -41,10 +42,10 @@ pub record AskOk (a : Ask) : Type 0 where
   pub query : QueryOk (a .query)
   pub place : PlaceOk (a .place)
   pub one : 1 ≤ a .size
-  pub most : a .size ≤ 16
+  pub most : a .size ≤ mostPage
 
 pub record ItemOk (x : Item) : Type 0 where
-  pub number : x .number < 4096
+  pub number : x .number < mostClaims
   pub reference : x .reference < 2 ^ 32
   pub distance : x .distance < 2 ^ 64
 
@@ -52,9 +53,9 @@ pub record ItemOk (x : Item) : Type 0 where
 pub record AnswerOk (y : Answer) : Type 0 where
   pub query : QueryOk (y .query)
   pub place : PlaceOk (y .place)
-  pub snapshot : y .snapshot ≤ 4096
+  pub snapshot : y .snapshot ≤ mostClaims
   pub used : snapshotOf (y .place) (y .snapshot) ≡ y .snapshot
-  pub few : length (y .items) ≤ 16
+  pub few : length (y .items) ≤ mostPage
   pub items : (x : Item) → List·Memᴰ x (y .items) → ItemOk x
 
 -- of a codec, for the orders that it has kinds for

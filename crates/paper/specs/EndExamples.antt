@@ -12,6 +12,7 @@ use Rattle.paper.specs.Outcomes.{Outcome, refused, gives}
 use Rattle.paper.specs.Frames.{lineOf}
 use Rattle.paper.specs.Ends.{Answer, Table, office, answerTo, Listing, fresh, presentAsk, taken}
 use Rattle.paper.specs.Codec.{lines}
+use Rattle.paper.specs.Limits.{longestAnswer, officeClaims}
 
 -- "Claims 2, 3, 9, 6, 5 as above (document 000, figure 3)", with references 65 to 69 in hexadecimal digits
 abbrev pub claim : ℕ → ℕ → Claim
@@ -29,7 +30,7 @@ abbrev pub query : ℕ → Query
 query reach = record { order = Near; table = 7; measure = 1; d = 1; probe = pos 4 ∷ []; reach = reach }
 
 abbrev pub table : List Claim → Table
-table claims = record { number = 7; measure = 1; d = 1; capacity = 1024; claims = claims }
+table claims = record { number = 7; measure = 1; d = 1; capacity = officeClaims; claims = claims }
 
 -- an item of the five, by its number, reference and distance
 abbrev pub item : ℕ → ℕ → ℕ → Item
@@ -86,4 +87,4 @@ pub record EndsMarked : Type 0 where
   pub small : takes 4 begun (replies five begun 4) ≡ refused 15
   pub over : takes 9 ended (replies five (fresh (query 5)) 2) ≡ refused 16
   -- "Whole output": the sample's ask line is answered by the sample's answer line
-  pub sample : office lines (table five) 573 sampleAsk ≡ gives sampleAnswer
+  pub sample : office lines (table five) longestAnswer sampleAsk ≡ gives sampleAnswer

@@ -9,10 +9,11 @@ use Rattle.paper.specs.declared.orders.Mark.{Mark}
 use Rattle.paper.specs.declared.orders.Order.{Order}
 use Rattle.paper.specs.declared.orders.Place.{Place}
 use Rattle.paper.specs.declared.orders.Place.the-variants.{Start, After}
-use Rattle.paper.specs.Points.{Claim}
+use Rattle.paper.specs.Points.{Claim, inRange}
 use Rattle.paper.specs.Orders.{Item, noItem, Query, earlier, follows, snapshotOf, snapshotHolds, following, pageOf, lastOf, markHolds}
-use Rattle.paper.specs.Tree.{Store, claimsIn, inRange}
+use Rattle.paper.specs.Tree.{Store, claimsIn}
 use Rattle.paper.specs.Outcomes.{Outcome, must, onto, gives}
+use Rattle.paper.specs.Limits.{longestAnswer, longestAsk, mostClaims, mostPage}
 
 -- ---- what the lines between the two ends say
 
@@ -92,7 +93,7 @@ served c t line = onto (c .readAsk line) (λ a. onto (answerTo t a) (λ y. gives
 
 -- 12: "output room under .. 573 characters (answer)". Between 12 and 9 a call on lent memory has its 1 and 2.
 abbrev pub answerRoom : ℕ → Bool
-answerRoom out = leb 573 out
+answerRoom out = leb longestAnswer out
 
 unfoldable pub office : Codec → Table → ℕ → List ℕ → Outcome (List ℕ)
 office c t out line = must (answerRoom out) 12 (served c t line)
@@ -161,7 +162,7 @@ unfoldable pub soundIn : ℕ → Listing → Bool
 soundIn room L =
     inRange (L .query .measure) (L .query .d)
     && (eqb (length (L .query .probe)) (L .query .d)
-    && (leb (L .snapshot) 4096
+    && (leb (L .snapshot) mostClaims
     && (leb (length (L .items)) room
     && (rising (L .query .order) (L .items)
     && (every (fitting (L .query .reach) (L .snapshot)) (L .items)
@@ -169,11 +170,11 @@ soundIn room L =
 
 -- 6: "page size out of range"; "a page size from 1 to 16"
 abbrev pub sizeHolds : ℕ → Bool
-sizeHolds size = leb 1 size && leb size 16
+sizeHolds size = leb 1 size && leb size mostPage
 
 -- 12: "output room under .. 123 (ask)"
 abbrev pub askRoom : ℕ → Bool
-askRoom out = leb 123 out
+askRoom out = leb longestAsk out
 
 -- "Writing an ask: 2, 16, 6, 12."
 unfoldable pub asking : Codec → ℕ → ℕ → ℕ → Listing → Outcome (List ℕ)

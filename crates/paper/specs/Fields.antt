@@ -9,14 +9,11 @@ use mir.Syntax.{w32}
 use mir.Val.{ofZ, toZ}
 use Rattle.paper.specs.Frames.{be, num}
 use Rattle.paper.specs.declared.lines.Scope.{Scope}
+use Rattle.paper.specs.Limits.{itemRoom, mostClaims, mostNumber, mostPlaces}
 
 -- "kind 1, table 4, measure 1, d 1"
 unfoldable pub head : ℕ → ℕ → ℕ → ℕ → List ℕ
 head k t m d = be 1 k ++ (be 4 t ++ (be 1 m ++ be 1 d))
-
--- "measure 1 to 3, d 1 to 8"
-unfoldable pub ranged : ℕ → ℕ → Bool
-ranged m d = leb 1 m && (leb m 3 && (leb 1 d && leb d 8))
 
 -- "probe 4d", "coordinates 4d"; "signed numbers are two's complement"
 unfoldable pub coordBytes : List ℤ → List ℕ
@@ -30,7 +27,7 @@ coordsIn (suc d) f = toZ w32 (num 4 f) ∷ coordsIn d (drop 4 f)
 
 -- "unused places 0": d coordinates in eight places
 unfoldable pub places : ℕ → List ℤ → List ℤ
-places d zs = zs ++ replicate (8 - d) (pos 0)
+places d zs = zs ++ replicate (mostPlaces - d) (pos 0)
 
 -- "reach 8, from 1, snapshot 2, mark distance 8, mark number 2"
 unfoldable pub scopeBytes : Scope → List ℕ
@@ -49,7 +46,7 @@ scopeIn f =
 unfoldable pub scopeOk : Scope → Bool
 scopeOk p =
     leb (p .from) 1
-    && (leb (p .snapshot) 4096 && (leb (p .number) 4095 && (eqb (p .from) 1 || (eqb (p .distance) 0 && eqb (p .number) 0))))
+    && (leb (p .snapshot) mostClaims && (leb (p .number) mostNumber && (eqb (p .from) 1 || (eqb (p .distance) 0 && eqb (p .number) 0))))
 
 -- "items of number 2, reference 4, distance 8"
 unfoldable pub item : ℕ → ℕ → ℕ → List ℕ
@@ -69,14 +66,14 @@ itemsIn (suc k) f = num 2 f ∷ num 4 (drop 2 f) ∷ num 8 (drop 6 f) ∷ itemsI
 
 -- "unused places 0": k items in room for sixteen
 unfoldable pub itemPlaces : ℕ → List ℕ → List ℕ
-itemPlaces k ns = ns ++ replicate (48 - 3 * k) 0
+itemPlaces k ns = ns ++ replicate (itemRoom - 3 * k) 0
 
 -- "numbers 0 to 4,095"
 unfoldable pub numbersOk : List ℕ → Bool
 numbersOk [] = true
 numbersOk (n ∷ []) = true
 numbersOk (n ∷ r ∷ []) = true
-numbersOk (n ∷ r ∷ x ∷ rest) = leb n 4095 && numbersOk rest
+numbersOk (n ∷ r ∷ x ∷ rest) = leb n mostNumber && numbersOk rest
 
 -- a reference is "any 32-bit unsigned number": a rule for writers only, which are handed more bits than the field has
 unfoldable pub referencesOk : List ℕ → Bool

@@ -4,6 +4,7 @@ use mathlib.Core.Bool.{Bool, false, cond, _&&_}
 use mathlib.Core.List.{List, [], _∷_, _++_}
 use lib.ListN.{length, getD, drop}
 use lib.Dec.{ltb, leb, eqb}
+use Rattle.paper.specs.Limits.{longestAnswer}
 
 -- "most significant byte first": the number n in w bytes
 unfoldable pub be : ℕ → ℕ → List ℕ
@@ -46,7 +47,7 @@ ended (a ∷ b ∷ l) = ltb (digit a) 16 && (ltb (digit b) 16 && ended l)
 
 -- 9 is given exactly when this is false: "line not an even, nonzero run of the sixteen digits and a final 0A, or over 573 characters"
 unfoldable pub sound : List ℕ → Bool
-sound l = ltb 1 (length l) && (leb (length l) 573 && ended l)
+sound l = ltb 1 (length l) && (leb (length l) longestAnswer && ended l)
 
 -- "A writer fills the front of its output room .. and keeps the bytes behind": the room o with the line of the frame f in it
 unfoldable pub written : List ℕ → List ℕ → List ℕ

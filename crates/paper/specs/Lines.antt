@@ -7,8 +7,9 @@ use mathlib.Core.List.{List, _++_}
 use lib.ListN.{length, drop, replicate}
 use lib.Dec.{leb, eqb}
 use lib.IntN.{ℤ, pos}
+use Rattle.paper.specs.Points.{inRange}
 use Rattle.paper.specs.Frames.{be, num, lineOf, frameOf, sound, written}
-use Rattle.paper.specs.Fields.{head, ranged, coordBytes, coordsIn, places, front, scopeIn, scopeOk, itemBytes, itemsIn, itemPlaces, numbersOk, referencesOk}
+use Rattle.paper.specs.Fields.{head, coordBytes, coordsIn, places, front, scopeIn, scopeOk, itemBytes, itemsIn, itemPlaces, numbersOk, referencesOk}
 use Rattle.paper.specs.declared.lines.Scope.{Scope}
 use Rattle.paper.specs.declared.lines.Ask.{Ask}
 use Rattle.paper.specs.declared.lines.Answer.{Answer}
@@ -18,6 +19,7 @@ use Rattle.paper.specs.declared.lines.AnswerRead.{AnswerRead}
 use Rattle.paper.specs.declared.lines.ClaimRead.{ClaimRead}
 use Rattle.paper.specs.declared.lines.Wrote.{Wrote}
 use Rattle.paper.specs.declared.lines.Wrote.the-variants.{Line, Refused}
+use Rattle.paper.specs.Limits.{itemRoom, mostPage, mostPlaces}
 
 -- ---- writing and reading, whatever the kind
 
@@ -40,7 +42,7 @@ reading ok value none l = cond (sound l) (cond (ok (frameOf l)) (value (frameOf 
 
 -- a frame that begins with a head of kind k, in range
 unfoldable pub headOk : ℕ → List ℕ → Bool
-headOk k f = eqb (num 1 f) k && ranged (num 1 (drop 5 f)) (num 1 (drop 6 f))
+headOk k f = eqb (num 1 f) k && inRange (num 1 (drop 5 f)) (num 1 (drop 6 f))
 
 -- the frame behind its probe, where the reach stands
 unfoldable pub behind : List ℕ → List ℕ
@@ -58,11 +60,11 @@ askFrame k t m d cs p s = front k t m d cs p ++ be 1 s
 
 -- "page size 1 to 16"; with from 0 "in an ask the snapshot is 0 too"
 unfoldable pub askRanges : Scope → ℕ → Bool
-askRanges p s = scopeOk p && ((eqb (p .from) 1 || eqb (p .snapshot) 0) && (leb 1 s && leb s 16))
+askRanges p s = scopeOk p && ((eqb (p .from) 1 || eqb (p .snapshot) 0) && (leb 1 s && leb s mostPage))
 
 -- "a field outside its range or zero rule; in a bare writer also probe .. not as many as the fields say"
 unfoldable pub askFits : ℕ → ℕ → List ℤ → Scope → ℕ → Bool
-askFits m d cs p s = ranged m d && (eqb (length cs) d && askRanges p s)
+askFits m d cs p s = inRange m d && (eqb (length cs) d && askRanges p s)
 
 -- "kind not the expected one, length wrong, or a field outside its range or zero rule"; "An ask has 29+4d bytes"
 unfoldable pub askOk : ℕ → List ℕ → Bool
@@ -85,7 +87,7 @@ anAsk a = record { refusal = 0; ask = a }
 
 unfoldable pub noAsk : ℕ → AskRead
 noAsk n =
-    record { refusal = n; ask = record { table = 0; measure = 0; d = 0; probe = replicate 8 (pos 0); scope = noScope; size = 0 } }
+    record { refusal = n; ask = record { table = 0; measure = 0; d = 0; probe = replicate mostPlaces (pos 0); scope = noScope; size = 0 } }
 
 -- what reading a line as an ask of kind k gives
 unfoldable pub askOf : ℕ → List ℕ → AskRead
@@ -99,12 +101,12 @@ answerFrame k t m d cs p last n ns = front k t m d cs p ++ (be 1 last ++ (be 1 n
 
 -- "last 0 or 1, item count 0 to 16"
 unfoldable pub answerRanges : Scope → ℕ → ℕ → Bool
-answerRanges p last n = scopeOk p && (leb last 1 && leb n 16)
+answerRanges p last n = scopeOk p && (leb last 1 && leb n mostPage)
 
 -- "in a bare writer also probe .. or items not as many as the fields say"
 unfoldable pub answerFits : ℕ → ℕ → List ℤ → Scope → ℕ → ℕ → List ℕ → Bool
 answerFits m d cs p last n ns =
-    ranged m d
+    inRange m d
     && (eqb (length cs) d && (answerRanges p last n && (eqb (length ns) (3 * n) && (referencesOk ns && numbersOk ns))))
 
 -- the item count of an answer's frame
@@ -142,11 +144,11 @@ noAnswer n =
         table = 0;
         measure = 0;
         d = 0;
-        probe = replicate 8 (pos 0);
+        probe = replicate mostPlaces (pos 0);
         scope = noScope;
         last = 0;
         count = 0;
-        items = replicate 48 0;
+        items = replicate itemRoom 0;
       };
     }
 
@@ -162,7 +164,7 @@ claimFrame t m d r cs = head 3 t m d ++ (be 4 r ++ coordBytes cs)
 
 -- "in a bare writer also .. coordinates .. not as many as the fields say"
 unfoldable pub claimFits : ℕ → ℕ → List ℤ → Bool
-claimFits m d cs = ranged m d && eqb (length cs) d
+claimFits m d cs = inRange m d && eqb (length cs) d
 
 -- "a claim 11+4d"
 unfoldable pub claimOk : List ℕ → Bool
@@ -183,7 +185,7 @@ aClaim c = record { refusal = 0; claim = c }
 
 unfoldable pub noClaim : ℕ → ClaimRead
 noClaim n =
-    record { refusal = n; claim = record { table = 0; measure = 0; d = 0; reference = 0; coordinates = replicate 8 (pos 0) } }
+    record { refusal = n; claim = record { table = 0; measure = 0; d = 0; reference = 0; coordinates = replicate mostPlaces (pos 0) } }
 
 -- what reading a line as a claim gives
 unfoldable pub claimOf : List ℕ → ClaimRead

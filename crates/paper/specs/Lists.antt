@@ -10,6 +10,7 @@ use Rattle.paper.specs.declared.orders.Order.{Order}
 use Rattle.paper.specs.Orders.{Item, Query, fronted}
 use Rattle.paper.specs.Outcomes.{Outcome, refused, gives, must, onto}
 use Rattle.paper.specs.Ends.{Codec, Listing, opening, every, sameZ, soundIn, asking, taking}
+use Rattle.paper.specs.Limits.{mostPlaces}
 
 pub record Held : Type 0 where
   pub list : lists.List
@@ -65,7 +66,7 @@ openedAs q =
       table = q .table;
       measure = q .measure;
       d = q .d;
-      probe = q .probe ++ replicate (8 - q .d) (pos 0);
+      probe = q .probe ++ replicate (mostPlaces - q .d) (pos 0);
       reach = q .reach;
       started = false;
       snapshot = 0;
@@ -83,7 +84,7 @@ noList =
       table = 0;
       measure = 0;
       d = 0;
-      probe = replicate 8 (pos 0);
+      probe = replicate mostPlaces (pos 0);
       reach = 0;
       started = false;
       snapshot = 0;

@@ -1,12 +1,13 @@
 -- Document 01, "Points and measures". Definitions only.
-use Prim.Native.Nat.{ℕ, zero, suc, _+_, _*_, min, max}
-use mathlib.Core.Bool.{cond}
+use Prim.Native.Nat.{ℕ, zero, suc, _+_, _*_, _≤_, min, max}
+use mathlib.Core.Bool.{Bool, cond, _&&_}
 use mathlib.Core.List.{List}
-use lib.Dec.{eqb}
+use lib.Dec.{leb, eqb}
 use lib.IntN.{ℤ, pos, _-ℤ_, natAbs}
 use lib.ListN.{getD, take, drop}
 use Rattle.paper.specs.declared.points.Measure.{Measure}
 use Rattle.paper.specs.declared.points.Measure.the-variants.{CityBlock, Maximum, Hamming}
+use Rattle.paper.specs.Limits.{mostPlaces, firstMeasure, lastMeasure}
 
 -- "Measure 1, city block"; "Measure 2, maximum"; "Measure 3, Hamming"
 unfoldable pub measureOf : ℕ → Measure
@@ -34,6 +35,17 @@ unfoldable pub greatestOf : Measure → ℕ → ℕ
 greatestOf CityBlock d = d * 4294967295
 greatestOf Maximum d = 4294967295
 greatestOf Hamming d = d
+
+-- "measure 1 to 3, d 1 to 8": in tables, lists and lines alike
+unfoldable pub inRange : ℕ → ℕ → Bool
+inRange measure d = (leb firstMeasure measure && leb measure lastMeasure) && (leb 1 d && leb d mostPlaces)
+
+-- the same as facts
+pub record InRange (measure d : ℕ) : Type 0 where
+  pub first : firstMeasure ≤ measure
+  pub last : measure ≤ lastMeasure
+  pub wide : 1 ≤ d
+  pub narrow : d ≤ mostPlaces
 
 -- "A claim has a number (0 for the first entered, then rising by one), a reference (..) and d coordinates"; its number is its place in a list of claims
 pub record Claim : Type 0 where

@@ -12,6 +12,7 @@ use Rattle.paper.specs.Frames.{frameOf, sound}
 use Rattle.paper.specs.Lines.{askOk, askAt, claimOk, claimAt}
 use Rattle.paper.specs.Ends.{Table, count, Ask, answerTo}
 use Rattle.paper.specs.Codec.{asked, answerLine}
+use Rattle.paper.specs.Limits.{officeClaims}
 
 -- ---- one line
 
@@ -22,7 +23,7 @@ pub data Books : Type 0 where
 
 -- "capacity 1,024. The first well-formed claim line sets table number, measure and d"
 unfoldable pub tableFor : Books → ClaimLine → Table
-tableFor closed c = record { number = c .table; measure = c .measure; d = c .d; capacity = 1024; claims = [] }
+tableFor closed c = record { number = c .table; measure = c .measure; d = c .d; capacity = officeClaims; claims = [] }
 tableFor (opened t) c = t
 
 -- 11: "table number, measure or d not this table's"

@@ -5,8 +5,10 @@ use mathlib.Core.List.{List, [], _∷_, _++_}
 use lib.Dec.{leb, eqb}
 use lib.IntN.{ℤ}
 use lib.ListN.{length, getD, set, drop, replicate}
+use denote.Ref.{RefT, now}
 use Rattle.paper.specs.declared.tables.Table.{Table}
-use Rattle.paper.specs.Points.{measureOf, distance, Claim, point}
+use Rattle.paper.specs.Points.{measureOf, distance, inRange, Claim, point}
+use Rattle.paper.specs.Limits.{mostClaims}
 
 -- "A node has a left claim, perhaps a right one, and on each side a far distance and perhaps a node below": six numbers a room.
 -- Side 0 is the left one, side 1 the right one. Of side s: its claim's number plus one in field s, its far distance in
@@ -76,6 +78,10 @@ pub record Store : Type 0 where
 abbrev pub store : Table → List ℕ → List ℤ → List ℕ → Store
 store t references coordinates rooms = record { table = t; references = references; coordinates = coordinates; rooms = rooms }
 
+-- the same for the memory that a call is lent, as the references to it find it
+abbrev pub lent : Table → RefT (List ℕ) → RefT (List ℤ) → RefT (List ℕ) → Store
+lent t references coordinates rooms = store t (now references) (now coordinates) (now rooms)
+
 -- how far claims j and k are apart, by measure and d, where the coordinates stand one after another
 unfoldable pub apart : ℕ → ℕ → List ℤ → ℕ → ℕ → ℕ
 apart measure d coordinates j k = distance (measureOf measure) d (drop (j * d) coordinates) (drop (k * d) coordinates)
@@ -94,13 +100,10 @@ abbrev pub claimsIn : Store → List Claim
 claimsIn s = claimsFrom (s .table .d) (s .table .count) (s .references) (s .coordinates)
 
 -- 1: "measure, d or capacity out of range, or lent memory smaller than these need"
-unfoldable pub inRange : ℕ → ℕ → Bool
-inRange measure d = (leb 1 measure && leb measure 3) && (leb 1 d && leb d 8)
-
 unfoldable pub fits : Store → Bool
 fits s =
     inRange (s .table .measure) (s .table .d)
-    && ((leb 1 (s .table .capacity) && leb (s .table .capacity) 4096)
+    && ((leb 1 (s .table .capacity) && leb (s .table .capacity) mostClaims)
     && (leb (s .table .capacity) (length (s .references))
     && (leb (s .table .capacity * s .table .d) (length (s .coordinates))
     && leb (s .table .capacity * 6) (length (s .rooms)))))

@@ -1,4 +1,7 @@
 // The three kinds of line as values: what readers give, and what writers answer.
+use crate::limits::ITEM_ROOM;
+use crate::limits::MOST_CLAIMS;
+use crate::limits::MOST_PLACES;
 
 // What an ask and an answer have behind the probe: distance and number are the mark.
 #[repr(C)]
@@ -10,12 +13,19 @@ pub struct Scope {
     pub number: u16,
 }
 
+impl Scope {
+    // The largest snapshot and number, at the widths of these fields.
+    pub const MOST_SNAPSHOT: u16 = MOST_CLAIMS as u16;
+
+    pub const MOST_NUMBER: u16 = MOST_CLAIMS as u16 - 1;
+}
+
 #[repr(C)]
 pub struct Ask {
     pub table: u32,
     pub measure: u8,
     pub d: u8,
-    pub probe: [i32; 8],
+    pub probe: [i32; MOST_PLACES],
     pub scope: Scope,
     pub size: u8,
 }
@@ -26,11 +36,11 @@ pub struct Answer {
     pub table: u32,
     pub measure: u8,
     pub d: u8,
-    pub probe: [i32; 8],
+    pub probe: [i32; MOST_PLACES],
     pub scope: Scope,
     pub last: u8,
     pub count: u8,
-    pub items: [u64; 48],
+    pub items: [u64; ITEM_ROOM],
 }
 
 #[repr(C)]
@@ -39,7 +49,7 @@ pub struct ClaimLine {
     pub measure: u8,
     pub d: u8,
     pub reference: u32,
-    pub coordinates: [i32; 8],
+    pub coordinates: [i32; MOST_PLACES],
 }
 
 // What a reader gives: refusal 0 beside the fields, or 9 or 10 beside zeros.

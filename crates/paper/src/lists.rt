@@ -1,16 +1,24 @@
 // Document 01, "The two ends": a tablet's list. Its items lie in memory that the caller lends, three numbers for each.
+use crate::limits::MOST_CLAIMS;
+use crate::limits::MOST_PLACES;
+
 pub struct List {
     pub table: u32,
     pub measure: u8,
     pub d: usize,
     // Unused places are 0.
-    pub probe: [i32; 8],
+    pub probe: [i32; MOST_PLACES],
     pub reach: u64,
     pub started: bool,
     pub snapshot: u64,
     // Items held.
     pub count: usize,
     pub complete: bool,
+}
+
+impl List {
+    // The largest snapshot, at the width of that field.
+    pub const MOST_SNAPSHOT: u64 = MOST_CLAIMS as u64;
 }
 
 // What taking a line gives: the refusal's number, or 0, beside the list as it then stands.

@@ -1,7 +1,9 @@
 // Document 01, "Points and measures".
 ghost use mathlib.Core.Path.{_≡_};
 ghost use Prim.Native.Nat.{_≤_};
-ghost use Rattle.paper.specs.Points.{measureOf, greatestOf};
+ghost use Rattle.paper.specs.Points.{measureOf, greatestOf, inRange};
+ghost use Rattle.paper.specs.Limits.{mostPlaces};
+use crate::limits::MOST_PLACES;
 
 pub enum Measure {
     CityBlock,
@@ -33,7 +35,7 @@ impl Measure {
 
     // The largest distance between two points of d coordinates.
     pub fn greatest(self, d: u64) -> u64
-        requires { ⌜ d ≤ 8 ⌝ }
+        requires { ⌜ d ≤ mostPlaces ⌝ }
         ensures { λ r. ⌜ r ≡ greatestOf self d ⌝ }
     {
         match self {
@@ -42,4 +44,20 @@ impl Measure {
             Measure::Hamming => d,
         }
     }
+}
+
+// Whether there is such a measure, and d is in range: the first part of refusal 1 for tables and lists, and of 10 for lines.
+pub fn in_range(measure: u8, d: usize) -> bool
+    ensures { λ r. ⌜ r ≡ inRange measure d ⌝ }
+{
+    if measure < Measure::FIRST {
+        return false;
+    }
+    if Measure::LAST < measure {
+        return false;
+    }
+    if d < 1 {
+        return false;
+    }
+    d <= MOST_PLACES
 }

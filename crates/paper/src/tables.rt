@@ -1,7 +1,4 @@
 // Document 01, "Building the tree": the header of a table. Its claims and rooms lie in memory that the caller lends.
-ghost use mathlib.Core.Path.{_≡_};
-ghost use Rattle.paper.specs.Tree.{inRange};
-use crate::points::Measure;
 
 #[repr(C)]
 pub struct Table {
@@ -24,20 +21,4 @@ pub enum Made {
 pub enum Entered {
     Table(Table),
     Refused(u8),
-}
-
-// Whether there is such a measure, and d is 1 to 8: the first part of refusal 1, for tables and for lists.
-pub fn in_range(measure: u8, d: usize) -> bool
-    ensures { λ r. ⌜ r ≡ inRange measure d ⌝ }
-{
-    if measure < Measure::FIRST {
-        return false;
-    }
-    if Measure::LAST < measure {
-        return false;
-    }
-    if d < 1 {
-        return false;
-    }
-    d <= 8
 }

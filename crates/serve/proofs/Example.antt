@@ -2,11 +2,11 @@
 use Prim.Native.Nat.{ℕ}
 use mathlib.Core.Path.{_≡_, refl}
 use mathlib.Core.List.{List, [], _∷_, _++_}
-use Rattle.paper.specs.Points.{measureOf, weigh, joined, distance}
+use Rattle.paper.specs.Points.{measureOf, weigh, joined, distance, inRange}
 use Rattle.paper.specs.Orders.{rank, before, insert, itemOf, listed, follows, rest, snapshotHolds, following, pageOf, lastOf, markHolds, flat}
 use Rattle.paper.specs.Frames.{be, num, glyph, digit, hexes, lineOf, frameOf, sound}
 use Rattle.paper.specs.Frames as Frames
-use Rattle.paper.specs.Fields.{head, ranged, coordBytes, coordsIn, places, scopeBytes, front, scopeIn, scopeOk, item, itemBytes}
+use Rattle.paper.specs.Fields.{head, coordBytes, coordsIn, places, scopeBytes, front, scopeIn, scopeOk, item, itemBytes}
 use Rattle.paper.specs.Lines.{headOk, behind, askRanges, askOk, askAt, answerFrame, claimOk, claimAt}
 use Rattle.paper.specs.Ends.{matches, answerOf, answerTo}
 use Rattle.paper.specs.Codec.{placeIn, scopeOf, asked, answerLine}
@@ -52,5 +52,5 @@ answer =
     48 ∷ 48 ∷ 48 ∷ 48 ∷ 48 ∷ 48 ∷ 48 ∷ 48 ∷ 48 ∷ 48 ∷ 48 ∷ 48 ∷ 48 ∷ 48 ∷ 48 ∷ 49 ∷ 10 ∷ []
 
 pub example : program (claim2 ++ (claim3 ++ (claim9 ++ (claim6 ++ (claim5 ++ ask))))) ≡ answer
-unfolding program start over fed byte ended lineTurn frameTurn askTurn claimTurn reply replyTo entering withClaim claimIn ours tableFor answerLine asked scopeOf placeIn answerTo answerOf matches claimAt claimOk answerFrame askAt askOk askRanges behind headOk itemBytes item scopeOk scopeIn front scopeBytes places coordsIn coordBytes ranged head sound frameOf lineOf hexes digit glyph num be Frames.ended flat markHolds lastOf pageOf following snapshotHolds rest follows listed itemOf insert before rank distance joined weigh measureOf
+unfolding program start over fed byte ended lineTurn frameTurn askTurn claimTurn reply replyTo entering withClaim claimIn ours tableFor answerLine asked scopeOf placeIn answerTo answerOf matches claimAt claimOk answerFrame askAt askOk askRanges behind headOk itemBytes item scopeOk scopeIn front scopeBytes places coordsIn coordBytes inRange head sound frameOf lineOf hexes digit glyph num be Frames.ended flat markHolds lastOf pageOf following snapshotHolds rest follows listed itemOf insert before rank distance joined weigh measureOf
 example = refl

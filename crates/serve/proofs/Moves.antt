@@ -19,6 +19,7 @@ use Rattle.serve.specs.declared.feeding.Sitting.{Sitting}
 use Rattle.serve.specs.Serving.{booksOf, Served}
 use Rattle.serve.specs.Feeding.{Stands, Set, Turning, Moved, Ended}
 use Rattle.serve.proofs.Written.{wrote-none, wrote-more}
+use Rattle.paper.specs.Limits.{longestAnswer}
 
 -- ---- reading on
 
@@ -47,10 +48,10 @@ rest-none (x ∷ xs) h = go (eqb x 10) (rest-none xs) h
     go false deep e = deep e
 
 -- what the cut left, where it was asked at the sitting d
-module _ (d : Sitting) (s : Store) (l l' chunk : List ℕ) (p : Piece) (len : length l ≡ 573)
+module _ (d : Sitting) (s : Store) (l l' chunk : List ℕ) (p : Piece) (len : length l ≡ longestAnswer)
     (ens : taken l' p ≡ cutOf (length l) l (d .size) (d .at) (drop (d .at) chunk)) where
-  meant : (h : List ℕ) → Kept 573 l (d .size) h → Meant 573 chunk h (d .at) (drop (d .at) chunk) (taken l' p)
-  meant h k = rw (ens, len) (cut-means 573 chunk (drop (d .at) chunk) l (d .size) (d .at) h refl k)
+  meant : (h : List ℕ) → Kept longestAnswer l (d .size) h → Meant longestAnswer chunk h (d .at) (drop (d .at) chunk) (taken l' p)
+  meant h k = rw (ens, len) (cut-means longestAnswer chunk (drop (d .at) chunk) l (d .size) (d .at) h refl k)
 
   pub turn-on : d .at < length chunk → d .at < p .at
   turn-on h =
@@ -76,7 +77,7 @@ module _ (d : Sitting) (s : Store) (l l' chunk : List ℕ) (p : Piece) (len : le
       }
 
   pub moved-line : (o : Office) → 0 < d .left → p .whole ≡ true → (out out' : List ℕ) (s' : Store) (e : ℕ)
-      → ((h : List ℕ) → Kept 573 l' (p .size) h → Served (lineTurn (booksOf s) h) s' out (d .written) out' e) → length l' ≡ 573 → Stands s l d o
+      → ((h : List ℕ) → Kept longestAnswer l' (p .size) h → Served (lineTurn (booksOf s) h) s' out (d .written) out' e) → length l' ≡ longestAnswer → Stands s l d o
       → Moved o chunk d out s' l' (record { table = s' .table; size = 0; left = d .left - 1; at = p .at; written = e }) out'
   unfolding ended
   moved-line o h w out out' s' e serves len' st =
@@ -192,7 +193,7 @@ module _ (s : Store) (l : List ℕ) (d : Sitting) (o : Office) (st : Stands s l 
   ended-size h = ended-none o out (d .written) (over-none o (no-bytes (o .held) (omega (arith, st .line .size))))
 
   pub ended-line : 1 ≤ d .left → 1 ≤ d .size → (s' : Store) (out' : List ℕ) (e : ℕ)
-      → ((h : List ℕ) → Kept 573 l (d .size) h → Served (lineTurn (booksOf s) h) s' out (d .written) out' e) → Ended o out (d .written) out' e
+      → ((h : List ℕ) → Kept longestAnswer l (d .size) h → Served (lineTurn (booksOf s) h) s' out (d .written) out' e) → Ended o out (d .written) out' e
   unfolding ended
   ended-line hl hs s' out' e serves =
       let v : Served (lineTurn (o .books) (o .held)) s' out (d .written) out' e = rw (st .books) at (serves (o .held) (st .line)) in

@@ -15,7 +15,7 @@ use Rattle.paper.specs.declared.lines.Wrote.{Wrote}
 use Rattle.paper.specs.declared.lines.Wrote.the-variants.{Line, Refused}
 use Rattle.paper.specs.declared.orders.Order.the-variants.{Near}
 use Rattle.paper.specs.declared.tables.Table.{Table}
-use Rattle.paper.specs.Points.{point}
+use Rattle.paper.specs.Points.{InRange, point}
 use Rattle.paper.specs.Orders.{snapshotHolds, markHolds}
 use Rattle.paper.specs.Tree.{Store, store, built, claimsFrom, claimsIn}
 use Rattle.paper.specs.Runs.{added}
@@ -28,13 +28,14 @@ use Rattle.paper.specs.Codec.{asked, answerLine, wroteOf, roomAfter}
 use Rattle.paper.specs.Program.{Books, closed, opened, tableFor, ours, claimIn, withClaim, entering, replyTo, reply, refusal, turn, claimTurn, askTurn, frameTurn, lineTurn}
 use Rattle.paper.proofs.Tests.{and-second}
 use Rattle.tree.specs.Rooms.{IsBuilt}
-use Rattle.tree.specs.Soundness.{InRange, Roomy}
+use Rattle.tree.specs.Soundness.{Roomy}
 use Rattle.tree.proofs.Adding.{point-length, good-end, added-good, added-claims, added-kept}
 use Rattle.tree.proofs.Places.{claims-length}
 use Rattle.lines.proofs.Tests.{is-claim}
 use Rattle.desk.specs.Desk.{Says}
 use Rattle.serve.specs.Serving.{Put, booksOf, headerFor, Ready, Served, ServedCut}
 use Rattle.serve.proofs.Written.{wrote-none, lent-length, lent-put, lent-same}
+use Rattle.paper.specs.Limits.{longestAnswer, officeClaims}
 
 -- ---- the books
 
@@ -147,7 +148,7 @@ header-some t c e = rw (ne-eqb (t .count) 0 e)
 abbrev pub headed : Store → Table → Store
 headed s h = store h (s .references) (s .coordinates) (s .rooms)
 
-header-table : (s : Store) (c : ClaimLine) → s .table .capacity ≡ 1024 → tableFor (booksOf s) c ≡ tableOf (headed s (headerFor (s .table) c))
+header-table : (s : Store) (c : ClaimLine) → s .table .capacity ≡ officeClaims → tableFor (booksOf s) c ≡ tableOf (headed s (headerFor (s .table) c))
 unfolding tableFor booksOf headerFor claimsFrom
 header-table s c cap = go (eqb (s .table .count) 0)
   where
@@ -279,9 +280,7 @@ module _ (s : Store) (c : ClaimLine) (r : Ready s) (i : InRange (c .measure) (c 
 
 pub claim-range : (f : List ℕ) → claimOk f ≡ true → InRange (claimAt f .measure) (claimAt f .d)
 unfolding claimAt
-claim-range f e =
-    let r = is-claim f e .headed .range in
-    record { first = r .m-low; last = r .m-high; wide = r .d-low; narrow = r .d-high }
+claim-range f e = is-claim f e .headed .range
 
 ask-books : (b : Books) (o : Outcome (List ℕ)) → b ≡ askTurn b o .books
 unfolding askTurn
@@ -321,15 +320,15 @@ module _ (s : Store) (line : List ℕ) (out : List ℕ) (at : ℕ) (l : List ℕ
 
 -- ---- the line that was cut
 
-sound-long : (h : List ℕ) → 573 < length h → sound h ≡ false
+sound-long : (h : List ℕ) → longestAnswer < length h → sound h ≡ false
 unfolding sound
-sound-long h o = rw (lt-leb (length h) 573 o) (go (leb 2 (length h)))
+sound-long h o = rw (lt-leb (length h) longestAnswer o) (go (leb 2 (length h)))
   where
     go : (b : Bool) → (b && false) ≡ false
     go true = refl
     go false = refl
 
-module _ (s : Store) (room : List ℕ) (size : ℕ) (long : length room ≡ 573) (out : List ℕ) (at : ℕ) (l : List ℕ) (e : ℕ) where
+module _ (s : Store) (room : List ℕ) (size : ℕ) (long : length room ≡ longestAnswer) (out : List ℕ) (at : ℕ) (l : List ℕ) (e : ℕ) where
   pub cut-long : Ready s → length room < size → Put (refusal 9) out at l e → ServedCut room size (booksOf s) s out at l e
   cut-long r o p =
       record { served = λ h k. line-9 s h out at l e r (sound-long h (omega (arith, k .size))) p; ready = r; short = p .short }

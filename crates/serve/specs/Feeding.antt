@@ -8,23 +8,24 @@ use Rattle.paper.specs.Program.{Office, fed, over}
 use Rattle.cut.specs.Cut.{Kept}
 use Rattle.serve.specs.declared.feeding.Sitting.{Sitting}
 use Rattle.serve.specs.Serving.{wrote, booksOf, Ready}
+use Rattle.paper.specs.Limits.{longestAnswer}
 
 -- the memory stands for the office o
 pub record Stands (s : Store) (l : List ℕ) (d : Sitting) (o : Office) : Type 0 where
   pub books : booksOf s ≡ o .books
-  pub line : Kept 573 l (d .size) (o .held)
+  pub line : Kept longestAnswer l (d .size) (o .held)
   pub left : d .left ≡ o .left
 
 -- what a turn needs of the memory
 pub record Set (s : Store) (l : List ℕ) : Type 0 where
   pub ready : Ready s
-  pub line : length l ≡ 573
+  pub line : length l ≡ longestAnswer
 
 -- and that there is a byte to read, a line left and room to write
 pub record Turning (d : Sitting) (chunk out : ℕ) : Type 0 where
   pub unread : d .at < chunk
   pub left : 0 < d .left
-  pub room : d .written + 573 ≤ out
+  pub room : d .written + longestAnswer ≤ out
 
 -- the office o, at the sitting d₀, read on in the chunk to where the sitting d is, and what it said is written
 pub record Moved (o : Office) (chunk : List ℕ) (d₀ : Sitting) (out₀ : List ℕ) (s : Store) (l : List ℕ) (d : Sitting) (b : List ℕ) : Type 0 where

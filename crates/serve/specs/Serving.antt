@@ -12,9 +12,11 @@ use Rattle.paper.specs.declared.tables.Table.{Table}
 use Rattle.paper.specs.Tree.{Store}
 use Rattle.paper.specs.Ends.{tableOf}
 use Rattle.paper.specs.Program.{Books, closed, opened, Turn, lineTurn}
-use Rattle.tree.specs.Soundness.{InRange, Good}
+use Rattle.paper.specs.Points.{InRange}
+use Rattle.tree.specs.Soundness.{Good}
 use Rattle.cut.specs.Cut.{Kept}
 use Rattle.desk.specs.Desk.{Given}
+use Rattle.paper.specs.Limits.{longestAnswer, officeClaims, officePlaces}
 
 -- the bytes bs written into out from i on
 unfoldable pub wrote : List ℕ → ℕ → List ℕ → List ℕ
@@ -40,13 +42,13 @@ headerFor t c =
 -- The office's memory: a sound table with capacity 1,024, and place for as many claims of eight coordinates.
 pub record Ready (s : Store) : Type 0 where
   pub good : Good s
-  pub capacity : s .table .capacity ≡ 1024
-  pub places : 8192 ≤ length (s .coordinates)
+  pub capacity : s .table .capacity ≡ officeClaims
+  pub places : officePlaces ≤ length (s .coordinates)
 
 -- with room in `out` for a line from `at` on
 pub record Serving (s : Store) (out at : ℕ) : Type 0 where
   pub ready : Ready s
-  pub room : at + 573 ≤ out
+  pub room : at + longestAnswer ≤ out
 
 -- a claim that a reader gives, and an ask
 pub record Claiming (s : Store) (c : ClaimLine) (out at : ℕ) : Type 0 where
@@ -65,6 +67,6 @@ pub record Served (a : Turn) (s : Store) (out₀ : List ℕ) (i : ℕ) (l : List
 
 -- the same of the line that was cut into a room: a size over the room's length stands for any longer line
 pub record ServedCut (room : List ℕ) (size : ℕ) (b : Books) (s : Store) (out₀ : List ℕ) (i : ℕ) (l : List ℕ) (e : ℕ) : Type 0 where
-  pub served : (h : List ℕ) → Kept 573 room size h → Served (lineTurn b h) s out₀ i l e
+  pub served : (h : List ℕ) → Kept longestAnswer room size h → Served (lineTurn b h) s out₀ i l e
   pub ready : Ready s
   pub short : e ≤ length out₀

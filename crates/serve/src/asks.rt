@@ -1,7 +1,7 @@
 // An ask line: its answer line, or a refusal.
 ghost use lib.ListN.{length};
 ghost use Rattle.paper.specs.declared.orders.Order.the-variants.{Near};
-ghost use Rattle.paper.specs.Tree.{store};
+ghost use Rattle.paper.specs.Tree.{lent};
 ghost use Rattle.paper.specs.Codec.{asked};
 ghost use Rattle.paper.specs.Program.{reply, askTurn};
 ghost use Rattle.serve.specs.Serving.{Put, booksOf, Asking};
@@ -19,8 +19,8 @@ pub fn take_ask(
     out: &mut [u8],
     at: usize,
 ) -> usize
-    requires { ⌜ Asking (store t (now references) (now coordinates) (now rooms)) ask (length (now out)) at ⌝ }
-    ensures { λ r. ⌜ Put (askTurn (booksOf (store t (now (references .entry)) (now (coordinates .entry)) (now (rooms .entry)))) (reply (booksOf (store t (now (references .entry)) (now (coordinates .entry)) (now (rooms .entry)))) (asked Near ask)) .said) (now (out .entry)) at (now (out .exit)) r ⌝ }
+    requires { ⌜ Asking (lent t references coordinates rooms) ask (length (now out)) at ⌝ }
+    ensures { λ r. ⌜ Put (askTurn (booksOf (lent t (references .entry) (coordinates .entry) (rooms .entry))) (reply (booksOf (lent t (references .entry) (coordinates .entry) (rooms .entry))) (asked Near ask)) .said) (now (out .entry)) at (now (out .exit)) r ⌝ }
 {
     if t.count == 0 {
         return refuse(out, at, 11);

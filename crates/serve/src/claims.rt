@@ -1,7 +1,7 @@
 // A claim line: entered silently, or refused.
 ghost use mathlib.Core.Path.{_≡_};
 ghost use lib.ListN.{length};
-ghost use Rattle.paper.specs.Tree.{store};
+ghost use Rattle.paper.specs.Tree.{lent};
 ghost use Rattle.paper.specs.Program.{tableFor, entering, claimTurn};
 ghost use Rattle.serve.specs.Serving.{booksOf, headerFor, Claiming, Served};
 use super::saying::refuse;
@@ -40,8 +40,8 @@ pub fn take_claim(
     out: &mut [u8],
     at: usize,
 ) -> Step
-    requires { ⌜ Claiming (store t (now references) (now coordinates) (now rooms)) c (length (now out)) at ⌝ }
-    ensures { λ r. ⌜ Served (claimTurn (booksOf (store t (now (references .entry)) (now (coordinates .entry)) (now (rooms .entry)))) (entering (tableFor (booksOf (store t (now (references .entry)) (now (coordinates .entry)) (now (rooms .entry)))) c) c)) (store (r .table) (now (references .exit)) (now (coordinates .exit)) (now (rooms .exit))) (now (out .entry)) at (now (out .exit)) (r .at) ⌝ }
+    requires { ⌜ Claiming (lent t references coordinates rooms) c (length (now out)) at ⌝ }
+    ensures { λ r. ⌜ Served (claimTurn (booksOf (lent t (references .entry) (coordinates .entry) (rooms .entry))) (entering (tableFor (booksOf (lent t (references .entry) (coordinates .entry) (rooms .entry))) c) c)) (lent (r .table) (references .exit) (coordinates .exit) (rooms .exit)) (now (out .entry)) at (now (out .exit)) (r .at) ⌝ }
 {
     let header = header_for(t, c);
     if !desk::is_ours(header, c.table, c.measure, c.d) {

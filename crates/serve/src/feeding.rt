@@ -3,10 +3,12 @@ ghost use mathlib.Core.Path.{_≡_};
 ghost use Prim.Native.Nat.{_+_, _<_, _≤_};
 ghost use mathlib.Core.Bool.{true};
 ghost use lib.ListN.{length};
-ghost use Rattle.paper.specs.Tree.{store};
+ghost use Rattle.paper.specs.Tree.{lent};
 ghost use Rattle.paper.specs.Program.{Office};
 ghost use Rattle.serve.specs.Feeding.{Stands, Set, Turning, Moved, Ended};
+ghost use Rattle.paper.specs.Limits.{longestAnswer};
 use super::heard::serve_cut;
+use paper::limits::LONGEST_ANSWER;
 use paper::tables::Table;
 
 // The office between two lines or within one: its table, the size of the line so far, how many lines it still reads,
@@ -29,9 +31,9 @@ fn turn(
     chunk: &[u8],
     out: &mut [u8],
 ) -> Sitting
-    requires { ⌜ Set (store (d .table) (now references) (now coordinates) (now rooms)) (now line) × Turning d (length (now chunk)) (length (now out)) ⌝ }
-    ensures moved { λ r. ⌜ ((o : Office) → Stands (store (d .table) (now (references .entry)) (now (coordinates .entry)) (now (rooms .entry))) (now (line .entry)) d o → Moved o (now (chunk .entry)) d (now (out .entry)) (store (r .table) (now (references .exit)) (now (coordinates .exit)) (now (rooms .exit))) (now (line .exit)) r (now (out .exit))) ⌝ }
-    ensures ready { λ r. ⌜ Set (store (r .table) (now (references .exit)) (now (coordinates .exit)) (now (rooms .exit))) (now (line .exit)) ⌝ }
+    requires { ⌜ Set (lent (d .table) references coordinates rooms) (now line) × Turning d (length (now chunk)) (length (now out)) ⌝ }
+    ensures moved { λ r. ⌜ ((o : Office) → Stands (lent (d .table) (references .entry) (coordinates .entry) (rooms .entry)) (now (line .entry)) d o → Moved o (now (chunk .entry)) d (now (out .entry)) (lent (r .table) (references .exit) (coordinates .exit) (rooms .exit)) (now (line .exit)) r (now (out .exit))) ⌝ }
+    ensures ready { λ r. ⌜ Set (lent (r .table) (references .exit) (coordinates .exit) (rooms .exit)) (now (line .exit)) ⌝ }
     ensures on { λ r. ⌜ (d .at < r .at) × (r .written ≤ length (now (out .entry))) ⌝ }
 {
     let t = d.table;
@@ -69,10 +71,10 @@ fn goes_on(d: Sitting, chunk: usize, out: usize) -> bool
     if d.left < 1 {
         return false;
     }
-    if out < 573 {
+    if out < LONGEST_ANSWER {
         return false;
     }
-    d.written <= out - 573
+    d.written <= out - LONGEST_ANSWER
 }
 
 // Reads on while there is room to write: to the end of the chunk, or of what may be read.
@@ -85,9 +87,9 @@ pub fn feed(
     chunk: &[u8],
     out: &mut [u8],
 ) -> Sitting
-    requires { ⌜ Set (store (d .table) (now references) (now coordinates) (now rooms)) (now line) × (d .written ≤ length (now out)) ⌝ }
-    ensures moved { λ r. ⌜ ((o : Office) → Stands (store (d .table) (now (references .entry)) (now (coordinates .entry)) (now (rooms .entry))) (now (line .entry)) d o → Moved o (now (chunk .entry)) d (now (out .entry)) (store (r .table) (now (references .exit)) (now (coordinates .exit)) (now (rooms .exit))) (now (line .exit)) r (now (out .exit))) ⌝ }
-    ensures ready { λ r. ⌜ Set (store (r .table) (now (references .exit)) (now (coordinates .exit)) (now (rooms .exit))) (now (line .exit)) ⌝ }
+    requires { ⌜ Set (lent (d .table) references coordinates rooms) (now line) × (d .written ≤ length (now out)) ⌝ }
+    ensures moved { λ r. ⌜ ((o : Office) → Stands (lent (d .table) (references .entry) (coordinates .entry) (rooms .entry)) (now (line .entry)) d o → Moved o (now (chunk .entry)) d (now (out .entry)) (lent (r .table) (references .exit) (coordinates .exit) (rooms .exit)) (now (line .exit)) r (now (out .exit))) ⌝ }
+    ensures ready { λ r. ⌜ Set (lent (r .table) (references .exit) (coordinates .exit) (rooms .exit)) (now (line .exit)) ⌝ }
     ensures on { λ r. ⌜ (Turning d (length (now (chunk .entry))) (length (now (out .entry))) → d .at < r .at) ⌝ }
     ensures short { λ r. ⌜ r .written ≤ length (now (out .entry)) ⌝ }
 {
@@ -107,8 +109,8 @@ pub fn finish(
     line: &[u8],
     out: &mut [u8],
 ) -> usize
-    requires { ⌜ Set (store (d .table) (now references) (now coordinates) (now rooms)) (now line) × (d .written + 573 ≤ length (now out)) ⌝ }
-    ensures done { λ r. ⌜ ((o : Office) → Stands (store (d .table) (now (references .entry)) (now (coordinates .entry)) (now (rooms .entry))) (now (line .entry)) d o → Ended o (now (out .entry)) (d .written) (now (out .exit)) r) ⌝ }
+    requires { ⌜ Set (lent (d .table) references coordinates rooms) (now line) × (d .written + longestAnswer ≤ length (now out)) ⌝ }
+    ensures done { λ r. ⌜ ((o : Office) → Stands (lent (d .table) (references .entry) (coordinates .entry) (rooms .entry)) (now (line .entry)) d o → Ended o (now (out .entry)) (d .written) (now (out .exit)) r) ⌝ }
     ensures short { λ r. ⌜ r ≤ length (now (out .entry)) ⌝ }
 {
     let t = d.table;

@@ -1,14 +1,16 @@
 // One line served, from its frame, from its bytes, and from the room that it was cut into.
 ghost use mathlib.Core.Path.{_≡_};
 ghost use lib.ListN.{length};
-ghost use Rattle.paper.specs.Tree.{store};
+ghost use Rattle.paper.specs.Tree.{lent};
 ghost use Rattle.paper.specs.Program.{frameTurn, lineTurn};
 ghost use Rattle.digits.specs.Places.{held};
 ghost use Rattle.serve.specs.Serving.{booksOf, Serving, Served, ServedCut};
+ghost use Rattle.paper.specs.Limits.{longestAnswer};
 use super::asks::take_ask;
 use super::claims::Step;
 use super::claims::take_claim;
 use super::saying::refuse;
+use paper::limits::LONGEST_FRAME;
 use paper::tables::Table;
 
 // Serves the line whose frame is `src`.
@@ -21,8 +23,8 @@ fn serve_frame(
     out: &mut [u8],
     at: usize,
 ) -> Step
-    requires { ⌜ Serving (store t (now references) (now coordinates) (now rooms)) (length (now out)) at ⌝ }
-    ensures { λ r. ⌜ Served (frameTurn (booksOf (store t (now (references .entry)) (now (coordinates .entry)) (now (rooms .entry)))) (held (now (src .entry)))) (store (r .table) (now (references .exit)) (now (coordinates .exit)) (now (rooms .exit))) (now (out .entry)) at (now (out .exit)) (r .at) ⌝ }
+    requires { ⌜ Serving (lent t references coordinates rooms) (length (now out)) at ⌝ }
+    ensures { λ r. ⌜ Served (frameTurn (booksOf (lent t (references .entry) (coordinates .entry) (rooms .entry))) (held (now (src .entry)))) (lent (r .table) (references .exit) (coordinates .exit) (rooms .exit)) (now (out .entry)) at (now (out .exit)) (r .at) ⌝ }
 {
     if lines::claim_ok(src) {
         let claim = lines::claim_at(src);
@@ -47,14 +49,14 @@ fn serve_line(
     out: &mut [u8],
     at: usize,
 ) -> Step
-    requires { ⌜ Serving (store t (now references) (now coordinates) (now rooms)) (length (now out)) at ⌝ }
-    ensures { λ r. ⌜ Served (lineTurn (booksOf (store t (now (references .entry)) (now (coordinates .entry)) (now (rooms .entry)))) (now (line .entry))) (store (r .table) (now (references .exit)) (now (coordinates .exit)) (now (rooms .exit))) (now (out .entry)) at (now (out .exit)) (r .at) ⌝ }
+    requires { ⌜ Serving (lent t references coordinates rooms) (length (now out)) at ⌝ }
+    ensures { λ r. ⌜ Served (lineTurn (booksOf (lent t (references .entry) (coordinates .entry) (rooms .entry))) (now (line .entry))) (lent (r .table) (references .exit) (coordinates .exit) (rooms .exit)) (now (out .entry)) at (now (out .exit)) (r .at) ⌝ }
 {
     if !digits::is_sound(line) {
         let end = refuse(out, at, 9);
         return Step { table: t, at: end };
     }
-    let mut frame = [0u8; 286];
+    let mut frame = [0u8; LONGEST_FRAME];
     let n = digits::unhex(line, &mut frame);
     serve_frame(t, references, coordinates, rooms, &frame[..n], out, at)
 }
@@ -70,8 +72,8 @@ pub fn serve_cut(
     out: &mut [u8],
     at: usize,
 ) -> Step
-    requires { ⌜ Serving (store t (now references) (now coordinates) (now rooms)) (length (now out)) at × (length (now line) ≡ 573) ⌝ }
-    ensures { λ r. ⌜ ServedCut (now (line .entry)) size (booksOf (store t (now (references .entry)) (now (coordinates .entry)) (now (rooms .entry)))) (store (r .table) (now (references .exit)) (now (coordinates .exit)) (now (rooms .exit))) (now (out .entry)) at (now (out .exit)) (r .at) ⌝ }
+    requires { ⌜ Serving (lent t references coordinates rooms) (length (now out)) at × (length (now line) ≡ longestAnswer) ⌝ }
+    ensures { λ r. ⌜ ServedCut (now (line .entry)) size (booksOf (lent t (references .entry) (coordinates .entry) (rooms .entry))) (lent (r .table) (references .exit) (coordinates .exit) (rooms .exit)) (now (out .entry)) at (now (out .exit)) (r .at) ⌝ }
 {
     if line.len() < size {
         let end = refuse(out, at, 9);

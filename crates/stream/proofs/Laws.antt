@@ -16,6 +16,7 @@ use Rattle.serve.specs.Serving.{booksOf, Ready}
 use Rattle.serve.specs.Feeding.{Set, Stands, Turning, Moved}
 use Rattle.serve.proofs.Moves.{fed-more, fed-stop}
 use Rattle.stream.specs.Stream.{anewOf, emptiedOf, opening, Reached, Roomy}
+use Rattle.paper.specs.Limits.{longestAnswer, officeClaims, officePlaces, officeRooms}
 
 -- ---- a chunk
 
@@ -55,7 +56,7 @@ pub stands-anew : (rf : List ℕ) (ps : List ℤ) (rs l : List ℕ) (d n : Sitti
     → Stands (store (d .table) rf ps rs) l d o → Stands (store (n .table) rf ps rs) l n o
 stands-anew rf ps rs l d n o e st = rw e (record { books = st .books; line = st .line; left = st .left })
 
-pub pump-turning : (d : Sitting) (chunk out : ℕ) → (d .at < chunk) × (0 < d .left) → d .written ≡ 0 → 573 ≤ out → Turning d chunk out
+pub pump-turning : (d : Sitting) (chunk out : ℕ) → (d .at < chunk) × (0 < d .left) → d .written ≡ 0 → longestAnswer ≤ out → Turning d chunk out
 pump-turning d chunk out h w r = record { unread = h .0; left = h .1; room = omega (arith, w) }
 
 -- the office went on by a turn
@@ -103,7 +104,7 @@ reading-done o chunk s l d r w =
 -- ---- the whole input
 
 -- the program starts with an empty table, whatever its memory holds
-opened-ready : (rf : List ℕ) (ps : List ℤ) (rs : List ℕ) → 1024 ≤ length rf → 8192 ≤ length ps → 6144 ≤ length rs → Ready (store (opening .table) rf ps rs)
+opened-ready : (rf : List ℕ) (ps : List ℤ) (rs : List ℕ) → officeClaims ≤ length rf → officePlaces ≤ length ps → officeRooms ≤ length rs → Ready (store (opening .table) rf ps rs)
 unfolding IsBuilt built
 opened-ready rf ps rs a b c =
     record {
@@ -156,6 +157,6 @@ pub reached-none : (o : Office) (s : Store) (l : List ℕ) (d : Sitting) → Sta
 unfolding fed
 reached-none o s l d st = record { bytes = []; stands = st }
 
-pub ready-anew : (rf : List ℕ) (ps : List ℤ) (rs l : List ℕ) (d n : Sitting) (out : ℕ) → n ≡ anewOf d → Set (store (d .table) rf ps rs) l → 573 ≤ out
-    → Set (store (n .table) rf ps rs) l × (n .written + 573 ≤ out)
+pub ready-anew : (rf : List ℕ) (ps : List ℤ) (rs l : List ℕ) (d n : Sitting) (out : ℕ) → n ≡ anewOf d → Set (store (d .table) rf ps rs) l → longestAnswer ≤ out
+    → Set (store (n .table) rf ps rs) l × (n .written + longestAnswer ≤ out)
 ready-anew rf ps rs l d n out e r h = rw e (r, h)

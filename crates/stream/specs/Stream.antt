@@ -6,6 +6,7 @@ use Rattle.paper.specs.Tree.{Store}
 use Rattle.paper.specs.Program.{Office, fed}
 use Rattle.serve.specs.declared.feeding.Sitting.{Sitting}
 use Rattle.serve.specs.Feeding.{Stands}
+use Rattle.paper.specs.Limits.{longestAnswer, officeClaims, officePlaces, officeRooms}
 
 abbrev pub anewOf : Sitting → Sitting
 anewOf d = record { table = d .table; size = d .size; left = d .left; at = 0; written = 0 }
@@ -17,7 +18,7 @@ emptiedOf d = record { table = d .table; size = d .size; left = d .left; at = d 
 abbrev pub opening : Sitting
 opening =
     record {
-      table = record { number = 0; measure = 1; d = 1; capacity = 1024; count = 0; used = 0 };
+      table = record { number = 0; measure = 1; d = 1; capacity = officeClaims; count = 0; used = 0 };
       size = 0;
       left = 4294967295;
       at = 0;
@@ -31,8 +32,8 @@ pub record Reached (o : Office) (s : Store) (l : List ℕ) (d : Sitting) : Type 
 
 -- the memory that the program has, and room for a line
 pub record Roomy (references coordinates rooms line out : ℕ) : Type 0 where
-  pub refs : 1024 ≤ references
-  pub places : 8192 ≤ coordinates
-  pub nodes : 6144 ≤ rooms
-  pub longest : line ≡ 573
-  pub space : 573 ≤ out
+  pub refs : officeClaims ≤ references
+  pub places : officePlaces ≤ coordinates
+  pub nodes : officeRooms ≤ rooms
+  pub longest : line ≡ longestAnswer
+  pub space : longestAnswer ≤ out

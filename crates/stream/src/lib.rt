@@ -2,6 +2,10 @@
 // chunks, and whatever was said is written before the next read, so that the office can be talked to through a pipe.
 use libc::STDIN_FILENO;
 use libc::STDOUT_FILENO;
+use paper::limits::LONGEST_ANSWER;
+use paper::limits::OFFICE_CLAIMS;
+use paper::limits::OFFICE_PLACES;
+use paper::limits::OFFICE_ROOMS;
 use paper::tables::Table;
 use serve::feeding::Sitting;
 use serve::feeding::feed;
@@ -11,10 +15,11 @@ ghost use Prim.Native.Nat.{_<_, _≤_};
 ghost use mathlib.Core.Bool.{true, false};
 ghost use mathlib.Core.Logic.{_⊎_};
 ghost use lib.ListN.{length};
-ghost use Rattle.paper.specs.Tree.{store};
+ghost use Rattle.paper.specs.Tree.{lent};
 ghost use Rattle.paper.specs.Program.{Office, fed};
 ghost use Rattle.serve.specs.Feeding.{Set, Stands};
 ghost use Rattle.stream.specs.Stream.{anewOf, emptiedOf, opening, Reached, Roomy};
+ghost use Rattle.paper.specs.Limits.{longestAnswer};
 
 // How a sitting stands at the start of a chunk.
 fn anew(d: Sitting) -> Sitting
@@ -66,9 +71,9 @@ fn pump(
     chunk: &[u8],
     out: &mut [u8],
 ) -> Sitting
-    requires { ⌜ Set (store (d .table) (now references) (now coordinates) (now rooms)) (now line) × (573 ≤ length (now out)) ⌝ }
-    ensures { λ r. ⌜ Set (store (r .table) (now (references .exit)) (now (coordinates .exit)) (now (rooms .exit))) (now (line .exit)) ⌝ }
-    ensures { λ r. ⌜ ((o : Office) → Stands (store (d .table) (now (references .entry)) (now (coordinates .entry)) (now (rooms .entry))) (now (line .entry)) d o → Stands (store (r .table) (now (references .exit)) (now (coordinates .exit)) (now (rooms .exit))) (now (line .exit)) r (fed o (now (chunk .entry)))) ⌝ }
+    requires { ⌜ Set (lent (d .table) references coordinates rooms) (now line) × (longestAnswer ≤ length (now out)) ⌝ }
+    ensures { λ r. ⌜ Set (lent (r .table) (references .exit) (coordinates .exit) (rooms .exit)) (now (line .exit)) ⌝ }
+    ensures { λ r. ⌜ ((o : Office) → Stands (lent (d .table) (references .entry) (coordinates .entry) (rooms .entry)) (now (line .entry)) d o → Stands (lent (r .table) (references .exit) (coordinates .exit) (rooms .exit)) (now (line .exit)) r (fed o (now (chunk .entry)))) ⌝ }
 {
     let mut n = anew(d);
     while unread(n, chunk.len()) {
@@ -95,9 +100,9 @@ fn once(
     chunk: &mut [u8],
     out: &mut [u8],
 ) -> Pause
-    requires { ⌜ Set (store (d .table) (now references) (now coordinates) (now rooms)) (now line) × (573 ≤ length (now out)) ⌝ }
-    ensures { λ r. ⌜ Set (store (r .sitting .table) (now (references .exit)) (now (coordinates .exit)) (now (rooms .exit))) (now (line .exit)) ⌝ }
-    ensures { λ r. ⌜ ((o : Office) → Stands (store (d .table) (now (references .entry)) (now (coordinates .entry)) (now (rooms .entry))) (now (line .entry)) d o → Reached o (store (r .sitting .table) (now (references .exit)) (now (coordinates .exit)) (now (rooms .exit))) (now (line .exit)) (r .sitting)) ⌝ }
+    requires { ⌜ Set (lent (d .table) references coordinates rooms) (now line) × (longestAnswer ≤ length (now out)) ⌝ }
+    ensures { λ r. ⌜ Set (lent (r .sitting .table) (references .exit) (coordinates .exit) (rooms .exit)) (now (line .exit)) ⌝ }
+    ensures { λ r. ⌜ ((o : Office) → Stands (lent (d .table) (references .entry) (coordinates .entry) (rooms .entry)) (now (line .entry)) d o → Reached o (lent (r .sitting .table) (references .exit) (coordinates .exit) (rooms .exit)) (now (line .exit)) (r .sitting)) ⌝ }
 {
     let got = libc::read(STDIN_FILENO, chunk);
     let n = io::count(got, chunk);
@@ -124,7 +129,7 @@ fn open_sitting() -> Sitting
             number: 0,
             measure: 1,
             d: 1,
-            capacity: 1024,
+            capacity: OFFICE_CLAIMS,
             count: 0,
             used: 0,
         },
@@ -172,10 +177,10 @@ fn run(
 
 // The program `office`, with memory of its own.
 pub fn office() {
-    let mut references = [0u32; 1024];
-    let mut coordinates = [0i32; 8192];
-    let mut rooms = [0u64; 6144];
-    let mut line = [0u8; 573];
+    let mut references = [0u32; OFFICE_CLAIMS];
+    let mut coordinates = [0i32; OFFICE_PLACES];
+    let mut rooms = [0u64; OFFICE_ROOMS];
+    let mut line = [0u8; LONGEST_ANSWER];
     let mut chunk = [0u8; 65536];
     let mut out = [0u8; 65536];
     run(

@@ -19,10 +19,10 @@ use Rattle.paper.specs.declared.orders.Order.the-variants.{Near}
 use Rattle.paper.specs.declared.orders.Place.{Place}
 use Rattle.paper.specs.Orders.{snapshotOf}
 use Rattle.paper.specs.Outcomes.{Outcome, refused, gives, must, onto, number}
-use Rattle.paper.specs.Tree.{inRange}
+use Rattle.paper.specs.Points.{inRange}
 use Rattle.paper.specs.Frames.{lineOf, frameOf, written}
 use Rattle.paper.specs.Frames as frames
-use Rattle.paper.specs.Fields.{ranged, scopeOk}
+use Rattle.paper.specs.Fields.{scopeOk}
 use Rattle.paper.specs.Lines.{wrote, room, Writes, reading, askFrame, askRanges, askFits, answerOk, answerAt, anAnswer, noAnswer, answerOf}
 use Rattle.paper.specs.Ends.{Listing, opening, presentPlace, presentAsk, soundIn, asking, taken, taking}
 use Rattle.paper.specs.Lists.{Held, held, listing, roomFor, unusedZero, soundHeld, noList, openedAs, openingHeld, openedTold, askingHeld, takingHeld}
@@ -31,9 +31,10 @@ use Rattle.paper.proofs.Tests.{and-first, and-second, and-both}
 use Rattle.paper.proofs.Reading.{answer-by-refusal}
 use Rattle.lines.proofs.Tests.{is-answer}
 use Rattle.tablet.specs.Holding.{Asks, asNear, TakenIs}
-use Rattle.tablet.proofs.ListLaws.{range-8}
+use Rattle.paper.proofs.Ranges.{range-is}
 use Rattle.paper.proofs.Outcomes.{must-stop, must-go}
 use Rattle.tablet.proofs.TakeLaws.{present-after, present-start}
+use Rattle.paper.specs.Limits.{longestAsk, mostClaims, mostNumber, mostPage}
 
 -- ---- taking a line
 
@@ -62,16 +63,16 @@ module _ (s : Held) (sound : soundHeld Near s ≡ true) where
     take-read h = reads ∙ ap (λ r. onto r (λ y. taken (roomFor s) (listing Near s) y)) (must-go (eqb (x .refusal) 0) (x .refusal) _ (eq-eqb (x .refusal) 0 h))
 
 -- what reads has at most sixteen items
-pub read-few : (line : List ℕ) (x : AnswerRead) → x ≡ answerOf 2 line → x .refusal ≡ 0 → x .answer .count ≤ 16
+pub read-few : (line : List ℕ) (x : AnswerRead) → x ≡ answerOf 2 line → x .refusal ≡ 0 → x .answer .count ≤ mostPage
 unfolding answerOf reading
 read-few line x xe h =
     few (go (frames.sound line) (answerOk 2 (frameOf line)) refl (sym (ap (λ (u : AnswerRead). u .refusal) xe) ∙ h)) (ap (λ (u : AnswerRead). u .answer .count) xe)
   where
-    few : {m n : ℕ} → n ≤ 16 → m ≡ n → m ≤ 16
+    few : {m n : ℕ} → n ≤ mostPage → m ≡ n → m ≤ mostPage
     few p q = omega arith
 
     go : (a b : Bool) → answerOk 2 (frameOf line) ≡ b → cond a (cond b (anAnswer (answerAt (frameOf line))) (noAnswer 10)) (noAnswer 9) .refusal ≡ 0
-        → cond a (cond b (anAnswer (answerAt (frameOf line))) (noAnswer 10)) (noAnswer 9) .answer .count ≤ 16
+        → cond a (cond b (anAnswer (answerAt (frameOf line))) (noAnswer 10)) (noAnswer 9) .answer .count ≤ mostPage
     go true true e z = unfold anAnswer in unfold answerAt in is-answer 2 (frameOf line) e .few
     go true false e z = absurd (let w : _≡_ {A = ℕ} 10 0 = unfold noAnswer in z in omega arith)
     go false b e z = absurd (let w : _≡_ {A = ℕ} 9 0 = unfold noAnswer in z in omega arith)
@@ -82,23 +83,17 @@ taken-same s r after e t = rw e t
 
 -- ---- writing an ask
 
-same-range : (m d : ℕ) → inRange m d ≡ true → ranged m d ≡ true
-unfolding inRange ranged
-same-range m d h =
-    let a = and-first (leb 1 m && leb m 3) (leb 1 d && leb d 8) h in
-    and-both (leb 1 m) _ (and-first (leb 1 m) (leb m 3) a) (and-both (leb m 3) _ (and-second (leb 1 m) (leb m 3) a) (and-second (leb 1 m && leb m 3) (leb 1 d && leb d 8) h))
-
 -- the scope of a present ask is in range
-after-fits : (reach snapshot x k size : ℕ) → snapshot ≤ 4096 → k < snapshot → 1 ≤ size → size ≤ 16
+after-fits : (reach snapshot x k size : ℕ) → snapshot ≤ mostClaims → k < snapshot → 1 ≤ size → size ≤ mostPage
     → askRanges (record { reach = reach; from = 1; snapshot = snapshot; distance = x; number = k }) size ≡ true
 unfolding askRanges scopeOk
-after-fits reach snapshot x k size h b s t = rw (le-leb snapshot 4096 h, le-leb k 4095 (omega arith), le-leb 1 size s, le-leb size 16 t)
+after-fits reach snapshot x k size h b s t = rw (le-leb snapshot mostClaims h, le-leb k mostNumber (omega arith), le-leb 1 size s, le-leb size mostPage t)
 
-start-fits : (reach size : ℕ) → 1 ≤ size → size ≤ 16 → askRanges (record { reach = reach; from = 0; snapshot = 0; distance = 0; number = 0 }) size ≡ true
+start-fits : (reach size : ℕ) → 1 ≤ size → size ≤ mostPage → askRanges (record { reach = reach; from = 0; snapshot = 0; distance = 0; number = 0 }) size ≡ true
 unfolding askRanges scopeOk
-start-fits reach size s t = rw (le-leb 1 size s, le-leb size 16 t)
+start-fits reach size s t = rw (le-leb 1 size s, le-leb size mostPage t)
 
-module _ (l : lists.List) (mem : List ℕ) (size : ℕ) (asks : Asks l mem) (one : 1 ≤ size) (most : size ≤ 16) where
+module _ (l : lists.List) (mem : List ℕ) (size : ℕ) (asks : Asks l mem) (one : 1 ≤ size) (most : size ≤ mostPage) where
   abbrev place : Place
   place = presentPlace (listing Near (held l mem))
 
@@ -113,29 +108,29 @@ module _ (l : lists.List) (mem : List ℕ) (size : ℕ) (asks : Asks l mem) (one
 
   -- what `put_ask` writes is the present ask
   module _ (eight : 7 < length (l .probe)) (probe : List ℤ) (pe : probe ≡ take (l .d) (l .probe)) (p : Scope)
-      (e : p ≡ scopeOf (l .reach) place (snapshotOf place 0)) (out : List ℕ) (long : 123 ≤ length out) where
+      (e : p ≡ scopeOf (l .reach) place (snapshotOf place 0)) (out : List ℕ) (long : longestAsk ≤ length out) where
     abbrev frame : List ℕ
     frame = askFrame 1 (l .table) (l .measure) (l .d) probe p size
 
     fits-all : askFits (l .measure) (l .d) probe p size ≡ true
     unfolding askFits
     fits-all =
-        and-both (ranged (l .measure) (l .d)) _ (same-range (l .measure) (l .d) (asks .range))
+        and-both (inRange (l .measure) (l .d)) _ (asks .range)
         (and-both (eqb (length probe) (l .d)) _
-        (eq-eqb _ _ (ap length pe ∙ length-take-le (l .d) (l .probe) (omega (arith, range-8 (l .measure) (l .d) (asks .range)))))
+        (eq-eqb _ _ (ap length pe ∙ length-take-le (l .d) (l .probe) (omega (arith, range-is (l .measure) (l .d) (asks .range) .narrow))))
         (scope-fits p e))
 
     line-is : lineOf frame ≡ askLine (presentAsk (listing Near (held l mem)) size)
     unfolding askLine listing
     line-is = rw (pe, e)
 
-    pub ask-written : (r : Wrote) (left : List ℕ) → Writes (askFits (l .measure) (l .d) probe p size) 123 frame out r left
+    pub ask-written : (r : Wrote) (left : List ℕ) → Writes (askFits (l .measure) (l .d) probe p size) longestAsk frame out r left
         → (r ≡ Line (length (askLine (presentAsk (listing Near (held l mem)) size))))
         × (left ≡ askLine (presentAsk (listing Near (held l mem)) size) ++ drop (length (askLine (presentAsk (listing Near (held l mem)) size))) out)
     unfolding wrote room written
     ask-written r left w = (
-      w .answer ∙ rw (fits-all, le-leb 123 (length out) long, line-is),
-      w .after ∙ rw (fits-all, le-leb 123 (length out) long, line-is),
+      w .answer ∙ rw (fits-all, le-leb longestAsk (length out) long, line-is),
+      w .after ∙ rw (fits-all, le-leb longestAsk (length out) long, line-is),
     )
 
 -- the order of refusals: 2, 16, 6, 12
@@ -150,7 +145,7 @@ module _ (l : lists.List) (mem : List ℕ) (size : ℕ) (out : List ℕ) (sound 
   abbrev Promised : Wrote → List ℕ → Type 0
   Promised r left = (r ≡ wroteOf ask) × (left ≡ roomAfter ask out)
 
-  past-2 : ask ≡ must (not (l .complete)) 16 (must (leb 1 size && leb size 16) 6 (must (leb 123 (length out)) 12 (gives (askLine (presentAsk L size)))))
+  past-2 : ask ≡ must (not (l .complete)) 16 (must (leb 1 size && leb size mostPage) 6 (must (leb longestAsk (length out)) 12 (gives (askLine (presentAsk L size)))))
   unfolding askingHeld asking listing
   past-2 =
       must-go (unusedZero (l .d) (l .probe)) 2 _ (held-go (held l mem) sound)
@@ -164,28 +159,28 @@ module _ (l : lists.List) (mem : List ℕ) (size : ℕ) (out : List ℕ) (sound 
   ask-16 h = told 16 (past-2 ∙ must-stop (not (l .complete)) 16 _ (ap not h))
 
   module _ (hc : l .complete ≡ false) where
-    past-16 : ask ≡ must (leb 1 size && leb size 16) 6 (must (leb 123 (length out)) 12 (gives (askLine (presentAsk L size))))
+    past-16 : ask ≡ must (leb 1 size && leb size mostPage) 6 (must (leb longestAsk (length out)) 12 (gives (askLine (presentAsk L size))))
     past-16 = past-2 ∙ must-go (not (l .complete)) 16 _ (ap not hc)
 
     pub ask-low : size < 1 → Promised (Refused 6) out
-    ask-low h = told 6 (past-16 ∙ must-stop (leb 1 size && leb size 16) 6 _ (rw (lt-leb 1 size h)))
+    ask-low h = told 6 (past-16 ∙ must-stop (leb 1 size && leb size mostPage) 6 _ (rw (lt-leb 1 size h)))
 
-    pub ask-high : 1 ≤ size → 16 < size → Promised (Refused 6) out
-    ask-high k h = told 6 (past-16 ∙ must-stop (leb 1 size && leb size 16) 6 _ (rw (le-leb 1 size k, lt-leb size 16 h)))
+    pub ask-high : 1 ≤ size → mostPage < size → Promised (Refused 6) out
+    ask-high k h = told 6 (past-16 ∙ must-stop (leb 1 size && leb size mostPage) 6 _ (rw (le-leb 1 size k, lt-leb size mostPage h)))
 
-    module _ (one : 1 ≤ size) (most : size ≤ 16) where
-      past-6 : ask ≡ must (leb 123 (length out)) 12 (gives (askLine (presentAsk L size)))
-      past-6 = past-16 ∙ must-go (leb 1 size && leb size 16) 6 _ (and-both (leb 1 size) _ (le-leb 1 size one) (le-leb size 16 most))
+    module _ (one : 1 ≤ size) (most : size ≤ mostPage) where
+      past-6 : ask ≡ must (leb longestAsk (length out)) 12 (gives (askLine (presentAsk L size)))
+      past-6 = past-16 ∙ must-go (leb 1 size && leb size mostPage) 6 _ (and-both (leb 1 size) _ (le-leb 1 size one) (le-leb size mostPage most))
 
-      pub ask-12 : length out < 123 → Promised (Refused 12) out
-      ask-12 h = told 12 (past-6 ∙ must-stop (leb 123 (length out)) 12 _ (lt-leb 123 (length out) h))
+      pub ask-12 : length out < longestAsk → Promised (Refused 12) out
+      ask-12 h = told 12 (past-6 ∙ must-stop (leb longestAsk (length out)) 12 _ (lt-leb longestAsk (length out) h))
 
-      pub ask-put : 123 ≤ length out → (r : Wrote) (left : List ℕ)
+      pub ask-put : longestAsk ≤ length out → (r : Wrote) (left : List ℕ)
           → (r ≡ Line (length (askLine (presentAsk L size)))) × (left ≡ askLine (presentAsk L size) ++ drop (length (askLine (presentAsk L size))) out)
           → Promised r left
       unfolding wroteOf roomAfter
       ask-put h r left w =
-          let e : ask ≡ gives (askLine (presentAsk L size)) = past-6 ∙ must-go (leb 123 (length out)) 12 _ (le-leb 123 (length out) h) in
+          let e : ask ≡ gives (askLine (presentAsk L size)) = past-6 ∙ must-go (leb longestAsk (length out)) 12 _ (le-leb longestAsk (length out) h) in
           (w .0 ∙ rw e, w .1 ∙ rw e)
 
 -- ---- opening
@@ -223,4 +218,4 @@ module _ (table measure d : ℕ) (probe : List ℤ) (reach : ℕ) (a : Bool) (ae
     open-list h places e = rw (← ae, not-false a ha, eq-eqb (length probe) d h, e, h)
 
     pub open-few : length probe ≡ d → length probe ≤ 8
-    open-few h = let k : d ≤ 8 = range-8 measure d (sym ae ∙ not-false a ha) in omega arith
+    open-few h = let k : d ≤ 8 = range-is measure d (sym ae ∙ not-false a ha) .narrow in omega arith

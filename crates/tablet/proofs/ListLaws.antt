@@ -15,13 +15,15 @@ use Rattle.paper.specs.declared.lists.List as lists
 use Rattle.paper.specs.declared.orders.Order.{Order}
 use Rattle.paper.specs.declared.orders.Place.the-variants.{Start}
 use Rattle.paper.specs.Orders.{Item, follows}
-use Rattle.paper.specs.Tree.{inRange}
+use Rattle.paper.specs.Points.{inRange}
+use Rattle.paper.proofs.Ranges.{range-is}
 use Rattle.paper.specs.Ends.{sameZ, sameProbe, every, rising, fitting, startedWell, soundIn}
 use Rattle.paper.specs.Lists.{held, itemsIn, listing, unusedZero, soundHeld}
 use Rattle.paper.proofs.Tests.{and-first, and-second, and-both, alike}
 use Rattle.orders.proofs.Rooms.{length-in}
 use Rattle.tablet.specs.Holding.{itemsHold, startedBy, fieldsHold}
 use Rattle.tablet.proofs.ItemLaws.{pass-means, every-start}
+use Rattle.paper.specs.Limits.{mostClaims}
 
 -- ---- coordinates
 
@@ -65,17 +67,13 @@ same-take (suc d) n m p q h k =
 
 -- ---- the fields
 
-pub range-8 : (m d : ℕ) → inRange m d ≡ true → d ≤ 8
-unfolding inRange
-range-8 m d h = leb-true d 8 (and-second (leb 1 d) _ (and-second (leb 1 m && leb m 3) _ h))
-
 module _ (l : lists.List) (room : ℕ) (a : Bool) (ae : a ≡ inRange (l .measure) (l .d)) where
   pub way-range : not a ≡ true → false ≡ fieldsHold l room
   unfolding fieldsHold
   way-range h = rw (← ae, not-true a h)
 
   pub range-d : not a ≡ false → l .d ≤ 8
-  range-d h = range-8 (l .measure) (l .d) (sym ae ∙ not-false a h)
+  range-d h = range-is (l .measure) (l .d) (sym ae ∙ not-false a h) .narrow
 
   module _ (ha : not a ≡ false) (b : Bool) (be : b ≡ unusedZero (l .d) (l .probe)) where
     pub way-unused : not b ≡ true → false ≡ fieldsHold l room
@@ -83,26 +81,26 @@ module _ (l : lists.List) (room : ℕ) (a : Bool) (ae : a ≡ inRange (l .measur
     way-unused h = rw (← ae, not-false a ha, ← be, not-true b h)
 
     module _ (hb : not b ≡ false) where
-      pub way-count-4096 : 4096 < l .snapshot → false ≡ fieldsHold l room
+      pub way-count-4096 : mostClaims < l .snapshot → false ≡ fieldsHold l room
       unfolding fieldsHold
-      way-count-4096 h = rw (← ae, not-false a ha, ← be, not-false b hb, lt-leb (l .snapshot) 4096 h)
+      way-count-4096 h = rw (← ae, not-false a ha, ← be, not-false b hb, lt-leb (l .snapshot) mostClaims h)
 
-      module _ (hs : l .snapshot ≤ 4096) where
+      module _ (hs : l .snapshot ≤ mostClaims) where
         pub way-room : room / 3 < l .count → false ≡ fieldsHold l room
         unfolding fieldsHold
-        way-room h = rw (← ae, not-false a ha, ← be, not-false b hb, le-leb (l .snapshot) 4096 hs, lt-leb (l .count) (room / 3) h)
+        way-room h = rw (← ae, not-false a ha, ← be, not-false b hb, le-leb (l .snapshot) mostClaims hs, lt-leb (l .count) (room / 3) h)
 
         pub way-started : l .count ≤ room / 3 → (r : Bool) → r ≡ startedBy (l .started) (l .count) (l .snapshot) (l .complete) → r ≡ fieldsHold l room
         unfolding fieldsHold
         way-started h r e =
-            rw (← ae, not-false a ha, ← be, not-false b hb, le-leb (l .snapshot) 4096 hs, le-leb (l .count) (room / 3) h) e
+            rw (← ae, not-false a ha, ← be, not-false b hb, le-leb (l .snapshot) mostClaims hs, le-leb (l .count) (room / 3) h) e
 
 -- ---- the whole test
 
 pub record Fields (l : lists.List) (room : ℕ) : Type 0 where
   pub range : inRange (l .measure) (l .d) ≡ true
   pub unused : unusedZero (l .d) (l .probe) ≡ true
-  pub snapshot : l .snapshot ≤ 4096
+  pub snapshot : l .snapshot ≤ mostClaims
   pub few : l .count ≤ room / 3
   pub start : startedBy (l .started) (l .count) (l .snapshot) (l .complete) ≡ true
 
@@ -111,11 +109,11 @@ unfolding fieldsHold
 fields-facts l room h =
     let a = and-second (inRange (l .measure) (l .d)) _ h in
     let b = and-second (unusedZero (l .d) (l .probe)) _ a in
-    let e = and-second (leb (l .snapshot) 4096) _ b in
+    let e = and-second (leb (l .snapshot) mostClaims) _ b in
     record {
       range = and-first (inRange (l .measure) (l .d)) _ h;
       unused = and-first (unusedZero (l .d) (l .probe)) _ a;
-      snapshot = leb-true (l .snapshot) 4096 (and-first (leb (l .snapshot) 4096) _ b);
+      snapshot = leb-true (l .snapshot) mostClaims (and-first (leb (l .snapshot) mostClaims) _ b);
       few = leb-true (l .count) (room / 3) (and-first (leb (l .count) (room / 3)) _ e);
       start = and-second (leb (l .count) (room / 3)) _ e;
     }
@@ -134,7 +132,7 @@ module _ (o : Order) (l : lists.List) (room : List ℕ) (eight : 7 < length (l .
       let range = and-first (inRange (l .measure) (l .d)) _ q in
       let q₁ = and-second (inRange (l .measure) (l .d)) _ q in
       let q₂ = and-second (eqb (length (take (l .d) (l .probe))) (l .d)) _ q₁ in
-      let q₃ = and-second (leb (l .snapshot) 4096) _ q₂ in
+      let q₃ = and-second (leb (l .snapshot) mostClaims) _ q₂ in
       let q₄ = and-second (leb (length items) (length room / 3)) _ q₃ in
       let q₅ = and-second (rising o items) _ q₄ in
       let few : leb (l .count) (length room / 3) ≡ true = rw (length-in (l .count) room) at (and-first (leb (length items) (length room / 3)) _ q₃) in
@@ -143,7 +141,7 @@ module _ (o : Order) (l : lists.List) (room : List ℕ) (eight : 7 < length (l .
       and-both (fieldsHold l (length room)) (itemsHold o Start (l .reach) (l .snapshot) items)
       (and-both (inRange (l .measure) (l .d)) _ range
       (and-both (unusedZero (l .d) (l .probe)) _ (and-first (unusedZero (l .d) (l .probe)) _ h)
-      (and-both (leb (l .snapshot) 4096) _ (and-first (leb (l .snapshot) 4096) _ q₂)
+      (and-both (leb (l .snapshot) mostClaims) _ (and-first (leb (l .snapshot) mostClaims) _ q₂)
       (and-both (leb (l .count) (length room / 3)) _ few well))))
       (pass-means o Start (l .reach) (l .snapshot) items
       ∙ and-both (rising o items) _ (and-first (rising o items) _ q₄)
@@ -152,13 +150,13 @@ module _ (o : Order) (l : lists.List) (room : List ℕ) (eight : 7 < length (l .
       let f = fields-facts l (length room) (and-first (fieldsHold l (length room)) _ h) in
       let p = sym (pass-means o Start (l .reach) (l .snapshot) items) ∙ and-second (fieldsHold l (length room)) _ h in
       let p₁ = and-second (rising o items) _ p in
-      let dim : l .d ≤ 8 = range-8 (l .measure) (l .d) (f .range) in
+      let dim : l .d ≤ 8 = range-is (l .measure) (l .d) (f .range) .narrow in
       let few : leb (length items) (length room / 3) ≡ true = rw (length-in (l .count) room) (le-leb (l .count) (length room / 3) (f .few)) in
       let well : startedBy (l .started) (length items) (l .snapshot) (l .complete) ≡ true = rw (length-in (l .count) room) (f .start) in
       and-both (unusedZero (l .d) (l .probe)) _ (f .unused)
       (and-both (inRange (l .measure) (l .d)) _ (f .range)
       (and-both (eqb (length (take (l .d) (l .probe))) (l .d)) _ (eq-eqb _ _ (length-take-le (l .d) (l .probe) (omega arith)))
-      (and-both (leb (l .snapshot) 4096) _ (le-leb (l .snapshot) 4096 (f .snapshot))
+      (and-both (leb (l .snapshot) mostClaims) _ (le-leb (l .snapshot) mostClaims (f .snapshot))
       (and-both (leb (length items) (length room / 3)) _ few
       (and-both (rising o items) _ (and-first (rising o items) _ p)
       (and-both (every (fitting (l .reach) (l .snapshot)) items) _ (and-second (every (follows o Start) items) _ p₁) well)))))))

@@ -22,13 +22,14 @@ use Rattle.paper.specs.Ends.{every, rising, fitting, lastItem, presentPlace, sa
 use Rattle.paper.specs.Lists.{Held, held, itemsIn, queryOf, listing, unusedZero, soundHeld, put}
 use Rattle.paper.specs.Codec.{placeIn, scopeOf, answered}
 use Rattle.paper.specs.Outcomes.{Outcome, refused, gives, must, number}
-use Rattle.paper.specs.Tree.{inRange}
+use Rattle.paper.specs.Points.{inRange}
 use Rattle.paper.proofs.Tests.{and-first, and-second, never}
 use Rattle.paper.proofs.Outcomes.{must-stop, must-go}
 use Rattle.orders.proofs.Rooms.{length-in, flat-in, flat-append}
 use Rattle.tablet.specs.Holding.{itemsHold, startedBy, Asks, joinedFields, TakenIs}
 use Rattle.tablet.proofs.ItemLaws.{itemAt, pass-means}
 use Rattle.tablet.proofs.ListLaws.{same-take}
+use Rattle.paper.specs.Limits.{mostClaims}
 
 -- ---- places
 
@@ -220,7 +221,7 @@ module _ (o : Order) (l : lists.List) (room : List ℕ) (sound : soundHeld o (he
   sound-few =
       let a = and-second (inRange (l .measure) (l .d)) _ parts in
       let b = and-second (eqb (length (take (l .d) (l .probe))) (l .d)) _ a in
-      let e = and-second (leb (l .snapshot) 4096) _ b in
+      let e = and-second (leb (l .snapshot) mostClaims) _ b in
       let f : length items ≤ length room / 3 = leb-true (length items) (length room / 3) (and-first (leb (length items) (length room / 3)) _ e) in
       omega (arith, length-in (l .count) room)
 
@@ -229,7 +230,7 @@ module _ (o : Order) (l : lists.List) (room : List ℕ) (sound : soundHeld o (he
   sound-asks open₀ =
       let a = and-second (inRange (l .measure) (l .d)) _ parts in
       let b = and-second (eqb (length (take (l .d) (l .probe))) (l .d)) _ a in
-      let e = and-second (leb (l .snapshot) 4096) _ b in
+      let e = and-second (leb (l .snapshot) mostClaims) _ b in
       let f = and-second (leb (length items) (length room / 3)) _ e in
       let g = and-second (rising o items) _ f in
       let fit = and-first (every (fitting (l .reach) (l .snapshot)) items) _ g in
@@ -239,7 +240,7 @@ module _ (o : Order) (l : lists.List) (room : List ℕ) (sound : soundHeld o (he
       record {
         range = and-first (inRange (l .measure) (l .d)) _ parts;
         few = omega (arith, sound-few);
-        snapshot = leb-true (l .snapshot) 4096 (and-first (leb (l .snapshot) 4096) _ b);
+        snapshot = leb-true (l .snapshot) mostClaims (and-first (leb (l .snapshot) mostClaims) _ b);
         some = some;
         below = λ s. last-below (l .count) room (l .reach) (l .snapshot) (some s) fit;
       }

@@ -13,10 +13,11 @@ use Rattle.paper.specs.declared.orders.Order.{Order}
 use Rattle.paper.specs.declared.orders.Order.the-variants.{Near}
 use Rattle.paper.specs.declared.orders.Place.{Place}
 use Rattle.paper.specs.Orders.{Item, Query, follows}
-use Rattle.paper.specs.Tree.{inRange}
+use Rattle.paper.specs.Points.{inRange}
 use Rattle.paper.specs.Ends.{fitting, leads, Listing}
 use Rattle.paper.specs.Lists.{Held, held, unusedZero, put}
 use Rattle.paper.specs.Outcomes.{Outcome, number}
+use Rattle.paper.specs.Limits.{mostClaims}
 
 -- the first of the items is within reach, below the snapshot and after the place, and comes before the next
 unfoldable pub itemHolds : Order → Place → ℕ → ℕ → List Item → Bool
@@ -37,7 +38,7 @@ unfoldable pub fieldsHold : lists.List → ℕ → Bool
 fieldsHold l room =
     inRange (l .measure) (l .d)
     && (unusedZero (l .d) (l .probe)
-    && (leb (l .snapshot) 4096
+    && (leb (l .snapshot) mostClaims
     && (leb (l .count) (room / 3)
     && startedBy (l .started) (l .count) (l .snapshot) (l .complete))))
 
@@ -45,7 +46,7 @@ fieldsHold l room =
 pub record Asks (l : lists.List) (room : List ℕ) : Type 0 where
   pub range : inRange (l .measure) (l .d) ≡ true
   pub few : l .count * 3 ≤ length room
-  pub snapshot : l .snapshot ≤ 4096
+  pub snapshot : l .snapshot ≤ mostClaims
   -- it has a last item, whose number is below the snapshot
   pub some : l .started ≡ true → 1 ≤ l .count
   pub below : l .started ≡ true → getD room (l .count * 3 - 3) 0 < l .snapshot

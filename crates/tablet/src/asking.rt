@@ -11,6 +11,9 @@ ghost use Rattle.paper.specs.Codec.{scopeOf, askLine, lines, wroteOf, roomAfter
 ghost use Rattle.paper.specs.declared.orders.Order.{Order};
 ghost use Rattle.paper.specs.declared.orders.Order.the-variants.{Near};
 ghost use Rattle.tablet.specs.Holding.{Asks};
+ghost use Rattle.paper.specs.Limits.{longestAsk, mostPage};
+use paper::limits::LONGEST_ASK;
+use paper::limits::MOST_PAGE;
 use paper::lines::Scope;
 use paper::lines::Wrote;
 use paper::lists::List;
@@ -50,17 +53,17 @@ pub fn write_ask(l: List, room: &[u64], size: usize, out: &mut [u8]) -> Wrote
     if size < 1 {
         return Wrote::Refused(6);
     }
-    if 16 < size {
+    if MOST_PAGE < size {
         return Wrote::Refused(6);
     }
-    if out.len() < 123 {
+    if out.len() < LONGEST_ASK {
         return Wrote::Refused(12);
     }
     put_ask(l, room, size, out)
 }
 
 fn put_ask(l: List, room: &[u64], size: usize, out: &mut [u8]) -> Wrote
-    requires { ⌜ Asks l (now room) × ((1 ≤ size) × ((size ≤ 16) × (123 ≤ length (now out)))) ⌝ }
+    requires { ⌜ Asks l (now room) × ((1 ≤ size) × ((size ≤ mostPage) × (longestAsk ≤ length (now out)))) ⌝ }
     ensures { λ r. ⌜ (r ≡ Wrote.Line (length (askLine (presentAsk (listing Near (held l (now (room .entry)))) size)))) × (now (out .exit) ≡ askLine (presentAsk (listing Near (held l (now (room .entry)))) size) ++ drop (length (askLine (presentAsk (listing Near (held l (now (room .entry)))) size))) (now (out .entry))) ⌝ }
 {
     let p = present(l, room);

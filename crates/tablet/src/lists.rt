@@ -1,15 +1,16 @@
 // The soundness test of a list in lent memory, for any contents whatsoever.
 ghost use mathlib.Core.Path.{_≡_};
-ghost use Prim.Native.Nat.{_<_};
+ghost use Prim.Native.Nat.{_-_, _<_};
 ghost use lib.ListN.{length};
 ghost use Rattle.paper.specs.Lists.{held, soundHeld};
 ghost use Rattle.tablet.specs.Holding.{startedBy, fieldsHold};
+ghost use Rattle.paper.specs.Limits.{mostPlaces};
 use crate::items::items_hold;
 use crate::probes::unused_zero;
 use paper::lists::List;
 use paper::orders::Order;
 use paper::orders::Place;
-use paper::tables::in_range;
+use paper::points::in_range;
 
 fn started_well(started: bool, count: usize, snapshot: u64, complete: bool) -> bool
     ensures { λ r. ⌜ r ≡ startedBy started count snapshot complete ⌝ }
@@ -30,7 +31,7 @@ fn started_well(started: bool, count: usize, snapshot: u64, complete: bool) -> b
 
 // What an array's type says of its length is told along, for whoever does not look into the probe.
 fn fields_hold(l: List, room: usize) -> bool
-    ensures { λ r. ⌜ (r ≡ fieldsHold l room) × (7 < length (l .probe)) ⌝ }
+    ensures { λ r. ⌜ (r ≡ fieldsHold l room) × (mostPlaces - 1 < length (l .probe)) ⌝ }
 {
     let d = l.d;
     let probe = l.probe;
@@ -40,7 +41,7 @@ fn fields_hold(l: List, room: usize) -> bool
     if !unused_zero(d, &probe) {
         return false;
     }
-    if 4096 < l.snapshot {
+    if List::MOST_SNAPSHOT < l.snapshot {
         return false;
     }
     if room / 3 < l.count {

@@ -6,16 +6,18 @@ ghost use lib.IntN.{pos};
 ghost use lib.ListN.{length, replicate};
 ghost use Rattle.paper.specs.Lists.{noList, openingHeld, openedTold};
 ghost use Rattle.tablet.specs.Holding.{asNear};
+ghost use Rattle.paper.specs.Limits.{mostPlaces};
+use paper::limits::MOST_PLACES;
 use paper::lists::List;
 use paper::lists::Opened;
-use paper::tables::in_range;
+use paper::points::in_range;
 
 // A probe in eight places, the unused ones 0.
-fn padded(probe: &[i32]) -> [i32; 8]
-    requires { ⌜ length (now probe) ≤ 8 ⌝ }
-    ensures { λ r. ⌜ r ≡ now (probe .entry) ++ replicate (8 - length (now (probe .entry))) (pos 0) ⌝ }
+fn padded(probe: &[i32]) -> [i32; MOST_PLACES]
+    requires { ⌜ length (now probe) ≤ mostPlaces ⌝ }
+    ensures { λ r. ⌜ r ≡ now (probe .entry) ++ replicate (mostPlaces - length (now (probe .entry))) (pos 0) ⌝ }
 {
-    let mut places = [0i32; 8];
+    let mut places = [0i32; MOST_PLACES];
     let mut i: usize = 0;
     while i < probe.len() {
         places[i] = probe[i];
@@ -31,7 +33,7 @@ fn no_list(n: u8) -> Opened
         table: 0,
         measure: 0,
         d: 0,
-        probe: [0i32; 8],
+        probe: [0i32; MOST_PLACES],
         reach: 0,
         started: false,
         snapshot: 0,

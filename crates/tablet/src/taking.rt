@@ -1,7 +1,7 @@
 // Taking an answer: whether it is to the list's present ask, whether its page holds, and joining it to the list.
 ghost use mathlib.Core.Path.{_≡_};
 ghost use mathlib.Core.Bool.{true};
-ghost use Prim.Native.Nat.{_+_, _*_, _≤_, _<_};
+ghost use Prim.Native.Nat.{_+_, _-_, _*_, _≤_, _<_};
 ghost use lib.ListN.{length};
 ghost use lib.Seq.{paste};
 ghost use Rattle.paper.specs.Ends.{sameProbe, sameQuery, samePlace, toPresent, pageHolds, taken};
@@ -10,6 +10,7 @@ ghost use Rattle.paper.specs.Codec.{placeIn, answered, lines};
 ghost use Rattle.tablet.specs.Holding.{Asks, TakenIs, joinedFields};
 ghost use Rattle.paper.specs.declared.orders.Order as orders-Order;
 ghost use Rattle.paper.specs.declared.orders.Order.the-variants.{Near};
+ghost use Rattle.paper.specs.Limits.{itemRoom, mostPage, mostPlaces};
 use crate::asking::present;
 use crate::items::items_hold;
 use crate::probes::same_probe;
@@ -50,7 +51,7 @@ fn same_place(p: Scope, q: Scope) -> bool
 }
 
 fn probes_alike(l: List, y: Answer) -> bool
-    requires { ⌜ l .d ≤ 8 ⌝ }
+    requires { ⌜ l .d ≤ mostPlaces ⌝ }
     ensures { λ r. ⌜ r ≡ sameProbe (l .d) (l .probe) (y .probe) ⌝ }
 {
     let d = l.d;
@@ -60,7 +61,7 @@ fn probes_alike(l: List, y: Answer) -> bool
 }
 
 fn same_query(l: List, y: Answer) -> bool
-    requires { ⌜ l .d ≤ 8 ⌝ }
+    requires { ⌜ l .d ≤ mostPlaces ⌝ }
     ensures { λ r. ⌜ ((o : orders-Order.Order) → r ≡ sameQuery (queryOf o l) (answered o y .query)) ⌝ }
 {
     let scope = y.scope;
@@ -94,7 +95,7 @@ fn to_present(l: List, room: &[u64], y: Answer) -> bool
 
 // Whether an answer's page rises, after the mark, within reach and below the snapshot, and is none only as the last.
 fn page_holds(order: Order, y: Answer) -> bool
-    requires { ⌜ y .count ≤ 16 ⌝ }
+    requires { ⌜ y .count ≤ mostPage ⌝ }
     ensures { λ r. ⌜ r ≡ pageHolds (answered order y) ⌝ }
 {
     let items = y.items;
@@ -124,8 +125,8 @@ fn join(room: &mut [u64], at: usize, items: &[u64], n: usize)
 
 // Joins an answer's page to the items that stand in the room.
 fn join_page(room: &mut [u64], count: usize, y: Answer)
-    requires { ⌜ (count * 3 + y .count * 3 ≤ length (now room)) × (y .count ≤ 16) ⌝ }
-    ensures { λ _. ⌜ (now (room .exit) ≡ paste (now (room .entry)) (count * 3) (y .items) (y .count * 3)) × (47 < length (y .items)) ⌝ }
+    requires { ⌜ (count * 3 + y .count * 3 ≤ length (now room)) × (y .count ≤ mostPage) ⌝ }
+    ensures { λ _. ⌜ (now (room .exit) ≡ paste (now (room .entry)) (count * 3) (y .items) (y .count * 3)) × (itemRoom - 1 < length (y .items)) ⌝ }
 {
     let items = y.items;
     let n = y.count as usize;
@@ -163,7 +164,7 @@ fn joined(l: List, y: Answer, n: usize) -> List
 
 // Takes an answer that was read into a sound list.
 pub fn take_answer(order: Order, l: List, room: &mut [u64], y: Answer) -> Taken
-    requires { ⌜ (soundHeld order (held l (now room)) ≡ true) × (y .count ≤ 16) ⌝ }
+    requires { ⌜ (soundHeld order (held l (now room)) ≡ true) × (y .count ≤ mostPage) ⌝ }
     ensures { λ r. ⌜ TakenIs (held l (now (room .entry))) (taken (roomFor (held l (now (room .entry)))) (listing order (held l (now (room .entry)))) (answered order y)) r (now (room .exit)) ⌝ }
 {
     if l.complete {

@@ -11,34 +11,20 @@ use lib.ListN.{length, getD, replicate, length-replicate}
 use lib.Dec.{leb, eqb}
 use borrow.Author.Tests.{leb-true, eqb-true, le-leb, lt-leb, eq-eqb, ne-eqb}
 use Rattle.paper.specs.declared.tables.Table.{Table}
-use Rattle.paper.specs.Tree.{Grown, grown, entered, built, Store, apart, apartIn, inRange, fits, sameFront, afresh, sound}
+use Rattle.paper.specs.Tree.{Grown, grown, entered, built, Store, apart, apartIn, fits, sameFront, afresh, sound}
 use Rattle.tree.specs.Rooms.{Neartree, Located, Enterable, IsBuilt}
-use Rattle.tree.specs.Soundness.{InRange, Lent, Fit, Good}
+use Rattle.tree.specs.Soundness.{Lent, Fit, Good}
 use Rattle.tree.proofs.Agree.{Built, build, build-alike, Alike, same-list, grown-eq}
 use Rattle.paper.proofs.Tests.{and-first, and-second}
 use Rattle.tree.proofs.Front.{front-at, front-all, front-ext, agree-at}
+use Rattle.paper.specs.Points.{inRange}
+use Rattle.paper.proofs.Ranges.{range-is, is-range}
+use Rattle.paper.specs.Limits.{mostClaims}
 
 -- range and lent memory
 
-pub range-is : (measure d : ℕ) → inRange measure d ≡ true → InRange measure d
-unfolding inRange
-range-is measure d h =
-    let a = and-first (leb 1 measure && leb measure 3) (leb 1 d && leb d 8) h in
-    let b = and-second (leb 1 measure && leb measure 3) (leb 1 d && leb d 8) h in
-    record {
-      first = leb-true 1 measure (and-first (leb 1 measure) (leb measure 3) a);
-      last = leb-true measure 3 (and-second (leb 1 measure) (leb measure 3) a);
-      wide = leb-true 1 d (and-first (leb 1 d) (leb d 8) b);
-      narrow = leb-true d 8 (and-second (leb 1 d) (leb d 8) b);
-    }
-
-pub is-range : (measure d : ℕ) → InRange measure d → inRange measure d ≡ true
-unfolding inRange
-is-range measure d h =
-    rw (le-leb 1 measure (h .first), le-leb measure 3 (h .last), le-leb 1 d (h .wide), le-leb d 8 (h .narrow))
-
 -- a capacity in range, times a d in range, is small
-pub few-places : (c d : ℕ) → c ≤ 4096 → d ≤ 8 → c * d ≤ 32768
+pub few-places : (c d : ℕ) → c ≤ mostClaims → d ≤ 8 → c * d ≤ 32768
 few-places c d hc hd = mul-le-mul hc hd
 
 module _ (s : Store) where
@@ -49,7 +35,7 @@ module _ (s : Store) where
   unfolding fits c
   fits-fit h =
       let r : Bool = inRange (s .table .measure) (s .table .d) in
-      let n : Bool = leb 1 c && leb c 4096 in
+      let n : Bool = leb 1 c && leb c mostClaims in
       let m : Bool = leb c (length (s .references)) in
       let p : Bool = leb (c * s .table .d) (length (s .coordinates)) in
       let q : Bool = leb (c * 6) (length (s .rooms)) in
@@ -60,11 +46,11 @@ module _ (s : Store) where
       let range = range-is (s .table .measure) (s .table .d) (and-first r (n && (m && (p && q))) h) in
       record {
         range = range;
-        some = leb-true 1 c (and-first (leb 1 c) (leb c 4096) hn);
+        some = leb-true 1 c (and-first (leb 1 c) (leb c mostClaims) hn);
         references = leb-true c (length (s .references)) (and-first m (p && q) h2);
         lent = record {
           narrow = range .narrow;
-          most = leb-true c 4096 (and-second (leb 1 c) (leb c 4096) hn);
+          most = leb-true c mostClaims (and-second (leb 1 c) (leb c mostClaims) hn);
           coordinates = leb-true (c * s .table .d) (length (s .coordinates)) (and-first p q h3);
           rooms = leb-true (c * 6) (length (s .rooms)) (and-second p q h3);
         };
@@ -76,7 +62,7 @@ module _ (s : Store) where
       rw (
         is-range (s .table .measure) (s .table .d) (f .range),
         le-leb 1 c (f .some),
-        le-leb c 4096 (f .lent .most),
+        le-leb c mostClaims (f .lent .most),
         le-leb c (length (s .references)) (f .references),
         le-leb (c * s .table .d) (length (s .coordinates)) (f .lent .coordinates),
         le-leb (c * 6) (length (s .rooms)) (f .lent .rooms),
@@ -90,7 +76,7 @@ lent-located t places numbers n l h = record { narrow = l .narrow; inside = omeg
 
 module _ (measure d : ℕ) (coordinates : List ℤ) (rooms₀ rooms : List ℕ) (k used : ℕ) (is : grown rooms used ≡ built (apart measure d coordinates) k rooms₀) where
   -- after k claims the next can be entered
-  pub rebuild-ready : (n : ℕ) → n * 6 ≤ length rooms₀ → n ≤ 4096 → Located d n coordinates → k < n → Enterable rooms used d coordinates k
+  pub rebuild-ready : (n : ℕ) → n * 6 ≤ length rooms₀ → n ≤ mostClaims → Located d n coordinates → k < n → Enterable rooms used d coordinates k
   rebuild-ready n room few l hk =
       let b : Built (apart measure d coordinates) k rooms₀ (grown rooms used) = rw is (build (apart measure d coordinates) k rooms₀ (omega arith) (omega arith)) in
       let le : k + 1 ≤ n = omega arith in
@@ -111,7 +97,7 @@ module _ (measure d : ℕ) (coordinates : List ℤ) (rooms₀ rooms : List ℕ) 
       ∙ ap (λ (m : ℕ). built e m rooms₀) (sym (add-one k))
 
   -- what rebuilding leaves of the memory
-  pub rebuild-few : k * 6 ≤ length rooms₀ → k ≤ 4096 → (used ≤ k) × (length rooms ≡ length rooms₀)
+  pub rebuild-few : k * 6 ≤ length rooms₀ → k ≤ mostClaims → (used ≤ k) × (length rooms ≡ length rooms₀)
   rebuild-few room few =
       let b : Built (apart measure d coordinates) k rooms₀ (grown rooms used) = rw is (build (apart measure d coordinates) k rooms₀ room (omega arith)) in
       (b .few, b .long)
@@ -123,7 +109,7 @@ rebuild-start e rooms = refl
 -- testing
 
 -- memory of any contents gives what empty rooms give
-alike-afresh : (e : ℕ → ℕ → ℕ) (rooms : List ℕ) (n : ℕ) → n * 6 ≤ length rooms → n ≤ 4096 → Alike (afresh e n) (built e n rooms)
+alike-afresh : (e : ℕ → ℕ → ℕ) (rooms : List ℕ) (n : ℕ) → n * 6 ≤ length rooms → n ≤ mostClaims → Alike (afresh e n) (built e n rooms)
 unfolding afresh
 alike-afresh e rooms n room few =
     let l = length-replicate {A = ℕ} (n * 6) 0 in
@@ -134,7 +120,7 @@ module _ (s : Store) where
   unfolding sound
   sound-over h = rw (lt-leb (s .table .count) (s .table .capacity) h)
 
-  module _ (scratch rooms : List ℕ) (u : ℕ) (hc : s .table .count ≤ s .table .capacity) (most : s .table .capacity ≤ 4096)
+  module _ (scratch rooms : List ℕ) (u : ℕ) (hc : s .table .count ≤ s .table .capacity) (most : s .table .capacity ≤ mostClaims)
       (room : s .table .count * 6 ≤ length scratch) (is : grown rooms u ≡ built (apartIn s) (s .table .count) scratch) where
     alike : Alike (afresh (apartIn s) (s .table .count)) (grown rooms u)
     alike = rw is (alike-afresh (apartIn s) scratch (s .table .count) room (omega arith))
@@ -173,7 +159,7 @@ sound-good s f hs =
     let same : (i : ℕ) → i < t .used * 6 → getD (afresh e n .rooms) i 0 ≡ getD (s .rooms) i 0 =
     front-at (t .used * 6) (afresh e n .rooms) (s .rooms) (and-second bu bf rest) in
     let room : n * 6 ≤ length (s .rooms) = omega (arith, f .lent .rooms) in
-    let few : n ≤ 4096 = omega (arith, f .lent .most) in
+    let few : n ≤ mostClaims = omega (arith, f .lent .most) in
     let h = alike-afresh e (s .rooms) n room few in
     let b = build e n (s .rooms) room (omega arith) in
     let x : Grown = built e n (s .rooms) in
@@ -188,7 +174,7 @@ module _ (s : Store) (g : Good s) where
   room : s .table .count * 6 ≤ length (s .rooms)
   room = omega (arith, g .count, g .fit .lent .rooms)
 
-  pub good-few : s .table .count ≤ 4096
+  pub good-few : s .table .count ≤ mostClaims
   good-few = omega (arith, g .count, g .fit .lent .most)
 
   pub good-sound : sound s ≡ true

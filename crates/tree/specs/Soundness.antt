@@ -2,20 +2,15 @@
 use Prim.Native.Nat.{ℕ, _+_, _*_, _≤_}
 use lib.ListN.{length}
 use Rattle.paper.specs.declared.tables.Table.{Table}
+use Rattle.paper.specs.Points.{InRange}
 use Rattle.paper.specs.Tree.{Store, apartIn}
 use Rattle.tree.specs.Rooms.{IsBuilt}
-
--- a measure and a d that there are
-pub record InRange (measure d : ℕ) : Type 0 where
-  pub first : 1 ≤ measure
-  pub last : measure ≤ 3
-  pub wide : 1 ≤ d
-  pub narrow : d ≤ 8
+use Rattle.paper.specs.Limits.{mostClaims, mostPlaces}
 
 -- the lent memory holds what a table's rooms and its claims' places need: so many coordinates, and so many numbers of rooms
 pub record Lent (t : Table) (places numbers : ℕ) : Type 0 where
-  pub narrow : t .d ≤ 8
-  pub most : t .capacity ≤ 4096
+  pub narrow : t .d ≤ mostPlaces
+  pub most : t .capacity ≤ mostClaims
   pub coordinates : t .capacity * t .d ≤ places
   pub rooms : t .capacity * 6 ≤ numbers
 

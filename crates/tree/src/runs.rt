@@ -6,7 +6,7 @@ ghost use lib.ListN.{length, drop};
 ghost use lib.Seq.{paste};
 ghost use Rattle.paper.specs.Outcomes.{number as Outcomes·number};
 ghost use Rattle.paper.specs.Points.{point};
-ghost use Rattle.paper.specs.Tree.{store};
+ghost use Rattle.paper.specs.Tree.{lent};
 ghost use Rattle.paper.specs.Runs.{emptyTable, makeCall, madeTold, added, addedRun, enterCall, enteredTold, ending, endingOf};
 ghost use Rattle.tree.specs.Soundness.{Roomy};
 use super::entering::enter;
@@ -38,9 +38,9 @@ pub fn add(
     places: &[i32],
     i: usize,
 ) -> Table
-    requires { ⌜ Roomy (store t (now references) (now coordinates) (now rooms)) 1 × (i * t .d + t .d ≤ length (now places)) ⌝ }
-    ensures { λ r. ⌜ store r (now (references .exit)) (now (coordinates .exit)) (now (rooms .exit))
-        ≡ added (store t (now (references .entry)) (now (coordinates .entry)) (now (rooms .entry))) reference (point (t .d) (now (places .entry)) i) ⌝ }
+    requires { ⌜ Roomy (lent t references coordinates rooms) 1 × (i * t .d + t .d ≤ length (now places)) ⌝ }
+    ensures { λ r. ⌜ lent r (references .exit) (coordinates .exit) (rooms .exit)
+        ≡ added (lent t (references .entry) (coordinates .entry) (rooms .entry)) reference (point (t .d) (now (places .entry)) i) ⌝ }
 {
     let k = t.count;
     let d = t.d;
@@ -66,9 +66,9 @@ pub fn add_run(
     given: &[u32],
     places: &[i32],
 ) -> Table
-    requires { ⌜ Roomy (store t (now references) (now coordinates) (now rooms)) (length (now given)) × (length (now places) ≡ t .d * length (now given)) ⌝ }
-    ensures { λ r. ⌜ store r (now (references .exit)) (now (coordinates .exit)) (now (rooms .exit))
-        ≡ addedRun (now (given .entry)) (now (places .entry)) (length (now (given .entry))) (store t (now (references .entry)) (now (coordinates .entry)) (now (rooms .entry))) ⌝ }
+    requires { ⌜ Roomy (lent t references coordinates rooms) (length (now given)) × (length (now places) ≡ t .d * length (now given)) ⌝ }
+    ensures { λ r. ⌜ lent r (references .exit) (coordinates .exit) (rooms .exit)
+        ≡ addedRun (now (given .entry)) (now (places .entry)) (length (now (given .entry))) (lent t (references .entry) (coordinates .entry) (rooms .entry)) ⌝ }
 {
     let mut held = t;
     let mut i = 0;
@@ -102,7 +102,7 @@ fn run_refusal(
     given: &[u32],
     places: &[i32],
 ) -> u8
-    ensures { λ r. ⌜ r ≡ Outcomes·number (enterCall (store t (now (references .entry)) (now (coordinates .entry)) (now (rooms .entry))) (now (given .entry)) (now (places .entry))) ⌝ }
+    ensures { λ r. ⌜ r ≡ Outcomes·number (enterCall (lent t (references .entry) (coordinates .entry) (rooms .entry)) (now (given .entry)) (now (places .entry))) ⌝ }
 {
     if !is_fit(t, references, coordinates, rooms) {
         return 1;
@@ -132,8 +132,8 @@ pub fn enter_run(
     places: &[i32],
 ) -> Entered
     ensures { λ r. ⌜ ending (enteredTold r) (now (references .exit)) (now (coordinates .exit)) (now (rooms .exit))
-        ≡ endingOf (store t (now (references .entry)) (now (coordinates .entry)) (now (rooms .entry)))
-        (enterCall (store t (now (references .entry)) (now (coordinates .entry)) (now (rooms .entry))) (now (given .entry)) (now (places .entry))) ⌝ }
+        ≡ endingOf (lent t (references .entry) (coordinates .entry) (rooms .entry))
+        (enterCall (lent t (references .entry) (coordinates .entry) (rooms .entry)) (now (given .entry)) (now (places .entry))) ⌝ }
 {
     let why = run_refusal(t, references, coordinates, rooms, given, places);
     if why != 0 {
@@ -153,7 +153,7 @@ pub fn make_table(
     coordinates: &[i32],
     rooms: &[u64],
 ) -> Made
-    ensures { λ r. ⌜ madeTold r ≡ makeCall (store (emptyTable number measure d capacity) (now (references .entry)) (now (coordinates .entry)) (now (rooms .entry))) ⌝ }
+    ensures { λ r. ⌜ madeTold r ≡ makeCall (lent (emptyTable number measure d capacity) (references .entry) (coordinates .entry) (rooms .entry)) ⌝ }
 {
     let t = Table {
         number: number,

@@ -3,16 +3,19 @@ ghost use mathlib.Core.Path.{_≡_};
 ghost use Prim.Native.Nat.{ℕ, _*_, _≤_};
 ghost use mathlib.Core.List.{List};
 ghost use lib.ListN.{length};
-ghost use Rattle.paper.specs.Tree.{grown, built, apart, store, fits, sameFront, sound};
+ghost use Rattle.paper.specs.Tree.{lent, grown, built, apart, store, fits, sameFront, sound};
 ghost use Rattle.tree.specs.Rooms.{Located};
 ghost use Rattle.tree.specs.Soundness.{Lent};
+ghost use Rattle.paper.specs.Limits.{mostClaims};
 use super::entering::enter;
+use paper::limits::MOST_CLAIMS;
+use paper::limits::SCRATCH_ROOM;
+use paper::points::in_range;
 use paper::tables::Table;
-use paper::tables::in_range;
 
 // Whether the table is in range, and the lent memory holds what it needs.
 pub fn is_fit(t: Table, references: &[u32], coordinates: &[i32], rooms: &[u64]) -> bool
-    ensures { λ r. ⌜ r ≡ fits (store t (now (references .entry)) (now (coordinates .entry)) (now (rooms .entry))) ⌝ }
+    ensures { λ r. ⌜ r ≡ fits (lent t (references .entry) (coordinates .entry) (rooms .entry)) ⌝ }
 {
     if !in_range(t.measure, t.d) {
         return false;
@@ -21,7 +24,7 @@ pub fn is_fit(t: Table, references: &[u32], coordinates: &[i32], rooms: &[u64]) 
     if c < 1 {
         return false;
     }
-    if 4096 < c {
+    if MOST_CLAIMS < c {
         return false;
     }
     if references.len() < c {
@@ -38,7 +41,7 @@ pub fn is_fit(t: Table, references: &[u32], coordinates: &[i32], rooms: &[u64]) 
 
 // Enters claims 0 to n - 1 one by one, and gives the number of rooms then in use.
 fn rebuild(rooms: &mut [u64], measure: u8, d: usize, coordinates: &[i32], n: usize) -> usize
-    requires { ⌜ ((n * 6 ≤ length (now rooms)) × (n ≤ 4096)) × Located d n (now coordinates) ⌝ }
+    requires { ⌜ ((n * 6 ≤ length (now rooms)) × (n ≤ mostClaims)) × Located d n (now coordinates) ⌝ }
     ensures { λ r. ⌜ grown (now (rooms .exit)) r ≡ built (apart measure d (now (coordinates .entry))) n (now (rooms .entry)) ⌝ }
 {
     let mut used = 0;
@@ -74,7 +77,7 @@ pub fn is_sound(t: Table, coordinates: &[i32], rooms: &[u64]) -> bool
     if t.capacity < n {
         return false;
     }
-    let mut scratch = [0u64; 24576];
+    let mut scratch = [0u64; SCRATCH_ROOM];
     let used = rebuild(&mut scratch, t.measure, t.d, coordinates, n);
     if used != t.used {
         return false;

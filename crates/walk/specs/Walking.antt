@@ -12,6 +12,7 @@ use Rattle.keep.specs.declared.Asked.{Asked}
 use Rattle.keep.specs.Page.{ranks, Filled}
 use Rattle.keep.specs.Kept.{Roomy, Walked}
 use Rattle.keep.specs.Skips.{admitted, boundOf, beyondOf, passedOf}
+use Rattle.paper.specs.Limits.{mostPlaces}
 
 -- the reference of claim k
 abbrev pub refOf : List ℕ → ℕ → ℕ
@@ -26,7 +27,7 @@ distBy ask coordinates probe = distOf (ask .measure) (ask .d) coordinates probe
 
 -- claim k can be measured: the lent memory has its d coordinates, and the probe's
 pub record InSight (d k : ℕ) (coordinates probe : List ℤ) : Type 0 where
-  pub narrow : d ≤ 8
+  pub narrow : d ≤ mostPlaces
   pub inside : k * d + d ≤ length coordinates
   pub aimed : d ≤ length probe
 

@@ -6,6 +6,7 @@ use lib.ListN.{length}
 use Rattle.stream.proofs.Laws.{Running, running-start, reached-more, ready-anew}
 use Rattle.stream.proofs.run.Statement.{statement}
 use Rattle.stream.proofs.run.Tie as tie
+use Rattle.paper.specs.Limits.{longestAnswer}
 
 abbrev Inv-loop : tie.InvT-loop
 Inv-loop references₀ coordinates₀ rooms₀ line₀ chunk₀ out₀ d₀ open₀ turns₀ references coordinates rooms line chunk out d «open» turns = Running references₀ coordinates₀ rooms₀ line₀ out₀ references coordinates rooms line out d × (length chunk ≡ length chunk₀)
@@ -53,7 +54,7 @@ anew-requires c κs = tt
 finish-requires : tie.Need-finish-requires Inv-loop μ-loop
 finish-requires c κs =
     let v = c .before .before .before .before .before .before .before .before .loop .inv .0 in
-    let h : 573 ≤ length (c .before .before .before .before .before .before .before .before .loop .out) = omega (arith, v .out, c .before .before .before .before .before .before .before .before .before .before .before .before .before .before .before .pre .space) in
+    let h : longestAnswer ≤ length (c .before .before .before .before .before .before .before .before .loop .out) = omega (arith, v .out, c .before .before .before .before .before .before .before .before .before .before .before .before .before .before .before .pre .space) in
     ready-anew _ _ _ _ (c .before .before .before .before .before .before .before .before .loop .d) _ _ (c .before .before .before .before .before .anew .ensures) (v .ready) h
 
 sub-write-all : tie.Need-sub-write-all Inv-loop μ-loop

@@ -10,11 +10,12 @@ use Rattle.digits.proofs.Laws.{ended-even, ended-bad, ended-good}
 use borrow.Author.Needs.{needs}
 use Rattle.digits.proofs.hex.is_sound.Statement.{statement}
 use Rattle.digits.proofs.hex.is_sound.Tie as tie
+use Rattle.paper.specs.Limits.{longestAnswer}
 
 -- a line whose length is in range
-sized : (l : List ℕ) → 2 ≤ length l → length l ≤ 573 → sound l ≡ ended l
+sized : (l : List ℕ) → 2 ≤ length l → length l ≤ longestAnswer → sound l ≡ ended l
 unfolding sound
-sized l p q = rw (lt-ltb 1 (length l) (omega arith), le-leb (length l) 573 q)
+sized l p q = rw (lt-ltb 1 (length l) (omega arith), le-leb (length l) longestAnswer q)
 
 -- what is known at the loop's test: the characters before i are digits
 record Digits (l : List ℕ) (n last i : ℕ) : Type 0 where
@@ -39,7 +40,7 @@ returns-2 : tie.Need-returns-2 Inv-loop μ-loop
 unfolding sound
 returns-2 c =
     let n = length (c .before .before .before .args .line .now) in
-    simp (lt-ltb 1 n (omega arith), lt-leb n 573 (omega arith))
+    simp (lt-ltb 1 n (omega arith), lt-leb n longestAnswer (omega arith))
 
 returns-3 : tie.Need-returns-3 Inv-loop μ-loop
 returns-3 c = sym (sized (c .before .before .before .before .args .line .now) (omega arith) (omega arith) ∙ ended-even (c .before .before .before .before .args .line .now) (c .if3 .taken))

@@ -12,9 +12,10 @@ use Rattle.fields.proofs.ItemLaws.{places-step}
 use borrow.Author.Needs.{needs}
 use Rattle.fields.proofs.items.items_at.Statement.{statement}
 use Rattle.fields.proofs.items.items_at.Tie as tie
+use Rattle.paper.specs.Limits.{itemRoom}
 
 abbrev Inv-loop : tie.InvT-loop
-Inv-loop src at k found₀ i₀ found i = (i ≤ k) × (found ≡ itemsIn i (drop at (held src)) ++ replicate (48 - 3 * i) 0)
+Inv-loop src at k found₀ i₀ found i = (i ≤ k) × (found ≡ itemsIn i (drop at (held src)) ++ replicate (itemRoom - 3 * i) 0)
 
 abbrev μ-loop : tie.MeasureT-loop
 μ-loop src at k found₀ i₀ found i = k - i

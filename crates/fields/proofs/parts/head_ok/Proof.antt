@@ -1,6 +1,6 @@
 use mathlib.Core.Path.{_∙_}
 use borrow.Author.Tests.{eq-eqb, ne-eqb}
-use Rattle.paper.specs.Fields.{ranged}
+use Rattle.paper.specs.Points.{inRange}
 use Rattle.paper.specs.Lines.{headOk}
 use borrow.Author.Needs.{needs}
 use Rattle.fields.proofs.parts.head_ok.Statement.{statement}
@@ -12,16 +12,19 @@ number-requires c κs = search needs
 number-requires-2 : tie.Need-number-requires-2
 number-requires-2 c κs = search needs
 
+cast-in-range : tie.Need-cast-in-range
+cast-in-range c = search needs
+
 number-requires-3 : tie.Need-number-requires-3
 number-requires-3 c κs = search needs
 
-ranged-requires : tie.Need-ranged-requires
-ranged-requires c κs = search needs
+in-range-requires : tie.Need-in-range-requires
+in-range-requires c κs = search needs
 
 returns : tie.Need-returns
 unfolding headOk
 returns c =
-    c .ranged .ensures
+    c .in-range .ensures
     ∙ rw (← c .before .before .before .before .number .ensures .value, ← c .before .before .number2 .ensures .value, ← c .before .number3 .ensures .value, eq-eqb _ _ (c .before .before .before .if1 .taken))
 
 returns-2 : tie.Need-returns-2
@@ -34,7 +37,8 @@ head-ok-spec =
     (tie.spec
     number-requires
     number-requires-2
+    cast-in-range
     number-requires-3
-    ranged-requires
+    in-range-requires
     returns
     returns-2)

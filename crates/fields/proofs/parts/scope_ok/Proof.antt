@@ -4,6 +4,7 @@ use Rattle.paper.specs.Fields.{scopeOk}
 use Rattle.fields.proofs.PartLaws.{scope-rule}
 use Rattle.fields.proofs.parts.scope_ok.Statement.{statement}
 use Rattle.fields.proofs.parts.scope_ok.Tie as tie
+use Rattle.paper.specs.Limits.{mostClaims, mostNumber}
 
 returns : tie.Need-returns
 unfolding scopeOk
@@ -11,11 +12,11 @@ returns c = simp (lt-leb _ 1 (c .if1 .taken))
 
 returns-2 : tie.Need-returns-2
 unfolding scopeOk
-returns-2 c = simp (le-leb _ 1 (c .before .before .if1 .left), lt-leb _ 4096 (c .if2 .taken))
+returns-2 c = simp (le-leb _ 1 (c .before .before .if1 .left), lt-leb _ mostClaims (c .if2 .taken))
 
 returns-3 : tie.Need-returns-3
 unfolding scopeOk
-returns-3 c = simp (le-leb _ 1 (c .before .before .before .before .if1 .left), le-leb _ 4096 (c .before .before .if2 .left), lt-leb _ 4095 (c .if3 .taken))
+returns-3 c = simp (le-leb _ 1 (c .before .before .before .before .if1 .left), le-leb _ mostClaims (c .before .before .if2 .left), lt-leb _ mostNumber (c .if3 .taken))
 
 returns-4 : tie.Need-returns-4
 returns-4 c = sym (scope-rule (c .before .before .before .before .before .before .before .before .args .p) (c .before .before .before .before .before .before .if1 .left) (c .before .before .before .before .if2 .left) (c .before .before .if3 .left) ∙ rw (eq-eqb _ 1 (c .if4 .taken)))

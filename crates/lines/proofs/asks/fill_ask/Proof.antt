@@ -12,6 +12,7 @@ use Rattle.lines.proofs.Tests.{length-ask}
 use borrow.Author.Needs.{needs}
 use Rattle.lines.proofs.asks.fill_ask.Statement.{statement}
 use Rattle.lines.proofs.asks.fill_ask.Tie as tie
+use Rattle.paper.specs.Limits.{longestAsk}
 
 put-front-requires : tie.Need-put-front-requires
 put-front-requires c κs = search needs
@@ -47,7 +48,7 @@ returns c =
     let n = length (a .probe .now) in
     let b = front (a .kind) (a .table) (a .measure) (a .d) (a .probe .now) (a .p) in
     let f = askFrame (a .kind) (a .table) (a .measure) (a .d) (a .probe .now) (a .p) (a .size) in
-    let h : (n ≤ 8) × (123 ≤ length (a .out .now)) = c .before .before .before .before .before .before .before .before .before .pre in
+    let h : (n ≤ 8) × (longestAsk ≤ length (a .out .now)) = c .before .before .before .before .before .before .before .before .before .pre in
     let lb = length-front (a .kind) (a .table) (a .measure) (a .d) (a .probe .now) (a .p) in
     let l = length-ask (a .kind) (a .table) (a .measure) (a .d) (a .probe .now) (a .p) (a .size) in
     let ll = length-line f in

@@ -10,6 +10,7 @@ use Rattle.lines.proofs.Ways.{buffered, framed, reads, reads-10, reads-
 use borrow.Author.Needs.{needs}
 use Rattle.lines.proofs.claims.read_claim.Statement.{statement}
 use Rattle.lines.proofs.claims.read_claim.Tie as tie
+use Rattle.paper.specs.Limits.{longestFrame}
 
 is-sound-requires : tie.Need-is-sound-requires
 is-sound-requires c κs = search needs
@@ -25,7 +26,7 @@ array-share-prefix-frame c = omega (arith, buffered (c .before .before .before .
 
 slice-aggregate-src : tie.Need-slice-aggregate-src
 slice-aggregate-src c =
-    let k : length (c .before .before .before .before .before .before .before .args .line .now) / 2 ≤ 286 = buffered (c .before .before .before .before .before .before .before .args .line .now) (sym (c .before .before .before .before .before .is-sound .ensures) ∙ c .before .before .before .before .if1 .taken) in
+    let k : length (c .before .before .before .before .before .before .before .args .line .now) / 2 ≤ longestFrame = buffered (c .before .before .before .before .before .before .before .args .line .now) (sym (c .before .before .before .before .before .is-sound .ensures) ∙ c .before .before .before .before .if1 .taken) in
     simp length-take (omega arith)
 
 claim-ok-requires : tie.Need-claim-ok-requires

@@ -6,6 +6,7 @@ use Rattle.many.proofs.PageWays.{pages-many, pages-5, pages-6, pages-so
 use borrow.Author.Needs.{needs}
 use Rattle.many.proofs.pages.pages_refusal.Statement.{statement}
 use Rattle.many.proofs.pages.pages_refusal.Tie as tie
+use Rattle.paper.specs.Limits.{mostPage}
 
 many-refusal-requires : tie.Need-many-refusal-requires
 many-refusal-requires c κs = search needs
@@ -42,7 +43,7 @@ returns-4 c =
 mul-has-rows : tie.Need-mul-has-rows
 mul-has-rows c =
     let a = c .before .before .before .before .before .before .before .before .before .before .args in
-    let h : a .size ≤ 16 =
+    let h : a .size ≤ mostPage =
     pages-small (store (a .t) (a .references .now) (a .coordinates .now) (a .rooms .now)) (a .probes) (a .n) (a .places) (a .size) (a .outcomes) (a .items) _ (c .before .before .before .before .before .before .before .many-refusal .ensures) (c .before .before .before .before .before .before .if1 .left) _ (c .before .before .before .before .before .is-whole .ensures) (c .before .before .before .before .if2 .left) _ (c .before .before .before .size-holds .ensures) (c .before .before .if3 .left) in
     omega arith
 

@@ -8,6 +8,7 @@ use Rattle.serve.proofs.Moves.{turn-on, moved-part, moved-line}
 use borrow.Author.Needs.{needs}
 use Rattle.serve.proofs.feeding.turn.Statement.{statement}
 use Rattle.serve.proofs.feeding.turn.Tie as tie
+use Rattle.paper.specs.Limits.{longestAnswer}
 
 cut-requires : tie.Need-cut-requires
 cut-requires c κs = search needs
@@ -56,7 +57,7 @@ returns-2 c =
     let p = c .before .before .before .before .before .before .before .before .before .before .before .before .before .before .before .before .before .before .before .before .before .before .before .before .before .before .before .pre in
     let k = c .before .before .before .before .before .before .before .before .before .before .before .before .before .before .before .before .before .before .before .cut in
     let v = c .before .before .before .before .before .before .before .before .before .serve-cut .ensures in
-    let len : length (k .last .0) ≡ 573 = k .kept .0 ∙ p .0 .line in (
+    let len : length (k .last .0) ≡ longestAnswer = k .kept .0 ∙ p .0 .line in (
       (λ o st. moved-line (a .d) s (a .line .now) _ (a .chunk .now) _ (p .0 .line) (k .ensures) o (p .1 .left) (not-false _ (c .before .before .before .before .before .before .before .before .before .before .before .before .before .before .before .if1 .left)) _ _ _ _ (v .served) len st),
       (record { ready = v .ready; line = len }, (turn-on (a .d) s (a .line .now) _ (a .chunk .now) _ (p .0 .line) (k .ensures) (p .1 .unread), v .short)),
     )

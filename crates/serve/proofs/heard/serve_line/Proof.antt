@@ -10,6 +10,7 @@ use Rattle.serve.proofs.Turns.{line-9, line-frame}
 use borrow.Author.Needs.{needs}
 use Rattle.serve.proofs.heard.serve_line.Statement.{statement}
 use Rattle.serve.proofs.heard.serve_line.Tie as tie
+use Rattle.paper.specs.Limits.{longestFrame}
 
 is-sound-requires : tie.Need-is-sound-requires
 is-sound-requires c κs = search needs
@@ -36,7 +37,7 @@ array-share-prefix-frame c = omega (arith, buffered (c .before .before .before .
 
 slice-aggregate-serve-frame : tie.Need-slice-aggregate-serve-frame
 slice-aggregate-serve-frame c =
-    let k : length (c .before .before .before .before .before .before .before .before .before .before .before .before .before .args .line .now) / 2 ≤ 286 = buffered (c .before .before .before .before .before .before .before .before .before .before .before .before .before .args .line .now) (sym (c .before .before .before .before .before .before .before .before .is-sound .ensures) ∙ not-false _ (c .before .before .before .before .before .before .before .if1 .left)) in
+    let k : length (c .before .before .before .before .before .before .before .before .before .before .before .before .before .args .line .now) / 2 ≤ longestFrame = buffered (c .before .before .before .before .before .before .before .before .before .before .before .before .before .args .line .now) (sym (c .before .before .before .before .before .before .before .before .is-sound .ensures) ∙ not-false _ (c .before .before .before .before .before .before .before .if1 .left)) in
     simp length-take (omega arith)
 
 serve-frame-requires : tie.Need-serve-frame-requires

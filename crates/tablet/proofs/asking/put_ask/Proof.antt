@@ -5,7 +5,7 @@ use native.Mathlib.Omega.{arith}
 use lib.ListN.{length, take}
 use Rattle.paper.specs.declared.orders.Order.the-variants.{Near}
 use Rattle.tablet.proofs.EndLaws.{ask-written}
-use Rattle.tablet.proofs.ListLaws.{range-8}
+use Rattle.paper.proofs.Ranges.{range-is}
 use borrow.Author.Needs.{needs}
 use Rattle.tablet.proofs.asking.put_ask.Statement.{statement}
 use Rattle.tablet.proofs.asking.put_ask.Tie as tie
@@ -14,7 +14,7 @@ present-requires : tie.Need-present-requires
 present-requires c κs = search needs
 
 cast-write-ask : tie.Need-cast-write-ask
-cast-write-ask c = let k : c .before .before .before .before .args .l .d ≤ 8 = range-8 _ _ (c .before .before .before .before .pre .0 .range) in omega arith
+cast-write-ask c = let k : c .before .before .before .before .args .l .d ≤ 8 = range-is _ _ (c .before .before .before .before .pre .0 .range) .narrow in omega arith
 
 sub-write-ask : tie.Need-sub-write-ask
 sub-write-ask c = search needs
@@ -24,7 +24,7 @@ part-write-ask-start c = search needs
 
 part-write-ask-end : tie.Need-part-write-ask-end
 part-write-ask-end c =
-    let k : c .before .before .before .before .before .args .l .d ≤ 8 = range-8 _ _ (c .before .before .before .before .before .pre .0 .range) in
+    let k : c .before .before .before .before .before .args .l .d ≤ 8 = range-is _ _ (c .before .before .before .before .before .pre .0 .range) .narrow in
     let long : 7 < length (c .before .before .before .before .before .args .l .probe) = search needs in
     omega arith
 

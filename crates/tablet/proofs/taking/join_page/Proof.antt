@@ -1,10 +1,11 @@
 -- `tablet::taking::join_page` meets its contract: the page has room for sixteen items. Assumes nothing.
-use Prim.Native.Nat.{_<_}
+use Prim.Native.Nat.{_-_, _<_}
 use native.Mathlib.Omega.{arith}
 use lib.ListN.{length}
 use borrow.Author.Needs.{needs}
 use Rattle.tablet.proofs.taking.join_page.Statement.{statement}
 use Rattle.tablet.proofs.taking.join_page.Tie as tie
+use Rattle.paper.specs.Limits.{itemRoom}
 
 cast-n : tie.Need-cast-n
 cast-n c = search needs
@@ -20,7 +21,7 @@ mul-join-2 c = search needs
 
 join-requires : tie.Need-join-requires
 join-requires c κs =
-    let long : 47 < length (c .before .before .before .before .before .args .y .items) = search needs in
+    let long : itemRoom - 1 < length (c .before .before .before .before .before .args .y .items) = search needs in
     (omega arith, omega arith)
 
 same-length : tie.Need-same-length

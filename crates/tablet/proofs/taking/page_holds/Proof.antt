@@ -1,11 +1,12 @@
 -- `tablet::taking::page_holds` meets its contract: its items in one pass, and none only as the last. Assumes nothing.
-use Prim.Native.Nat.{_<_}
+use Prim.Native.Nat.{_-_, _<_}
 use native.Mathlib.Omega.{arith}
 use lib.ListN.{length}
 use Rattle.tablet.proofs.TakeLaws.{page-items, page-some, page-none}
 use borrow.Author.Needs.{needs}
 use Rattle.tablet.proofs.taking.page_holds.Statement.{statement}
 use Rattle.tablet.proofs.taking.page_holds.Tie as tie
+use Rattle.paper.specs.Limits.{itemRoom}
 
 cast-n : tie.Need-cast-n
 cast-n c = search needs
@@ -20,7 +21,7 @@ slice-aggregate-items-hold : tie.Need-slice-aggregate-items-hold
 slice-aggregate-items-hold c = search needs
 
 items-hold-requires : tie.Need-items-hold-requires
-items-hold-requires c κs = let long : 47 < length (c .before .before .before .before .before .before .args .y .items) = search needs in omega arith
+items-hold-requires c κs = let long : itemRoom - 1 < length (c .before .before .before .before .before .before .args .y .items) = search needs in omega arith
 
 returns : tie.Need-returns
 returns c = page-items _ _ _ (c .before .before .before .before .place-in .ensures) _ (c .before .items-hold .ensures) (c .if1 .taken)

@@ -1,12 +1,12 @@
 -- `tablet::taking::to_present` meets its contract: the same query, and the same place. Assumes nothing.
-use Rattle.tablet.proofs.ListLaws.{range-8}
+use Rattle.paper.proofs.Ranges.{range-is}
 use Rattle.tablet.proofs.TakeLaws.{present-query, present-place}
 use borrow.Author.Needs.{needs}
 use Rattle.tablet.proofs.taking.to_present.Statement.{statement}
 use Rattle.tablet.proofs.taking.to_present.Tie as tie
 
 same-query-requires : tie.Need-same-query-requires
-same-query-requires c κs = range-8 _ _ (c .before .pre .range)
+same-query-requires c κs = range-is _ _ (c .before .pre .range) .narrow
 
 returns : tie.Need-returns
 returns c = present-query (c .before .before .before .args .l) (c .before .before .before .args .room .now) (c .before .before .before .args .y) _ (c .before .same-query .ensures) (c .if1 .taken)

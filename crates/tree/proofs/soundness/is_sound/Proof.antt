@@ -9,10 +9,11 @@ use Rattle.paper.specs.Tree.{store}
 use Rattle.tree.proofs.Known.{lent-located, sound-over, sound-other, sound-last, rebuild-few}
 use Rattle.tree.proofs.soundness.is_sound.Statement.{statement}
 use Rattle.tree.proofs.soundness.is_sound.Tie as tie
+use Rattle.paper.specs.Limits.{mostClaims, scratchRoom}
 
 -- the scratch rooms hold what any table in range needs
-scratch-room : (n : ℕ) → n ≤ 4096 → n * 6 ≤ length (replicate {A = ℕ} 24576 0)
-scratch-room n h = omega (arith, length-replicate {A = ℕ} 24576 0)
+scratch-room : (n : ℕ) → n ≤ mostClaims → n * 6 ≤ length (replicate {A = ℕ} scratchRoom 0)
+scratch-room n h = omega (arith, length-replicate {A = ℕ} scratchRoom 0)
 
 returns : tie.Need-returns
 returns c = λ references. sound-over (store _ references _ _) (c .if1 .taken)
@@ -23,7 +24,7 @@ slice-aggregate-rebuild c = search needs
 rebuild-requires : tie.Need-rebuild-requires
 rebuild-requires c κs =
     let p = c .before .before .before .before .pre in
-    let few : c .before .before .before .before .args .t .count ≤ 4096 = omega (arith, p .most) in
+    let few : c .before .before .before .before .args .t .count ≤ mostClaims = omega (arith, p .most) in
     ((scratch-room _ few, few), lent-located _ _ _ _ p (omega arith))
 
 returns-2 : tie.Need-returns-2
@@ -44,7 +45,7 @@ same-front-requires : tie.Need-same-front-requires
 same-front-requires c κs =
     let p = c .before .before .before .before .before .before .before .before .before .pre in
     let f = rebuild-few _ _ _ _ _ _ _ (c .before .before .before .before .rebuild .ensures) (scratch-room _ (omega (arith, p .most))) (omega (arith, p .most)) in
-    (omega (arith, f .0, f .1, p .most, scratch-room 4096 (lit≤ tt)), omega (arith, f .0, p .rooms))
+    (omega (arith, f .0, f .1, p .most, scratch-room mostClaims (lit≤ tt)), omega (arith, f .0, p .rooms))
 
 returns-3 : tie.Need-returns-3
 returns-3 c =
