@@ -1,10 +1,12 @@
 -- Laws of calls that refuse or give: one test after another, one step after another. Assumes nothing.
 use Prim.Native.Nat.{ℕ, suc}
-use mathlib.Core.Path.{_≡_, refl}
+use mathlib.Core.Path.{_≡_, refl, sym, ap, _∙_}
 use mathlib.Core.Bool.{Bool, true, false}
 use native.Mathlib.Omega.{arith}
-use Rattle.paper.specs.Outcomes.{Outcome, refused, gives, must, onto, number}
+use Rattle.paper.specs.Outcomes.{Outcome, refused, gives, must, onto, number, leaves, Promise}
 
+-- A call's refusals are one chain of tests, `must a 1 (must b 2 (gives x))`: behind a test that passes it goes on, at one that fails it
+-- stops. Ways through a call are these two, joined by `∙`, so that a new number costs one line of the chain and one of its proof.
 module _ {A : Type 0} (b : Bool) (n : ℕ) (x : Outcome A) where
   pub must-go : b ≡ true → must b n x ≡ x
   must-go p = rw p
@@ -43,3 +45,21 @@ through (gives a) f b p = record { value = a; first = refl; second = p }
 
 pub same-given : {A : Type 0} (a b : A) → gives a ≡ gives b → a ≡ b
 same-given a b p = cc
+
+-- ---- promises
+
+module _ {A R M : Type 0} (shown : Outcome A → R) (put : A → M → M) (o : Outcome A) (before : M) where
+  -- two results that a promise allows are equal, and so is what they leave
+  pub settled : (r r' : R) (after after' : M) → Promise shown put o before r after → Promise shown put o before r' after' → (r ≡ r') × (after ≡ after')
+  settled r r' after after' p q = (p .result ∙ sym (q .result), p .memory ∙ sym (q .memory))
+
+  -- a refusal changes nothing that was lent
+  pub kept : (n : ℕ) (r : R) (after : M) → o ≡ refused n → Promise shown put o before r after → after ≡ before
+  kept n r after e p = p .memory ∙ ap (λ (u : Outcome A). leaves put u before) e
+
+  -- how a call comes to its promise: by its refusal, or by what it gives
+  pub promise-refused : (n : ℕ) (r : R) → o ≡ refused n → r ≡ shown (refused n) → Promise shown put o before r before
+  promise-refused n r e q = record { result = q ∙ ap shown (sym e); memory = sym (ap (λ (u : Outcome A). leaves put u before) e) }
+
+  pub promise-given : (a : A) (r : R) (after : M) → o ≡ gives a → r ≡ shown (gives a) → after ≡ put a before → Promise shown put o before r after
+  promise-given a r after e q m = record { result = q ∙ ap shown (sym e); memory = m ∙ sym (ap (λ (u : Outcome A). leaves put u before) e) }

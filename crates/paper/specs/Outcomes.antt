@@ -1,5 +1,6 @@
 -- Document 01, "Numbers given back": "A refusal returns its number only". Definitions only.
 use Prim.Native.Nat.{ℕ}
+use mathlib.Core.Path.{_≡_}
 use mathlib.Core.Bool.{Bool, true, false}
 
 -- what a call gives: a refusal's number, or a value
@@ -21,3 +22,18 @@ onto (gives a) f = f a
 abbrev pub number : {A : Type 0} → Outcome A → ℕ
 number (refused n) = n
 number (gives a) = 0
+
+-- what a call leaves of lent memory: all of it where it refuses, and otherwise what the given value makes of it
+abbrev pub leaves : {A M : Type 0} → (A → M → M) → Outcome A → M → M
+leaves put (refused n) memory = memory
+leaves put (gives a) memory = put a memory
+
+-- What every call promises. Its outcome o is a function of its input; the result r is how the outcome is shown, and lent memory, which
+-- was `before`, is what the outcome leaves. Both are settled for every input, refusals too.
+pub record Promise {A R M : Type 0} (shown : Outcome A → R) (put : A → M → M) (o : Outcome A) (before : M) (r : R) (after : M) : Type 0 where
+  pub result : r ≡ shown o
+  pub memory : after ≡ leaves put o before
+
+-- the same of a call that is lent memory for reading only
+abbrev pub Shows : {A R : Type 0} → (Outcome A → R) → Outcome A → R → Type 0
+Shows shown o r = r ≡ shown o
