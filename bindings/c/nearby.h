@@ -7,7 +7,7 @@
  * Memory. All memory is the caller's. A slice is a pointer and, as the next argument, its length in elements; a null pointer
  * goes with length 0. No call keeps a pointer, and none allocates. What a call may write must not overlap what else it is lent.
  *
- * Refusals. Every call checks its own input. What breaks a rule is refused under a number from 1 to 16, and the call then
+ * Refusals. Every call checks its own input. What breaks a rule is refused under a number of NEARBY_REFUSALS, and the call then
  * writes nothing: every table, list and room holds what it held before. Each call names its numbers in the order in which they
  * are tested; the first that applies is given. 0 is no refusal. nearby_refusal_meaning says what a number means.
  *
@@ -324,29 +324,38 @@ nearby_ask_read nearby_read_ask_line(const uint8_t *line, size_t line_length);
 nearby_answer_read nearby_read_answer_line(const uint8_t *line, size_t line_length);
 nearby_claim_read nearby_read_claim_line(const uint8_t *line, size_t line_length);
 
-/* What a refusal's number means; docs/refusals says what to do about it. */
+/* ---- Refusals ---- */
+
+/* The refusals: row(number, meaning) for each, in rising order. A number without a row is given by no call. docs/refusals says what
+ * to do about each. */
+#define NEARBY_REFUSALS(row) \
+    row(1, "measure, d or capacity out of range, or lent memory smaller than these need") \
+    row(2, "table or list not sound") \
+    row(3, "count plus run over capacity") \
+    row(4, "no node room free") \
+    row(5, "probe length not d, or a run's coordinates not d for each reference") \
+    row(6, "page size out of range") \
+    row(7, "snapshot over the count") \
+    row(8, "mark number not below the snapshot, or mark distance not that claim's distance, or over reach") \
+    row(9, "not an even, nonzero run of the sixteen digits and a final 0A, or over 573 characters") \
+    row(10, "not this kind of line, or a field outside its range") \
+    row(11, "table number, measure or d not this table's") \
+    row(12, "output room too small") \
+    row(13, "not an answer to the list's present ask") \
+    row(14, "a page whose items do not hold") \
+    row(15, "list room too small for the page") \
+    row(16, "list complete")
+
+/* What a refusal's number means. */
 static inline const char *nearby_refusal_meaning(uint8_t refusal)
 {
+#define NEARBY_MEANS(number, meaning) case number: return meaning;
     switch (refusal) {
     case 0: return "no refusal";
-    case 1: return "measure, d or capacity out of range, or lent memory smaller than these need";
-    case 2: return "table or list not sound";
-    case 3: return "count plus run over capacity";
-    case 4: return "no node room free";
-    case 5: return "probe length not d, or a run's coordinates not d for each reference";
-    case 6: return "page size out of range";
-    case 7: return "snapshot over the count";
-    case 8: return "mark number not below the snapshot, or mark distance not that claim's distance, or over reach";
-    case 9: return "not an even, nonzero run of the sixteen digits and a final 0A, or over 573 characters";
-    case 10: return "not this kind of line, or a field outside its range";
-    case 11: return "table number, measure or d not this table's";
-    case 12: return "output room too small";
-    case 13: return "not an answer to the list's present ask";
-    case 14: return "a page whose items do not hold";
-    case 15: return "list room too small for the page";
-    case 16: return "list complete";
+    NEARBY_REFUSALS(NEARBY_MEANS)
     default: return "no such refusal";
     }
+#undef NEARBY_MEANS
 }
 
 #ifdef __cplusplus

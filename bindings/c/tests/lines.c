@@ -99,6 +99,7 @@ static void damage_field(seeded *from, fields *f)
     }
 }
 
+/* Every other time in a room of any length: 10 comes before 12. */
 static void writers_with_fields_amiss(void)
 {
     seeded from = seed(22);
@@ -108,9 +109,10 @@ static void writers_with_fields_amiss(void)
         fields f = any_fields(&from);
         for (size_t i = 0; i <= below(&from, 2); i++)
             damage_field(&from, &f);
-        write_ask_of(&f, (output){ out, sizeof out });
-        write_answer_of(&f, (output){ out, sizeof out });
-        write_claim_of(&f, (output){ out, sizeof out });
+        output any_room = { out, one_in(&from, 2) ? below(&from, sizeof out) : sizeof out };
+        write_ask_of(&f, any_room);
+        write_answer_of(&f, any_room);
+        write_claim_of(&f, any_room);
     }
 }
 

@@ -4,9 +4,18 @@
 int main(void)
 {
     table_tests();
+    table_trial_tests();
+    table_refusal_tests();
+    example_tests();
     question_tests();
     line_tests();
+    line_vector_tests();
+    line_refusal_tests();
+    line_storm_tests();
     list_tests();
+    list_refusal_tests();
+    take_refusal_tests();
+    journey_tests();
     many_tests();
     edge_tests();
     thread_tests();

@@ -170,37 +170,6 @@ static void questions_on_large_tables(void)
         }
 }
 
-/* Examples b to j of document 01. */
-static void examples_b_to_j(void)
-{
-    seeded from = seed(16);
-    store s = marked_store(&from, 8);
-    const int32_t four[] = { 4 }, low[] = { INT32_MIN };
-    places p = { four, 1 };
-    uint64_t items[48] = { 0 };
-    room out = { items, 48 };
-    const uint64_t in_order[] = { 1, 0x66, 1, 4, 0x69, 1, 0, 0x65, 2, 3, 0x68, 2, 2, 0x67, 5 };
-    nearby_filled page = try_page(&s, p, 5, (nearby_start){ 0 }, 5, out);
-    CHECK(page.count == 5 && page.last == 0 && memcmp(items, in_order, sizeof in_order) == 0);
-    page = try_page(&s, p, 5, (nearby_start){ 1, 5, 5, 2 }, 5, out);
-    CHECK(page.count == 0 && page.last == 1);
-    CHECK(try_nearest(&s, p, 5).number == 1 && try_nearest(&s, p, 1).number == 1 && try_nearest(&s, p, 0).found == 0);
-    nearby_item far = try_farthest(&s, p);
-    CHECK(far.number == 2 && far.distance == 5);
-    CHECK(try_page(&s, p, 5, (nearby_start){ 1, 5, 2, 4 }, 2, out).refusal == 8);
-    CHECK(try_page(&s, p, 5, (nearby_start){ 1, 6, 2, 3 }, 2, out).refusal == 7);
-    const uint32_t reference[] = { 0x6a };
-    CHECK(try_enter(&s, reference, 1, p).refusal == 0);
-    page = try_page(&s, p, 5, (nearby_start){ 1, 5, 1, 4 }, 2, out);
-    CHECK(page.count == 2 && page.last == 0 && items[0] == 0 && items[3] == 3);
-    page = try_page(&s, p, 5, (nearby_start){ 1, 5, 2, 3 }, 2, out);
-    CHECK(page.count == 1 && page.last == 1 && items[0] == 2);
-    const int32_t high[] = { INT32_MAX };
-    CHECK(try_enter(&s, reference, 1, (places){ high, 1 }).refusal == 0);
-    CHECK(try_farthest(&s, (places){ low, 1 }).distance == 4294967295u);
-    free_store(&s);
-}
-
 /* A mark of 0 and 0 holds back claim 0; the start holds back none. */
 static void start_is_no_mark(void)
 {
@@ -242,7 +211,6 @@ void question_tests(void)
     run_test("questions: pages after every mark", pages_after_every_mark);
     run_test("questions: pages in every snapshot", pages_in_every_snapshot);
     run_test("questions: large tables", questions_on_large_tables);
-    run_test("questions: examples b to j", examples_b_to_j);
     run_test("questions: the start is no mark", start_is_no_mark);
     run_test("questions: probes and page sizes amiss", probes_and_sizes_amiss);
 }

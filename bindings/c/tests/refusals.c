@@ -1,13 +1,11 @@
 /* What the other tests reached: each refusal of each call, and no other. */
+#include "orders.h"
 #include "tests.h"
-#include "try.h"
 
 #include <stdio.h>
 #include <string.h>
 
-/* The numbers of each call, as document 01 lists them, and a 0 at the end. 4 is left out: in a sound table a node room is free
- * wherever a claim has room, so nothing can reach it. */
-static const uint8_t numbers[CALLS][10] = {
+const uint8_t call_numbers[CALLS][MOST_NUMBERS] = {
     [MAKE] = { 1 },
     [TEST] = { 1, 2 },
     [ENTER] = { 1, 2, 5, 3 },
@@ -30,28 +28,66 @@ static const uint8_t numbers[CALLS][10] = {
     [MANY_ANSWERS] = { 12, 1, 2 },
 };
 
+const uint8_t row_numbers[CALLS][MOST_NUMBERS] = {
+    [MANY_PAGES] = { 7, 8 },
+    [MANY_ANSWERS] = { 9, 10, 11, 7, 8 },
+};
+
+/* The header's refusals. */
+#define ROW(number, meaning) { number, meaning },
+static const struct {
+    uint8_t number;
+    const char *meaning;
+} refusals[] = { NEARBY_REFUSALS(ROW) };
+
+static bool is_refusal(unsigned number)
+{
+    for (size_t i = 0; i < LENGTH(refusals); i++)
+        if (refusals[i].number == number)
+            return true;
+    return false;
+}
+
 static void every_refusal_reached(void)
 {
     for (call which = 0; which < CALLS; which++) {
         CHECK(times_given(which, 0) > 0);
-        for (uint8_t refusal = 1; refusal <= 16; refusal++) {
-            bool listed = memchr(numbers[which], refusal, sizeof numbers[which]) != NULL;
-            if (!CHECK((times_given(which, refusal) > 0) == listed))
-                printf(" (call %d, refusal %u)", (int)which, refusal);
+        for (int number = 1; number <= UINT8_MAX; number++) {
+            bool listed = memchr(call_numbers[which], number, MOST_NUMBERS) != NULL;
+            if (!CHECK((times_given(which, (uint8_t)number) > 0) == listed))
+                printf(" (call %d, refusal %d)", (int)which, number);
         }
     }
 }
 
-static void every_number_has_a_meaning(void)
+/* A call lists numbers of the header alone. */
+static void every_listed_number_is_a_refusal(void)
 {
-    for (unsigned a = 0; a <= 17; a++)
-        for (unsigned b = 0; b < a; b++)
-            CHECK(strcmp(nearby_refusal_meaning((uint8_t)a), nearby_refusal_meaning((uint8_t)b)) != 0);
-    CHECK(strcmp(nearby_refusal_meaning(17), nearby_refusal_meaning(255)) == 0);
+    for (call which = 0; which < CALLS; which++)
+        for (size_t i = 0; i < MOST_NUMBERS; i++) {
+            CHECK(call_numbers[which][i] == 0 || is_refusal(call_numbers[which][i]));
+            CHECK(row_numbers[which][i] == 0 || is_refusal(row_numbers[which][i]));
+        }
+}
+
+/* Its row's, which no other has; and a number without a row is no refusal, whether it lies between two rows or behind all. */
+static void every_refusal_has_a_meaning(void)
+{
+    const char *none = nearby_refusal_meaning(0), *no_such = nearby_refusal_meaning(255);
+    CHECK(LENGTH(refusals) > 0 && strcmp(none, no_such) != 0);
+    for (size_t i = 0; i < LENGTH(refusals); i++) {
+        const char *meaning = nearby_refusal_meaning(refusals[i].number);
+        CHECK(strcmp(meaning, refusals[i].meaning) == 0 && strcmp(meaning, none) != 0 && strcmp(meaning, no_such) != 0);
+        for (size_t k = 0; k < i; k++)
+            CHECK(refusals[k].number < refusals[i].number && strcmp(meaning, refusals[k].meaning) != 0);
+    }
+    for (unsigned number = 1; number <= UINT8_MAX; number++)
+        CHECK(is_refusal(number) == (strcmp(nearby_refusal_meaning((uint8_t)number), no_such) != 0));
 }
 
 void refusal_tests(void)
 {
     run_test("refusals: every one of every call was reached, and no other", every_refusal_reached);
-    run_test("refusals: every number has a meaning", every_number_has_a_meaning);
+    run_test("refusals: the calls list no others", every_listed_number_is_a_refusal);
+    run_test("refusals: every one has a meaning", every_refusal_has_a_meaning);
 }

@@ -1,43 +1,6 @@
-/* Tables: built, damaged, over capacity. */
+/* Tables: runs that do not fit, and every call on damaged tables. */
 #include "stores.h"
 #include "tests.h"
-
-#include <string.h>
-
-/* Every measure, d and style with a few counts; entering compares each room with the model's. */
-static void built_as_the_paper_says(void)
-{
-    seeded from = seed(1);
-    const size_t counts[] = { 0, 1, 2, 3, 7, 40, 150 };
-    for (uint8_t measure = 1; measure <= 3; measure++)
-        for (size_t d = 1; d <= 8; d++)
-            for (style how = 0; how < STYLES; how++)
-                for (size_t i = 0; i < LENGTH(counts); i++) {
-                    store s = full_store(&from, measure, d, counts[i] + 1 + below(&from, 9), counts[i], how);
-                    CHECK(s.table.count == counts[i] && try_test(&s) == 0);
-                    free_store(&s);
-                }
-}
-
-static void built_to_the_largest_capacity(void)
-{
-    seeded from = seed(2);
-    for (style how = 0; how < STYLES; how++) {
-        store s = full_store(&from, (uint8_t)(1 + how % 3), 1 + below(&from, 8), 4096, 4096, how);
-        CHECK(s.table.count == 4096 && try_test(&s) == 0);
-        free_store(&s);
-    }
-}
-
-/* Example a: root 2 and 3, far distance 6 on its right; below it 9 and 6, far distance 1 on the right; below that 5. */
-static void example_a(void)
-{
-    seeded from = seed(3);
-    store s = marked_store(&from, 8);
-    const uint64_t rooms[] = { 1, 2, 0, 6, 0, 2, 3, 4, 0, 1, 0, 3, 5, 0, 0, 0, 0, 0 };
-    CHECK(s.table.used == 3 && memcmp(s.rooms, rooms, sizeof rooms) == 0);
-    free_store(&s);
-}
 
 static void runs_go_in_whole_or_not_at_all(void)
 {
@@ -92,7 +55,7 @@ static void all_calls(const store *s)
     try_enter(&entered, NULL, 0, (places){ NULL, 0 });
 }
 
-/* A number of the rooms in use is never changed without 2; one behind them is never read. */
+/* Every call with one number of the rooms changed: one in use is never changed without 2, one behind them is never read. */
 static void rooms_damaged(void)
 {
     seeded from = seed(6);
@@ -191,9 +154,6 @@ static void memory_too_small(void)
 
 void table_tests(void)
 {
-    run_test("tables: rooms are built as the paper says", built_as_the_paper_says);
-    run_test("tables: up to the largest capacity", built_to_the_largest_capacity);
-    run_test("tables: example a", example_a);
     run_test("tables: runs go in whole or not at all", runs_go_in_whole_or_not_at_all);
     run_test("tables: runs with coordinates amiss", runs_with_coordinates_amiss);
     run_test("tables: damaged rooms", rooms_damaged);

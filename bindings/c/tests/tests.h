@@ -3,9 +3,18 @@
 #define TESTS_H
 
 void table_tests(void);
+void table_trial_tests(void);
+void table_refusal_tests(void);
+void example_tests(void);
 void question_tests(void);
 void line_tests(void);
+void line_vector_tests(void);
+void line_refusal_tests(void);
+void line_storm_tests(void);
 void list_tests(void);
+void list_refusal_tests(void);
+void take_refusal_tests(void);
+void journey_tests(void);
 void many_tests(void);
 void edge_tests(void);
 void thread_tests(void);

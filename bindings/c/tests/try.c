@@ -3,7 +3,7 @@
 #include <stdlib.h>
 #include <string.h>
 
-static size_t given_so_far[CALLS][17];
+static size_t given_so_far[CALLS][UINT8_MAX + 1];
 
 size_t times_given(call which, uint8_t refusal)
 {
@@ -12,8 +12,7 @@ size_t times_given(call which, uint8_t refusal)
 
 static void note(call which, uint8_t refusal)
 {
-    if (CHECK(refusal <= 16))
-        given_so_far[which][refusal]++;
+    given_so_far[which][refusal]++;
 }
 
 /* ---- Lent memory before and after ---- */

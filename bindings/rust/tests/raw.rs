@@ -83,12 +83,23 @@ fn unsound_lists() {
     }
 }
 
+/// The rows of nearby.h's refusals: numbers with their meanings.
+fn rows_of_the_header() -> Vec<(u8, String)> {
+    let header = std::fs::read_to_string(concat!(env!("CARGO_MANIFEST_DIR"), "/../c/nearby.h")).unwrap();
+    let row = |line: &str| {
+        let (number, meaning) = line.trim().strip_prefix("row(")?.split_once(", \"")?;
+        Some((number.parse().unwrap(), meaning.rsplit_once("\")")?.0.to_string()))
+    };
+    header.lines().filter_map(row).collect()
+}
+
 #[test]
-fn refusals_by_number() {
+fn refusals_are_the_headers() {
+    let rows = rows_of_the_header();
+    assert!(!rows.is_empty());
+    assert_eq!(Refusal::ALL.iter().map(|refusal| (refusal.number(), refusal.to_string())).collect::<Vec<_>>(), rows);
     for number in 0..=255 {
-        let refusal = Refusal::from_number(number);
-        assert_eq!(refusal.map(Refusal::number), (1..=16).contains(&number).then_some(number));
+        let known = rows.iter().any(|row| row.0 == number);
+        assert_eq!(Refusal::from_number(number).map(Refusal::number), known.then_some(number));
     }
-    let said: std::collections::HashSet<String> = (1..=16).map(|n| Refusal::from_number(n).unwrap().to_string()).collect();
-    assert_eq!(said.len(), 16);
 }

@@ -1,9 +1,11 @@
 -- Where things stand while a line is written or read: places are counted in bytes of the frame. Assumes nothing.
-use Prim.Native.Nat.{ℕ, _+_, _*_, _^_, _<_}
+use Prim.Native.Nat.{ℕ, _+_, _*_, _^_, _≤_, _<_}
 use mathlib.Core.Path.{_≡_}
+use mathlib.Core.Bool.{true, false}
 use mathlib.Core.List.{List, _++_}
 use lib.ListN.{length, take, drop}
-use Rattle.paper.specs.Frames.{num, hexes}
+use Rattle.paper.specs.Limits.{longestFrame}
+use Rattle.paper.specs.Frames.{num, hexes, frameOf, sound}
 
 -- the characters o, with the frame f written as digits from byte `at` on, and everything else kept
 unfoldable pub over : List ℕ → ℕ → List ℕ → List ℕ
@@ -17,3 +19,10 @@ held s = s
 pub record Field (s : List ℕ) (at w r : ℕ) : Type 0 where
   pub value : r ≡ num w (drop at (held s))
   pub small : r < 256 ^ w
+
+-- the first r bytes of a buffer are the frame of a sound line, and r is 0 for any other line
+pub record Framed (line after : List ℕ) (r : ℕ) : Type 0 where
+  pub sure : 0 < r → sound line ≡ true
+  pub none : r ≡ 0 → sound line ≡ false
+  pub frame : 0 < r → held (take r after) ≡ frameOf line
+  pub few : r ≤ longestFrame

@@ -5,6 +5,8 @@ ghost use Prim.Native.Nat.{_/_, _≤_, _<_};
 ghost use lib.ListN.{length, drop};
 ghost use Rattle.paper.specs.Frames.{sound, frameOf};
 ghost use Rattle.paper.specs.Frames.{glyph as Frames·glyph, digit as Frames·digit};
+ghost use Rattle.paper.specs.Limits.{longestFrame};
+ghost use Rattle.digits.specs.Places.{Framed};
 use paper::limits::LONGEST_ANSWER;
 
 pub fn glyph(n: u64) -> u8
@@ -59,7 +61,7 @@ pub fn is_sound(line: &[u8]) -> bool
 }
 
 // Writes the frame of a line to the front of `out`, and gives the frame's length.
-pub fn unhex(line: &[u8], out: &mut [u8]) -> usize
+fn unhex(line: &[u8], out: &mut [u8]) -> usize
     requires { ⌜ length (now line) / 2 ≤ length (now out) ⌝ }
     ensures { λ r. ⌜ (r ≡ length (now (line .entry)) / 2) × (now (out .exit) ≡ frameOf (now (line .entry)) ++ drop r (now (out .entry))) ⌝ }
 {
@@ -71,4 +73,15 @@ pub fn unhex(line: &[u8], out: &mut [u8]) -> usize
         i += 1;
     }
     n
+}
+
+// The frame of a sound line at the front of `out`, and its length; 0 for a line that is not sound: a sound line has a byte at least.
+pub fn frame_of(line: &[u8], out: &mut [u8]) -> usize
+    requires { ⌜ longestFrame ≤ length (now out) ⌝ }
+    ensures { λ r. ⌜ Framed (now (line .entry)) (now (out .exit)) r ⌝ }
+{
+    if !is_sound(line) {
+        return 0;
+    }
+    unhex(line, out)
 }

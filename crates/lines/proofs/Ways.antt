@@ -1,5 +1,5 @@
 -- The ways through a writer and through a reader, whatever the kind, and the line end that every writer stores. Assumes nothing.
-use Prim.Native.Nat.{ℕ, suc, _+_, _*_, _/_, _≤_, _<_}
+use Prim.Native.Nat.{ℕ, suc, _+_, _*_, _≤_, _<_}
 use native.Mathlib.Omega.{arith}
 use mathlib.Core.Path.{_≡_, refl, sym, ap, _∙_}
 use mathlib.Core.Bool.{Bool, true, false, cond}
@@ -10,9 +10,8 @@ use borrow.Author.Tests.{le-leb, lt-leb}
 use Rattle.paper.specs.Frames.{hexes, lineOf, frameOf, sound, written}
 use Rattle.paper.specs.Lines.{wrote, room, Writes, reading}
 use Rattle.paper.specs.declared.lines.Wrote.the-variants.{Line, Refused}
-use Rattle.digits.specs.Places.{over, held}
-use Rattle.digits.proofs.Laws.{over-eq, length-hexes, length-line, length-frame, held-all, sound-size}
-use Rattle.paper.specs.Limits.{longestFrame}
+use Rattle.digits.specs.Places.{over, held, Framed}
+use Rattle.digits.proofs.Laws.{over-eq, length-hexes, length-line}
 
 -- ---- writers
 
@@ -50,15 +49,6 @@ front-is-line f o = take-at (lineOf f) (drop (length (lineOf f)) o) (length (lin
 
 -- ---- readers
 
--- a sound line's frame fits the buffer of 286 bytes
-pub buffered : (l : List ℕ) → sound l ≡ true → length l / 2 ≤ longestFrame
-buffered l e = omega (arith, sound-size l e)
-
--- what the front of the buffer holds that `unhex` filled
-pub framed : (l o x : List ℕ) (r : ℕ) → r ≡ length l / 2 → x ≡ frameOf l ++ drop r o → held (take r x) ≡ frameOf l
-framed l o x r e q =
-    held-all (take r x) ∙ ap (take r) q ∙ take-at (frameOf l) (drop r o) r (length-frame l ∙ sym e)
-
 module _ {A : Type 0} (ok : List ℕ → Bool) (value : List ℕ → A) (none : ℕ → A) (l : List ℕ) where
   pub reads : sound l ≡ true → ok (frameOf l) ≡ true → reading ok value none l ≡ value (frameOf l)
   unfolding reading
@@ -71,6 +61,21 @@ module _ {A : Type 0} (ok : List ℕ → Bool) (value : List ℕ → A) (none : 
   pub reads-9 : sound l ≡ false → reading ok value none l ≡ none 9
   unfolding reading
   reads-9 s = rw s
+
+  -- as the code goes: r bytes of the buffer x are the frame, or the line is not sound and r is 0
+  module _ (x : List ℕ) (r : ℕ) (f : Framed l x r) where
+    pub way-9 : r ≡ 0 → none 9 ≡ reading ok value none l
+    way-9 z = sym (reads-9 (f .none z))
+
+    module _ (some : r ≡ 0 → ⊥) where
+      long : 0 < r
+      long = omega (arith, some)
+
+      pub way-10 : ok (held (take r x)) ≡ false → none 10 ≡ reading ok value none l
+      way-10 e = sym (reads-10 (f .sure long) (ap ok (sym (f .frame long)) ∙ e))
+
+      pub way-read : ok (held (take r x)) ≡ true → value (held (take r x)) ≡ reading ok value none l
+      way-read e = ap value (f .frame long) ∙ sym (reads (f .sure long) (ap ok (sym (f .frame long)) ∙ e))
 
 -- a reader that refused nothing found both tests true
 accepted-of : {A : Type 0} (s k : Bool) (good : A) (none : ℕ → A) (refusal : A → ℕ) → ((n : ℕ) → refusal (none n) ≡ n) → refusal (cond s (cond k good (none 10)) (none 9)) ≡ 0 → (s ≡ true) × (k ≡ true)

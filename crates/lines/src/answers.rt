@@ -207,17 +207,17 @@ fn no_answer(n: u8) -> AnswerRead
 pub fn read_answer_as(kind: u8, line: &[u8]) -> AnswerRead
     ensures { λ r. ⌜ r ≡ answerOf kind (now (line .entry)) ⌝ }
 {
-    if digits::is_sound(line) {
-        let mut frame = [0u8; LONGEST_FRAME];
-        let n = digits::unhex(line, &mut frame);
-        let src = &frame[..n];
-        if answer_ok(src, kind) {
-            let answer = answer_at(src);
-            return AnswerRead { refusal: 0, answer };
-        }
-        return no_answer(10);
+    let mut frame = [0u8; LONGEST_FRAME];
+    let n = digits::frame_of(line, &mut frame);
+    if n == 0 {
+        return no_answer(9);
     }
-    no_answer(9)
+    let src = &frame[..n];
+    if answer_ok(src, kind) {
+        let answer = answer_at(src);
+        return AnswerRead { refusal: 0, answer };
+    }
+    no_answer(10)
 }
 
 pub fn read_answer(line: &[u8]) -> AnswerRead

@@ -163,17 +163,17 @@ fn no_ask(n: u8) -> AskRead
 pub fn read_ask_as(kind: u8, line: &[u8]) -> AskRead
     ensures { λ r. ⌜ r ≡ askOf kind (now (line .entry)) ⌝ }
 {
-    if digits::is_sound(line) {
-        let mut frame = [0u8; LONGEST_FRAME];
-        let n = digits::unhex(line, &mut frame);
-        let src = &frame[..n];
-        if ask_ok(src, kind) {
-            let ask = ask_at(src);
-            return AskRead { refusal: 0, ask };
-        }
-        return no_ask(10);
+    let mut frame = [0u8; LONGEST_FRAME];
+    let n = digits::frame_of(line, &mut frame);
+    if n == 0 {
+        return no_ask(9);
     }
-    no_ask(9)
+    let src = &frame[..n];
+    if ask_ok(src, kind) {
+        let ask = ask_at(src);
+        return AskRead { refusal: 0, ask };
+    }
+    no_ask(10)
 }
 
 pub fn read_ask(line: &[u8]) -> AskRead

@@ -108,15 +108,15 @@ fn no_claim(n: u8) -> ClaimRead
 pub fn read_claim(line: &[u8]) -> ClaimRead
     ensures { λ r. ⌜ r ≡ claimOf (now (line .entry)) ⌝ }
 {
-    if digits::is_sound(line) {
-        let mut frame = [0u8; LONGEST_FRAME];
-        let n = digits::unhex(line, &mut frame);
-        let src = &frame[..n];
-        if claim_ok(src) {
-            let claim = claim_at(src);
-            return ClaimRead { refusal: 0, claim };
-        }
-        return no_claim(10);
+    let mut frame = [0u8; LONGEST_FRAME];
+    let n = digits::frame_of(line, &mut frame);
+    if n == 0 {
+        return no_claim(9);
     }
-    no_claim(9)
+    let src = &frame[..n];
+    if claim_ok(src) {
+        let claim = claim_at(src);
+        return ClaimRead { refusal: 0, claim };
+    }
+    no_claim(10)
 }

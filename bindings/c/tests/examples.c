@@ -1,0 +1,204 @@
+/*
+ * Examples that were worked by hand: distances, and the marked examples a to j of document 01. These have claims 2, 3, 9, 6, 5 of
+ * one coordinate, measure 1, probe 4, and reach 5 unless said.
+ */
+#include "stores.h"
+#include "tests.h"
+
+#include <string.h>
+
+/* ---- Distances ---- */
+
+#define LOW INT32_MIN
+#define HIGH INT32_MAX
+
+/* Two points of d coordinates, and how far they are apart by measure 1, 2 and 3. */
+static const struct {
+    size_t d;
+    int32_t a[8], b[8];
+    uint64_t apart[3];
+} distances[] = {
+    /* document 001's two examples, and the marked examples' probe beside two of their claims */
+    { 3, { 1, 2, 3 }, { 4, 4, 4 }, { 6, 3, 3 } },
+    { 3, { 1, 2, 3 }, { 1, 3, 2 }, { 2, 1, 2 } },
+    { 1, { 4 }, { 9 }, { 5, 5, 1 } },
+    { 1, { 4 }, { 2 }, { 2, 2, 1 } },
+    /* the ends of the range, where a difference has no room in 32 bits; the first is example i, and at d = 8 they are the greatest
+     * distances that there are */
+    { 1, { LOW }, { HIGH }, { 4294967295, 4294967295, 1 } },
+    { 1, { HIGH }, { LOW }, { 4294967295, 4294967295, 1 } },
+    { 1, { LOW }, { 0 }, { 2147483648, 2147483648, 1 } },
+    { 8, { LOW, LOW, LOW, LOW, LOW, LOW, LOW, LOW }, { HIGH, HIGH, HIGH, HIGH, HIGH, HIGH, HIGH, HIGH },
+      { 34359738360, 4294967295, 8 } },
+    /* signs, equal points, and a largest difference that is not the last */
+    { 1, { 0 }, { 0 }, { 0, 0, 0 } },
+    { 2, { -7, 7 }, { 7, -7 }, { 28, 14, 2 } },
+    { 2, { -3, -5 }, { -8, -1 }, { 9, 5, 2 } },
+    { 4, { 100, 1, 1, 1 }, { 0, 0, 0, 0 }, { 103, 100, 4 } },
+    { 8, { 5, 5, 5, 5, 5, 5, 5, 5 }, { 5, 5, 5, 5, 5, 5, 5, 5 }, { 0, 0, 0 } },
+};
+
+/* The distance shows in a table of one claim: in its nearest, its farthest and its page, and in the reach that just includes it. */
+static void check_distance(uint8_t measure, places claim, places probe, uint64_t apart)
+{
+    seeded from = seed(81);
+    const uint32_t given[] = { 101 };
+    uint64_t items[2 * NEARBY_ITEM];
+    store s = lend_store(&from, claim.length, 1, 0);
+    s.table = try_make(7, measure, claim.length, 1, &s).table;
+    CHECK(try_enter(&s, given, 1, claim).refusal == 0);
+    nearby_item nearest = try_nearest(&s, probe, apart), farthest = try_farthest(&s, probe);
+    CHECK(nearest.found == 1 && nearest.number == 0 && nearest.reference == 101 && nearest.distance == apart);
+    CHECK(farthest.found == 1 && farthest.number == 0 && farthest.reference == 101 && farthest.distance == apart);
+    if (apart > 0)
+        CHECK(try_nearest(&s, probe, apart - 1).found == 0);
+    nearby_filled page = try_page(&s, probe, apart, (nearby_start){ 0 }, 2, (room){ items, LENGTH(items) });
+    CHECK(page.count == 1 && page.last == 1 && items[0] == 0 && items[1] == 101 && items[2] == apart);
+    free_store(&s);
+}
+
+static void distances_by_hand(void)
+{
+    CHECK(LENGTH(distances) == 13);
+    for (size_t i = 0; i < LENGTH(distances); i++)
+        for (uint8_t measure = 1; measure <= 3; measure++) {
+            places a = { distances[i].a, distances[i].d }, b = { distances[i].b, distances[i].d };
+            check_distance(measure, a, b, distances[i].apart[measure - 1]);
+            check_distance(measure, b, a, distances[i].apart[measure - 1]);
+        }
+}
+
+/* ---- The tree ---- */
+
+/* a: root 2 and 3, far distance 6 on its right; below it 9 and 6, far distance 1 on the right; below that 5. */
+static void example_a(void)
+{
+    seeded from = seed(82);
+    store s = marked_store(&from, 8);
+    const uint64_t rooms[] = { 1, 2, 0, 6, 0, 2, 3, 4, 0, 1, 0, 3, 5, 0, 0, 0, 0, 0 };
+    CHECK(s.table.used == 3 && memcmp(s.rooms, rooms, sizeof rooms) == 0);
+    free_store(&s);
+}
+
+/* "below the left one when the distances are equal": a claim at 1 beside 0 and 2. */
+static void ties_go_left(void)
+{
+    seeded from = seed(83);
+    store s = lend_store(&from, 1, 3, 0);
+    s.table = try_make(7, NEARBY_CITY_BLOCK, 1, 3, &s).table;
+    const uint32_t given[] = { 101, 102, 103 };
+    const int32_t run[] = { 0, 2, 1 };
+    const uint64_t rooms[] = { 1, 2, 1, 0, 2, 0, 3, 0, 0, 0, 0, 0 };
+    CHECK(try_enter(&s, given, 3, (places){ run, 3 }).refusal == 0);
+    CHECK(s.table.used == 2 && memcmp(s.rooms, rooms, sizeof rooms) == 0);
+    free_store(&s);
+}
+
+/* ---- Questions ---- */
+
+static const int32_t four[] = { 4 };
+static const places probe = { four, 1 };
+
+/* How far the claims are from the probe, by their numbers; their references are 101 and on. */
+static const uint64_t from_probe[] = { 2, 1, 5, 2, 1 };
+
+static bool found(nearby_item item, uint64_t number)
+{
+    return item.refusal == 0 && item.found == 1 && item.number == number && item.reference == 101 + number
+        && item.distance == from_probe[number];
+}
+
+/* c: nearest 1; farthest 2, distance 5. d: nearest within 0 nothing, within 1 number 1. */
+static void examples_c_and_d(void)
+{
+    seeded from = seed(84);
+    store s = marked_store(&from, 8);
+    CHECK(found(try_nearest(&s, probe, 5), 1) && found(try_farthest(&s, probe), 2));
+    nearby_item within_0 = try_nearest(&s, probe, 0);
+    CHECK(within_0.refusal == 0 && within_0.found == 0 && found(try_nearest(&s, probe, 1), 1));
+    free_store(&s);
+}
+
+/* A page: its claims by number, and whether it is the last. */
+typedef struct {
+    size_t count;
+    uint64_t numbers[5];
+    uint8_t last;
+} expected;
+
+/* Asks for pages, each from the last item of the one before, and compares each. */
+static void check_pages(const store *s, nearby_start start, size_t size, const expected *pages, size_t length)
+{
+    for (size_t i = 0; i < length; i++) {
+        uint64_t items[NEARBY_MOST_PAGE * NEARBY_ITEM];
+        nearby_filled page = try_page(s, probe, 5, start, size, (room){ items, LENGTH(items) });
+        CHECK(page.refusal == 0 && page.count == pages[i].count && page.last == pages[i].last);
+        for (size_t k = 0; k < page.count && k < pages[i].count; k++) {
+            const uint64_t *item = items + k * NEARBY_ITEM;
+            CHECK(found((nearby_item){ 0, 1, item[0], item[1], item[2] }, pages[i].numbers[k]));
+            start = (nearby_start){ 1, 5, item[2], item[0] };
+        }
+    }
+}
+
+/* b: near order by number is 1, 4, 0, 3, 2. e: in pages of 2. In pages of 1 and of 3 marks stand between claims as far. */
+static void examples_b_and_e(void)
+{
+    seeded from = seed(85);
+    store s = marked_store(&from, 8);
+    const nearby_start start = { 0 };
+    const expected by_1[] = { { 1, { 1 }, 0 }, { 1, { 4 }, 0 }, { 1, { 0 }, 0 }, { 1, { 3 }, 0 }, { 1, { 2 }, 0 },
+                              { 0, { 0 }, 1 } };
+    const expected by_2[] = { { 2, { 1, 4 }, 0 }, { 2, { 0, 3 }, 0 }, { 1, { 2 }, 1 } };
+    const expected by_3[] = { { 3, { 1, 4, 0 }, 0 }, { 2, { 3, 2 }, 1 } };
+    check_pages(&s, start, 1, by_1, LENGTH(by_1));
+    check_pages(&s, start, 2, by_2, LENGTH(by_2));
+    check_pages(&s, start, 3, by_3, LENGTH(by_3));
+    free_store(&s);
+}
+
+/* f: a claim at 4 entered after the first page changes none of e. */
+static void example_f(void)
+{
+    seeded from = seed(86);
+    store s = marked_store(&from, 8);
+    const uint32_t given[] = { 106 };
+    const expected rest[] = { { 2, { 0, 3 }, 0 }, { 1, { 2 }, 1 } };
+    CHECK(try_enter(&s, given, 1, probe).refusal == 0);
+    check_pages(&s, (nearby_start){ 1, 5, 1, 4 }, 2, rest, LENGTH(rest));
+    free_store(&s);
+}
+
+/* g: snapshot 5, mark distance 2, number 4: 8. h: snapshot 6 with five claims: 7. */
+static void examples_g_and_h(void)
+{
+    seeded from = seed(87);
+    store s = marked_store(&from, 8);
+    uint64_t items[2 * NEARBY_ITEM] = { 0 };
+    room out = { items, LENGTH(items) };
+    CHECK(try_page(&s, probe, 5, (nearby_start){ 1, 5, 2, 4 }, 2, out).refusal == 8);
+    CHECK(try_page(&s, probe, 5, (nearby_start){ 1, 6, 1, 1 }, 2, out).refusal == 7);
+    free_store(&s);
+}
+
+/* j: a page of 5 is not last, and the next is empty and last. */
+static void example_j(void)
+{
+    seeded from = seed(88);
+    store s = marked_store(&from, 8);
+    const expected by_5[] = { { 5, { 1, 4, 0, 3, 2 }, 0 }, { 0, { 0 }, 1 } };
+    check_pages(&s, (nearby_start){ 0 }, 5, by_5, LENGTH(by_5));
+    free_store(&s);
+}
+
+void example_tests(void)
+{
+    run_test("examples: 39 distances by hand, i among them", distances_by_hand);
+    run_test("examples: a, the tree of five claims", example_a);
+    run_test("examples: a claim as near to both goes left", ties_go_left);
+    run_test("examples: b and e, pages of 1, 2 and 3", examples_b_and_e);
+    run_test("examples: c and d, nearest and farthest", examples_c_and_d);
+    run_test("examples: f, a claim entered between pages", example_f);
+    run_test("examples: g and h, places refused", examples_g_and_h);
+    run_test("examples: j, a page that is full and not last", example_j);
+}

@@ -1,0 +1,16 @@
+/* The refusals of each call, in the order in which they are tested. */
+#ifndef ORDERS_H
+#define ORDERS_H
+
+#include "try.h"
+
+enum { MOST_NUMBERS = 10 };
+
+/* The numbers of each call, as document 01 lists them, and a 0 at the end. 4 is left out: in a sound table a node room is free
+ * wherever a claim has room, so nothing can reach it. */
+extern const uint8_t call_numbers[CALLS][MOST_NUMBERS];
+
+/* The numbers that a call for many gives to single rows, behind those above. */
+extern const uint8_t row_numbers[CALLS][MOST_NUMBERS];
+
+#endif

@@ -1,0 +1,46 @@
+/* What the calls on a table take, all of it in order for the marked examples' table, and what may be wrong with it. */
+#ifndef TABLE_SCENE_H
+#define TABLE_SCENE_H
+
+#include "stores.h"
+
+/* The calls for many ask so many questions. Rooms are long enough for a page size that is one too large. */
+enum { ASKED = 3, LARGE_SIZE = NEARBY_MOST_PAGE + 1 };
+
+/* `start` is the place of the page, of the second of many pages, and of the ask line; that line is also the last of many. */
+typedef struct {
+    store s;
+    size_t given_length, run_length, probe_length, probes_length, starts_length;
+    nearby_start start;
+    uint64_t reach;
+    size_t size, room_length, rows_length, outcomes_length, items_length;
+    uint32_t asked_table;
+    uint8_t asked_measure, asked_d;
+    bool is_claim_line;
+    const char *line_end;
+    size_t out_length, answers_length;
+} scene;
+
+/* Table 7 with five claims, and the page of 2 after claim 4. */
+scene set_scene(seeded *from);
+
+typedef enum {
+    NO_FAULT,
+    /* the table */
+    MEASURE_0, CAPACITY_OVER_THE_MEMORY, ROOM_NUMBER_CHANGED, COUNT_OVER_CAPACITY,
+    /* the run, and lengths that go with d or with the number of questions */
+    COORDINATE_TOO_MANY, COORDINATE_MISSING, START_NUMBER_MISSING, RUN_OVER_CAPACITY,
+    /* the page */
+    SIZE_0, SIZE_17, SNAPSHOT_4, SNAPSHOT_6, MARK_NUMBER_5, MARK_NUMBER_6, MARK_DISTANCE_WRONG, MARK_OVER_REACH,
+    /* the rooms that are written */
+    ROOM_SHORT, OUTCOMES_SHORT, OUTPUT_SHORT,
+    /* the ask line */
+    NO_LINE_END, ODD_DIGITS, NOT_AN_ASK, TABLE_8, MEASURE_2, D_2,
+} fault;
+
+void put_fault(scene *c, fault f);
+
+/* Calls through try_*, and gives the call's refusal; where it has none, that of the row with the place or the line in question. */
+uint8_t call_scene(call which, scene *c);
+
+#endif
