@@ -10,9 +10,9 @@ use lib.Dec.{leb}
 use lib.ListN.{length, getD, take, drop, set, length-append, length-drop, List·getD-append}
 use lib.Seq.{take-at, drop-at, getD-append-add, drop-drop}
 use borrow.Author.Tests.{le-leb, le-ltb}
-use Rattle.paper.specs.Outcomes.{Outcome, refused, gives, number}
+use Rattle.paper.specs.Outcomes.{Outcome, refused, gives, number, leaves}
 use Rattle.paper.specs.Tree.{Store}
-use Rattle.paper.specs.Codec.{roomAfter}
+use Rattle.paper.specs.Lines.{putLine}
 use Rattle.paper.specs.Calls.{officeCall}
 use Rattle.paper.proofs.Outcomes.{must-go}
 use Rattle.batch.specs.Batch.{lineAt, Batch, start, answerNow, lengthSaid, rowPut, stepBy, step, goes, answered, startAt, nthLine, alone, lineSaid, answersOf, rowsOf, batchAt, AsAlone}
@@ -32,8 +32,8 @@ unfolding lineSaid lengthSaid
 said-size (refused n) = refl
 said-size (gives line) = refl
 
-room-is : (o : Outcome (List ℕ)) (room : List ℕ) → roomAfter o room ≡ lineSaid o ++ drop (length (lineSaid o)) room
-unfolding roomAfter lineSaid
+room-is : (o : Outcome (List ℕ)) (room : List ℕ) → leaves putLine o room ≡ lineSaid o ++ drop (length (lineSaid o)) room
+unfolding lineSaid
 room-is (refused n) room = refl
 room-is (gives line) room = refl
 
@@ -90,7 +90,7 @@ module _ (s : Store) (asks : List ℕ) where
           ∙ ap (λ (l : List ℕ). (Rows ++ (x ∷ y ∷ [])) ++ l) (drop-drop 2 (2 * n) outcomes ∙ ap (λ (i : ℕ). drop i outcomes) q)
 
       out-at : (o : Outcome (List ℕ))
-          → take (length Said) (Said ++ drop (length Said) out) ++ roomAfter o (drop (length Said) (Said ++ drop (length Said) out))
+          → take (length Said) (Said ++ drop (length Said) out) ++ leaves putLine o (drop (length Said) (Said ++ drop (length Said) out))
           ≡ (Said ++ lineSaid o) ++ drop (length (Said ++ lineSaid o)) out
       out-at o =
           rw (take-at Said (drop (length Said) out) (length Said) refl, behind-said, room-is o (drop (length Said) out), drop-drop (length (lineSaid o)) (length Said) out, length-append Said (lineSaid o))

@@ -10,12 +10,13 @@ use lib.ListN.{length, take, drop, length-append, length-drop, drop-of-length-le
 use lib.Seq.{take-all}
 use borrow.Author.Tests.{ltb-true, leb-true, lt-ltb, le-ltb, le-leb, lt-leb}
 use Rattle.paper.specs.declared.lines.Wrote.{Wrote}
-use Rattle.paper.specs.Outcomes.{Outcome, refused, gives, number}
+use Rattle.paper.specs.Outcomes.{Outcome, refused, gives, number, leaves}
 use Rattle.paper.specs.Tree.{Store}
 use Rattle.paper.specs.Ends.{tableOf, served}
-use Rattle.paper.specs.Codec.{lines, wroteOf, roomAfter}
+use Rattle.paper.specs.Codec.{lines}
 use Rattle.paper.proofs.Tests.{and-first, and-second}
-use Rattle.desk.specs.Desk.{Says, Open}
+use Rattle.paper.specs.Lines.{wroteOf, putLine, Writes}
+use Rattle.desk.specs.Desk.{Open}
 use Rattle.nearby.proofs.CallLaws.{office-open, office-answers}
 use Rattle.batch.specs.declared.Answered.{Answered}
 use Rattle.batch.specs.declared.rows.Said.{Said}
@@ -84,8 +85,8 @@ unfolding saidBy wroteOf lengthSaid
 said-length (refused n) = refl
 said-length (gives line) = refl
 
-said-fits : (o : Outcome (List ℕ)) (room part : List ℕ) → part ≡ roomAfter o room → length part ≡ length room → lengthSaid o ≤ length room
-unfolding roomAfter lengthSaid
+said-fits : (o : Outcome (List ℕ)) (room part : List ℕ) → part ≡ leaves putLine o room → length part ≡ length room → lengthSaid o ≤ length room
+unfolding lengthSaid
 said-fits (refused n) room part e k = omega arith
 said-fits (gives line) room part e k =
     let m = ap length e ∙ length-append line (drop (length line) room) in
@@ -116,7 +117,7 @@ module _ (s : Store) (asks : List ℕ) (d : Answered) (outcomes out : List ℕ) 
       line-open = office-open s (take k (drop (d .written) out)) [] long 0 (t .sound) refl
 
       module _ (w : Wrote) (part : List ℕ)
-          (says : Says (served lines (tableOf s) (take (e - d .used) (drop (d .used) asks))) (take k (drop (d .written) out)) w part) where
+          (says : Writes (served lines (tableOf s) (take (e - d .used) (drop (d .used) asks))) (take k (drop (d .written) out)) w part) where
         abbrev said-now : Outcome (List ℕ)
         said-now = answerNow s asks (batchOf d outcomes out)
 
@@ -126,7 +127,7 @@ module _ (s : Store) (asks : List ℕ) (d : Answered) (outcomes out : List ℕ) 
             let q : e - d .used ≡ cutAt (drop (d .used) asks) = omega arith in
             ap (λ (n : ℕ). take n (drop (d .used) asks)) q
 
-        as-alone : Says said-now (drop (d .written) out) w part
+        as-alone : Writes said-now (drop (d .written) out) w part
         unfolding answerNow
         as-alone =
             let x = office-answers s (take k (drop (d .written) out)) (take (e - d .used) (drop (d .used) asks)) long 0 (t .sound) refl w part says in
@@ -134,14 +135,14 @@ module _ (s : Store) (asks : List ℕ) (d : Answered) (outcomes out : List ℕ) 
 
         module _ (said : Said) (is : said ≡ saidBy w) where
           length-is : said .length ≡ lengthSaid said-now
-          length-is = ap (λ (x : Said). x .length) is ∙ ap (λ (x : Wrote). saidBy x .length) (as-alone .answer) ∙ said-length said-now
+          length-is = ap (λ (x : Said). x .length) is ∙ ap (λ (x : Wrote). saidBy x .length) (as-alone .result) ∙ said-length said-now
 
           refusal-is : said .refusal ≡ number said-now
-          refusal-is = ap (λ (x : Said). x .refusal) is ∙ ap (λ (x : Wrote). saidBy x .refusal) (as-alone .answer) ∙ said-refusal said-now
+          refusal-is = ap (λ (x : Said). x .refusal) is ∙ ap (λ (x : Wrote). saidBy x .refusal) (as-alone .result) ∙ said-refusal said-now
 
           pub said-inside : length part ≡ length (take k (drop (d .written) out)) → d .written + said .length ≤ length out
           said-inside kept =
-              let f = said-fits said-now (drop (d .written) out) part (as-alone .room) (kept ∙ ap length lent) in
+              let f = said-fits said-now (drop (d .written) out) part (as-alone .memory) (kept ∙ ap length lent) in
               omega (arith, length-is, length-drop (d .written) out, has .room)
 
           pub next-stands : (outcomes' : List ℕ) → outcomes' ≡ rowPut outcomes (d .lines) (said .refusal) (said .length)
@@ -154,5 +155,5 @@ module _ (s : Store) (asks : List ℕ) (d : Answered) (outcomes out : List ℕ) 
                 refusal = refl;
                 batch =
                     same-batch refl ends (ap (λ (n : ℕ). d .written + n) length-is) (put ∙ cc (length-is, refusal-is))
-                    (rw (none, append-nil) (ap (λ (l : List ℕ). take (d .written) out ++ l) (as-alone .room)));
+                    (rw (none, append-nil) (ap (λ (l : List ℕ). take (d .written) out ++ l) (as-alone .memory)));
               }

@@ -7,10 +7,10 @@ use lib.Dec.{ltb, leb, eqb}
 use lib.ListN.{length, getD, take, drop, set}
 use Rattle.paper.specs.declared.lines.Wrote.{Wrote}
 use Rattle.paper.specs.declared.lines.Wrote.the-variants.{Line, Refused}
-use Rattle.paper.specs.Outcomes.{Outcome, refused, gives, must, number}
+use Rattle.paper.specs.Outcomes.{Outcome, refused, gives, must, number, leaves}
 use Rattle.paper.specs.Tree.{Store}
 use Rattle.paper.specs.Ends.{answerRoom}
-use Rattle.paper.specs.Codec.{roomAfter}
+use Rattle.paper.specs.Lines.{putLine}
 use Rattle.paper.specs.Calls.{onTable, officeCall}
 use Rattle.nearby.specs.Checks.{tableRefusal}
 use Rattle.batch.specs.declared.Answered.{Answered}
@@ -56,7 +56,7 @@ stepBy o asks b =
       used = b .used + cutAt (drop (b .used) asks);
       written = b .written + lengthSaid o;
       outcomes = rowPut (b .outcomes) (b .lines) (number o) (lengthSaid o);
-      out = take (b .written) (b .out) ++ roomAfter o (drop (b .written) (b .out));
+      out = take (b .written) (b .out) ++ leaves putLine o (drop (b .written) (b .out));
     }
 
 -- one line more

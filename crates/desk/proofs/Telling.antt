@@ -19,11 +19,12 @@ use Rattle.paper.specs.Points.{Claim}
 use Rattle.paper.specs.Orders.{Item, Query, snapshotOf, earlier, insert, itemOf, listed, follows, rest, following, pageOf, flat, fronted}
 use Rattle.paper.specs.Tree.{Store, claimsIn}
 use Rattle.paper.specs.Outcomes.{gives}
-use Rattle.paper.specs.Frames.{lineOf, written}
+use Rattle.paper.specs.Frames.{lineOf}
+use Rattle.lines.proofs.Ways.{bare-fits}
 use Rattle.paper.specs.Fields.{scopeOk, numbersOk, referencesOk}
-use Rattle.paper.specs.Lines.{Writes, wrote, room, answerFrame, answerRanges, answerFits}
+use Rattle.paper.specs.Lines.{Writes, bareLine, answerFrame, answerRanges, answerFits}
 use Rattle.paper.specs.Ends.{answerOf, tableOf}
-use Rattle.paper.specs.Codec.{placeIn, scopeOf, answerLine, wroteOf, roomAfter}
+use Rattle.paper.specs.Codec.{placeIn, scopeOf, answerLine}
 use Rattle.paper.proofs.Tests.{and-first, and-both}
 use Rattle.tree.specs.Soundness.{Good}
 use Rattle.paper.proofs.Ranges.{is-range}
@@ -33,7 +34,7 @@ use Rattle.tree.proofs.Places.{claims-length}
 use Rattle.orders.proofs.Rooms.{flat-length}
 use Rattle.walk.proofs.Bridge.{claims-at}
 use Rattle.walk.proofs.Answers.{good-measurable}
-use Rattle.desk.specs.Desk.{Says, Paging, askFor, flagged, pageLine}
+use Rattle.desk.specs.Desk.{Paging, askFor, flagged, pageLine}
 use Rattle.paper.specs.Limits.{itemRoom, longestAnswer, mostClaims, mostNumber, mostPage}
 
 -- ---- items that an answer can tell
@@ -130,12 +131,9 @@ markable s probe g aim p place e h = record { measurable = good-measurable s g p
 
 -- ---- the page, written
 
-says-line : (fits : Bool) (f before : List ℕ) (w : Wrote) (after : List ℕ) → fits ≡ true → longestAnswer ≤ length before
-    → Writes fits longestAnswer f before w after → Says (gives (lineOf f)) before w after
-unfolding wrote room written wroteOf roomAfter
-says-line fits f before w after e h x =
-    let q = le-leb longestAnswer (length before) h in
-    record { answer = rw (e, q) at (x .answer); room = rw (e, q) at (x .after) }
+line-told : (fits : Bool) (f before : List ℕ) (w : Wrote) (after : List ℕ) → fits ≡ true → longestAnswer ≤ length before
+    → Writes (bareLine fits longestAnswer f (length before)) before w after → Writes (gives (lineOf f)) before w after
+line-told fits f before w after e h x = rw (bare-fits fits longestAnswer f (length before) e h) at x
 
 flag-small : (b : Bool) → flagged b ≤ 1
 flag-small true = omega arith
@@ -203,9 +201,9 @@ module _ (s : Store) (probe : List ℤ) (p : Scope) (size out : ℕ) (h : Paging
       line-is = rw (claims-length (s .table .d) (s .table .count) (s .references) (s .coordinates), is-page .last)
 
       pub page-told : (before : List ℕ) (w : Wrote) (after : List ℕ) → longestAnswer ≤ length before
-          → Writes (answerFits (s .table .measure) (s .table .d) probe scope last (r .count) (take n room')) longestAnswer
-          (answerFrame 2 (s .table .number) (s .table .measure) (s .table .d) probe scope last (r .count) (take n room')) before w after
-          → Says (pageLine (tableOf s) (askFor (s .table) probe p size)) before w after
+          → Writes (bareLine (answerFits (s .table .measure) (s .table .d) probe scope last (r .count) (take n room')) longestAnswer
+          (answerFrame 2 (s .table .number) (s .table .measure) (s .table .d) probe scope last (r .count) (take n room')) (length before)) before w after
+          → Writes (pageLine (tableOf s) (askFor (s .table) probe p size)) before w after
       page-told before w after long x =
           let y = rw (told, flag, told-items, is-page .count) at x in
-          rw line-is at (says-line _ _ before w after fits long y)
+          rw line-is at (line-told _ _ before w after fits long y)

@@ -20,22 +20,19 @@ use Rattle.paper.specs.Tree.{Store, claimsIn}
 use Rattle.paper.specs.Outcomes.{Outcome, refused, gives, must, onto}
 use Rattle.paper.specs.Frames.{num, frameOf, sound}
 use Rattle.paper.specs.Fields.{scopeIn, scopeOk}
-use Rattle.paper.specs.Lines.{behind, askRanges, askOk, askAt, anAsk, noAsk, askOf, reading}
+use Rattle.paper.specs.Lines.{Writes, behind, askRanges, askOk, askAt, anAsk, noAsk, askOf, reading}
 use Rattle.paper.specs.Ends.{Ask, tableOf, matches, answerOf, answerTo, served}
 use Rattle.paper.specs.Ends as Ends
-use Rattle.paper.specs.Codec.{placeIn, asked, answerLine, readAsk, lines, wroteOf, roomAfter}
+use Rattle.paper.specs.Codec.{placeIn, asked, answerLine, readAsk, lines}
 use Rattle.paper.specs.Program.{replyTo}
 use Rattle.paper.proofs.Tests.{and-first, and-second}
+use Rattle.lines.proofs.Ways.{writes-refused}
 use Rattle.lines.proofs.Tests.{is-ask}
 use Rattle.walk.specs.Asking.{queryOf}
 use Rattle.tree.proofs.Places.{claims-length}
-use Rattle.desk.specs.Desk.{Says, Given, Answering, Asking, askFor, pageLine, pageReply}
+use Rattle.desk.specs.Desk.{Given, Answering, Asking, askFor, pageLine, pageReply}
 use Rattle.desk.proofs.Telling.{place-start, place-after}
 use Rattle.paper.specs.Limits.{mostPage}
-
-pub says-refused : (o : Outcome (List ℕ)) (n : ℕ) (before : List ℕ) → o ≡ refused n → Says o before (Refused n) before
-unfolding wroteOf roomAfter
-says-refused o n before e = rw e (record { answer = refl; room = refl })
 
 -- ---- is_ours, snapshot_holds
 
@@ -62,20 +59,20 @@ module _ (s : Store) (probe : List ℤ) (p : Scope) (size : ℕ) (b : Bool) (hol
   unfolding snapshotHolds
   stored-is = rw (claims-length (s .table .d) (s .table .count) (s .references) (s .coordinates)) (sym holds)
 
-  pub here-7 : (before : List ℕ) → not b ≡ true → Says (pageReply (tableOf s) (askFor (s .table) probe p size)) before (Refused 7) before
+  pub here-7 : (before : List ℕ) → not b ≡ true → Writes (pageReply (tableOf s) (askFor (s .table) probe p size)) before (Refused 7) before
   unfolding pageReply
-  here-7 before t = says-refused _ 7 before (rw (stored-is, not-true b t))
+  here-7 before t = writes-refused _ 7 before (rw (stored-is, not-true b t))
 
   pub here-stored : not b ≡ false → snapshotOf (placeIn p) (s .table .count) ≤ s .table .count
   here-stored t = leb-true _ _ (sym holds ∙ not-false b t)
 
   module _ (m : Bool) (place : Place) (at : place ≡ placeIn p) (marked : m ≡ markHolds (queryOf (s .table) Near probe (p .reach)) (claimsIn s) place) (t : not b ≡ false) where
-    pub here-8 : (before : List ℕ) → not m ≡ true → Says (pageReply (tableOf s) (askFor (s .table) probe p size)) before (Refused 8) before
+    pub here-8 : (before : List ℕ) → not m ≡ true → Writes (pageReply (tableOf s) (askFor (s .table) probe p size)) before (Refused 8) before
     unfolding pageReply
-    here-8 before u = says-refused _ 8 before (rw (stored-is, not-false b t, ← at, ← marked, not-true m u))
+    here-8 before u = writes-refused _ 8 before (rw (stored-is, not-false b t, ← at, ← marked, not-true m u))
 
-    pub here-page : (before : List ℕ) (w : Wrote) (after : List ℕ) → not m ≡ false → Says (pageLine (tableOf s) (askFor (s .table) probe p size)) before w after
-        → Says (pageReply (tableOf s) (askFor (s .table) probe p size)) before w after
+    pub here-page : (before : List ℕ) (w : Wrote) (after : List ℕ) → not m ≡ false → Writes (pageLine (tableOf s) (askFor (s .table) probe p size)) before w after
+        → Writes (pageReply (tableOf s) (askFor (s .table) probe p size)) before w after
     unfolding pageReply
     here-page before w after u x = rw (stored-is, not-false b t, sym (ap (λ (z : Place). markHolds (queryOf (s .table) Near probe (p .reach)) (claimsIn s) z) at) ∙ sym marked ∙ not-false m u) x
 
@@ -96,9 +93,9 @@ module _ (s : Store) (a : lines-Ask.Ask) (b : Bool)
   unfolding matches asked
   matches-is = sym is
 
-  pub ask-11 : (before : List ℕ) → not b ≡ true → Says (replyTo (tableOf s) (asked Near a)) before (Refused 11) before
+  pub ask-11 : (before : List ℕ) → not b ≡ true → Writes (replyTo (tableOf s) (asked Near a)) before (Refused 11) before
   unfolding replyTo answerTo
-  ask-11 before t = says-refused _ 11 before (rw (matches-is, not-true b t))
+  ask-11 before t = writes-refused _ 11 before (rw (matches-is, not-true b t))
 
   module _ (t : not b ≡ false) where
     ours : (eqb (a .table) (s .table .number) && (eqb (a .measure) (s .table .measure) && eqb (a .d) (s .table .d))) ≡ true
@@ -127,8 +124,8 @@ module _ (s : Store) (a : lines-Ask.Ask) (b : Bool)
         }
 
     pub ask-here : (n : ℕ) (before : List ℕ) (w : Wrote) (after : List ℕ) → n ≡ a .d
-        → Says (pageReply (tableOf s) (askFor (s .table) (take n (a .probe)) (a .scope) (a .size))) before w after
-        → Says (replyTo (tableOf s) (asked Near a)) before w after
+        → Writes (pageReply (tableOf s) (askFor (s .table) (take n (a .probe)) (a .scope) (a .size))) before w after
+        → Writes (replyTo (tableOf s) (asked Near a)) before w after
     ask-here n before w after e x =
         rw (reply-here (tableOf s) (asked Near a) (matches-is ∙ not-false b t), same-ask, ← e) x
 
@@ -169,11 +166,11 @@ read-is line r e = rw e (go (sound line) (askOk 1 (frameOf line)) refl refl)
     go false c p q = rw p (record { refuses = λ n. rw p; given = λ z. absurd (omega arith); reads = λ z. absurd (omega arith) })
 
 module _ (s : Store) (line : List ℕ) (r : AskRead) (is : Reads line r) where
-  pub line-refused : (before : List ℕ) → (r .refusal ≡ 0 → ⊥) → Says (served lines (tableOf s) line) before (Refused (r .refusal)) before
+  pub line-refused : (before : List ℕ) → (r .refusal ≡ 0 → ⊥) → Writes (served lines (tableOf s) line) before (Refused (r .refusal)) before
   unfolding served
-  line-refused before n = says-refused _ (r .refusal) before (rw (is .refuses n))
+  line-refused before n = writes-refused _ (r .refusal) before (rw (is .refuses n))
 
   pub line-answered : (before : List ℕ) (w : Wrote) (after : List ℕ) → r .refusal ≡ 0
-      → Says (replyTo (tableOf s) (asked Near (r .ask))) before w after → Says (served lines (tableOf s) line) before w after
+      → Writes (replyTo (tableOf s) (asked Near (r .ask))) before w after → Writes (served lines (tableOf s) line) before w after
   unfolding served replyTo
   line-answered before w after z x = rw (is .reads z) x

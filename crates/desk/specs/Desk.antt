@@ -7,7 +7,6 @@ use lib.IntN.{ℤ}
 use lib.ListN.{length}
 use Rattle.paper.specs.declared.lines.Ask as lines-Ask
 use Rattle.paper.specs.declared.lines.Scope.{Scope}
-use Rattle.paper.specs.declared.lines.Wrote.{Wrote}
 use Rattle.paper.specs.declared.orders.Order.the-variants.{Near}
 use Rattle.paper.specs.declared.tables.Table.{Table}
 use Rattle.paper.specs.Orders.{snapshotOf, snapshotHolds, markHolds}
@@ -16,15 +15,10 @@ use Rattle.paper.specs.Outcomes.{Outcome, must, gives}
 use Rattle.paper.specs.Fields.{scopeOk}
 use Rattle.paper.specs.Ends.{Ask, answerOf}
 use Rattle.paper.specs.Ends as Ends
-use Rattle.paper.specs.Codec.{placeIn, answerLine, wroteOf, roomAfter}
+use Rattle.paper.specs.Codec.{placeIn, answerLine}
 use Rattle.tree.specs.Soundness.{Good}
 use Rattle.walk.specs.Asking.{queryOf}
 use Rattle.paper.specs.Limits.{longestAnswer, mostPage, mostPlaces}
-
--- a call that writes a line: its answer, and what its room then holds
-pub record Says (o : Outcome (List ℕ)) (before : List ℕ) (r : Wrote) (after : List ℕ) : Type 0 where
-  pub answer : r ≡ wroteOf o
-  pub room : after ≡ roomAfter o before
 
 -- an ask that a reader gives
 pub record Given (a : lines-Ask.Ask) : Type 0 where

@@ -10,7 +10,8 @@ ghost use Rattle.paper.specs.Ends.{tableOf, served};
 ghost use Rattle.paper.specs.Codec.{placeIn, asked};
 ghost use Rattle.paper.specs.Codec.{lines as Codec·lines};
 ghost use Rattle.paper.specs.Program.{replyTo};
-ghost use Rattle.desk.specs.Desk.{Says, Open, Answering, Asking, askFor, pageReply};
+ghost use Rattle.paper.specs.Lines.{Writes};
+ghost use Rattle.desk.specs.Desk.{Open, Answering, Asking, askFor, pageReply};
 use super::pages::place_in;
 use super::pages::tell_page;
 use paper::lines::Ask;
@@ -52,7 +53,7 @@ fn answer_here(
     out: &mut [u8],
 ) -> Wrote
     requires { ⌜ Asking (lent t references coordinates rooms) (now probe) p size (length (now out)) ⌝ }
-    ensures { λ r. ⌜ Says (pageReply (tableOf (lent t (references .entry) (coordinates .entry) (rooms .entry))) (askFor t (now (probe .entry)) p size)) (now (out .entry)) r (now (out .exit)) ⌝ }
+    ensures { λ r. ⌜ Writes (pageReply (tableOf (lent t (references .entry) (coordinates .entry) (rooms .entry))) (askFor t (now (probe .entry)) p size)) (now (out .entry)) r (now (out .exit)) ⌝ }
 {
     if !snapshot_holds(p, t.count) {
         return Wrote::Refused(7);
@@ -74,7 +75,7 @@ pub fn answer_ask(
     out: &mut [u8],
 ) -> Wrote
     requires { ⌜ Answering (lent t references coordinates rooms) ask (length (now out)) ⌝ }
-    ensures { λ r. ⌜ Says (replyTo (tableOf (lent t (references .entry) (coordinates .entry) (rooms .entry))) (asked Near ask)) (now (out .entry)) r (now (out .exit)) ⌝ }
+    ensures { λ r. ⌜ Writes (replyTo (tableOf (lent t (references .entry) (coordinates .entry) (rooms .entry))) (asked Near ask)) (now (out .entry)) r (now (out .exit)) ⌝ }
 {
     if !is_ours(t, ask.table, ask.measure, ask.d) {
         return Wrote::Refused(11);
@@ -104,7 +105,7 @@ pub fn answer_line(
     out: &mut [u8],
 ) -> Wrote
     requires { ⌜ Open (lent t references coordinates rooms) (length (now out)) ⌝ }
-    ensures { λ r. ⌜ Says (served Codec·lines (tableOf (lent t (references .entry) (coordinates .entry) (rooms .entry))) (now (line .entry))) (now (out .entry)) r (now (out .exit)) ⌝ }
+    ensures { λ r. ⌜ Writes (served Codec·lines (tableOf (lent t (references .entry) (coordinates .entry) (rooms .entry))) (now (line .entry))) (now (out .entry)) r (now (out .exit)) ⌝ }
 {
     let read = lines::read_ask(line);
     if read.refusal != 0 {

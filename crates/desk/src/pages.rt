@@ -6,7 +6,8 @@ ghost use Rattle.paper.specs.Orders.{snapshotOf};
 ghost use Rattle.paper.specs.Tree.{lent};
 ghost use Rattle.paper.specs.Ends.{tableOf};
 ghost use Rattle.paper.specs.Codec.{placeIn, scopeOf};
-ghost use Rattle.desk.specs.Desk.{Says, Paging, askFor, flagged, pageLine};
+ghost use Rattle.paper.specs.Lines.{Writes};
+ghost use Rattle.desk.specs.Desk.{Paging, askFor, flagged, pageLine};
 use paper::limits::ITEM_ROOM;
 use paper::lines::Scope;
 use paper::lines::Wrote;
@@ -60,7 +61,7 @@ pub fn tell_page(
     out: &mut [u8],
 ) -> Wrote
     requires { ⌜ Paging (lent t references coordinates rooms) (now probe) p size (length (now out)) ⌝ }
-    ensures { λ r. ⌜ Says (pageLine (tableOf (lent t (references .entry) (coordinates .entry) (rooms .entry))) (askFor t (now (probe .entry)) p size)) (now (out .entry)) r (now (out .exit)) ⌝ }
+    ensures { λ r. ⌜ Writes (pageLine (tableOf (lent t (references .entry) (coordinates .entry) (rooms .entry))) (askFor t (now (probe .entry)) p size)) (now (out .entry)) r (now (out .exit)) ⌝ }
 {
     let mut room = [0u64; ITEM_ROOM];
     let near = Order::Near;

@@ -6,9 +6,12 @@ use mathlib.Core.Bool.{Bool, true, false, cond}
 use mathlib.Core.List.{List, [], _∷_, _++_, append-assoc}
 use lib.ListN.{length, getD, take, drop, set}
 use lib.Seq.{drop-cons, set-at, take-at}
+use lib.Dec.{leb}
 use borrow.Author.Tests.{le-leb, lt-leb}
 use Rattle.paper.specs.Frames.{hexes, lineOf, frameOf, sound, written}
-use Rattle.paper.specs.Lines.{wrote, room, Writes, reading}
+use Rattle.paper.specs.Outcomes.{Outcome, refused, gives}
+use Rattle.paper.specs.Lines.{wroteOf, putLine, Writes, bareLine, reading}
+use Rattle.paper.proofs.Outcomes.{must-go, must-stop, promise-refused, promise-given}
 use Rattle.paper.specs.declared.lines.Wrote.the-variants.{Line, Refused}
 use Rattle.digits.specs.Places.{over, held, Framed}
 use Rattle.digits.proofs.Laws.{over-eq, length-hexes, length-line}
@@ -29,18 +32,35 @@ finish o f n e h =
     rw (over-eq o 0 f, e1, e2, drop-cons o n 0 h, line-eq f)
     (set-at (hexes f) (getD o n 0) (drop (suc n) o) 10 n (length-hexes f ∙ sym e) ∙ sym (append-assoc (hexes f) (10 ∷ []) (drop (suc n) o)))
 
-module _ {b : Bool} {need : ℕ} {f o : List ℕ} where
-  pub wrote-line : {r : ℕ} {x : List ℕ} → b ≡ true → need ≤ length o → r ≡ length (lineOf f) → x ≡ written f o → Writes b need f o (Line r) x
-  unfolding wrote room
-  wrote-line {r} {x} e h p q = record { answer = rw (e, le-leb need (length o) h) (ap Line p); after = rw (e, le-leb need (length o) h) q }
+-- a refusal, whatever call gives it
+pub writes-refused : (o : Outcome (List ℕ)) (n : ℕ) (before : List ℕ) → o ≡ refused n → Writes o before (Refused n) before
+unfolding wroteOf
+writes-refused o n before e = promise-refused wroteOf putLine o before n (Refused n) e refl
 
-  pub refused-12 : b ≡ true → length o < need → Writes b need f o (Refused 12) o
-  unfolding wrote room
-  refused-12 e h = record { answer = rw (e, lt-leb need (length o) h); after = rw (e, lt-leb need (length o) h) }
+-- a line that was written
+pub writes-line : (o : Outcome (List ℕ)) (line : List ℕ) (n : ℕ) (before after : List ℕ) → o ≡ gives line → n ≡ length line
+    → after ≡ putLine line before → Writes o before (Line n) after
+unfolding wroteOf
+writes-line o line n before after e q m = promise-given wroteOf putLine o before line (Line n) after e (ap Line q) m
 
-  pub refused-10 : b ≡ false → Writes b need f o (Refused 10) o
-  unfolding wrote room
-  refused-10 e = record { answer = rw e; after = rw e }
+module _ (b : Bool) (need : ℕ) (f o : List ℕ) where
+  pub wrote-line : (r : ℕ) (x : List ℕ) → b ≡ true → need ≤ length o → r ≡ length (lineOf f) → x ≡ written f o
+      → Writes (bareLine b need f (length o)) o (Line r) x
+  unfolding bareLine written
+  wrote-line r x e h p q = writes-line _ (lineOf f) r o x (must-go b 10 _ e ∙ must-go (leb need (length o)) 12 _ (le-leb need (length o) h)) p q
+
+  pub refused-12 : b ≡ true → length o < need → Writes (bareLine b need f (length o)) o (Refused 12) o
+  unfolding bareLine
+  refused-12 e h = writes-refused _ 12 o (must-go b 10 _ e ∙ must-stop (leb need (length o)) 12 _ (lt-leb need (length o) h))
+
+  pub refused-10 : b ≡ false → Writes (bareLine b need f (length o)) o (Refused 10) o
+  unfolding bareLine
+  refused-10 e = writes-refused _ 10 o (must-stop b 10 _ e)
+
+-- fields that fit, in a room that is large enough, are written as their line
+pub bare-fits : (b : Bool) (need : ℕ) (f : List ℕ) (out : ℕ) → b ≡ true → need ≤ out → bareLine b need f out ≡ gives (lineOf f)
+unfolding bareLine
+bare-fits b need f out e h = must-go b 10 _ e ∙ must-go (leb need out) 12 _ (le-leb need out h)
 
 -- the front of the room that a writer filled is the line
 pub front-is-line : (f o : List ℕ) → take (length (lineOf f)) (written f o) ≡ lineOf f

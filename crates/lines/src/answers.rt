@@ -6,7 +6,7 @@ ghost use Prim.Native.Nat.{_+_, _-_, _*_, _≤_};
 ghost use lib.ListN.{length, drop};
 ghost use Rattle.paper.specs.Frames.{be, num, lineOf, written};
 ghost use Rattle.paper.specs.Fields.{scopeIn, itemBytes, itemsIn, numbersOk};
-ghost use Rattle.paper.specs.Lines.{Writes, answerFrame, answerRanges, answerFits, answerOk, answerAt, noAnswer, answerOf};
+ghost use Rattle.paper.specs.Lines.{Writes, bareLine, answerFrame, answerRanges, answerFits, answerOk, answerAt, noAnswer, answerOf};
 ghost use Rattle.digits.specs.Places.{held, over};
 ghost use Rattle.lines.specs.Kinds.{IsAnswer};
 ghost use Rattle.paper.specs.Limits.{longestAnswer, mostPage, mostPlaces};
@@ -99,7 +99,7 @@ pub fn write_answer_as(
     items: &[u64],
     out: &mut [u8],
 ) -> Wrote
-    ensures { λ r. ⌜ Writes (answerFits measure d (now (probe .entry)) p last count (now (items .entry))) longestAnswer (answerFrame kind table measure d (now (probe .entry)) p last count (now (items .entry))) (now (out .entry)) r (now (out .exit)) ⌝ }
+    ensures { λ r. ⌜ Writes (bareLine (answerFits measure d (now (probe .entry)) p last count (now (items .entry))) longestAnswer (answerFrame kind table measure d (now (probe .entry)) p last count (now (items .entry))) (length (now (out .entry)))) (now (out .entry)) r (now (out .exit)) ⌝ }
 {
     if answer_fits(measure, d, probe, p, last, count, items) {
         if out.len() < LONGEST_ANSWER {
@@ -122,7 +122,7 @@ pub fn write_answer(
     items: &[u64],
     out: &mut [u8],
 ) -> Wrote
-    ensures { λ r. ⌜ Writes (answerFits measure d (now (probe .entry)) p last count (now (items .entry))) longestAnswer (answerFrame 2 table measure d (now (probe .entry)) p last count (now (items .entry))) (now (out .entry)) r (now (out .exit)) ⌝ }
+    ensures { λ r. ⌜ Writes (bareLine (answerFits measure d (now (probe .entry)) p last count (now (items .entry))) longestAnswer (answerFrame 2 table measure d (now (probe .entry)) p last count (now (items .entry))) (length (now (out .entry)))) (now (out .entry)) r (now (out .exit)) ⌝ }
 {
     write_answer_as(2, table, measure, d, probe, p, last, count, items, out)
 }

@@ -3,7 +3,7 @@ ghost use mathlib.Core.Path.{_≡_};
 ghost use Prim.Native.Nat.{_≤_};
 ghost use lib.ListN.{length};
 ghost use Rattle.paper.specs.Frames.{lineOf, written};
-ghost use Rattle.paper.specs.Lines.{Writes, askFrame, askRanges, askFits, askOk, askAt, noAsk, askOf};
+ghost use Rattle.paper.specs.Lines.{Writes, bareLine, askFrame, askRanges, askFits, askOk, askAt, noAsk, askOf};
 ghost use Rattle.digits.specs.Places.{held};
 ghost use Rattle.lines.specs.Kinds.{IsAsk};
 ghost use Rattle.paper.specs.Limits.{longestAsk, mostPlaces};
@@ -77,7 +77,7 @@ pub fn write_ask_as(
     size: u8,
     out: &mut [u8],
 ) -> Wrote
-    ensures { λ r. ⌜ Writes (askFits measure d (now (probe .entry)) p size) longestAsk (askFrame kind table measure d (now (probe .entry)) p size) (now (out .entry)) r (now (out .exit)) ⌝ }
+    ensures { λ r. ⌜ Writes (bareLine (askFits measure d (now (probe .entry)) p size) longestAsk (askFrame kind table measure d (now (probe .entry)) p size) (length (now (out .entry)))) (now (out .entry)) r (now (out .exit)) ⌝ }
 {
     if ask_fits(measure, d, probe, p, size) {
         if out.len() < LONGEST_ASK {
@@ -98,7 +98,7 @@ pub fn write_ask(
     size: u8,
     out: &mut [u8],
 ) -> Wrote
-    ensures { λ r. ⌜ Writes (askFits measure d (now (probe .entry)) p size) longestAsk (askFrame 1 table measure d (now (probe .entry)) p size) (now (out .entry)) r (now (out .exit)) ⌝ }
+    ensures { λ r. ⌜ Writes (bareLine (askFits measure d (now (probe .entry)) p size) longestAsk (askFrame 1 table measure d (now (probe .entry)) p size) (length (now (out .entry)))) (now (out .entry)) r (now (out .exit)) ⌝ }
 {
     write_ask_as(1, table, measure, d, probe, p, size, out)
 }

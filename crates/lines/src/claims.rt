@@ -4,7 +4,7 @@ ghost use mathlib.Core.Bool.{true};
 ghost use Prim.Native.Nat.{_≤_};
 ghost use lib.ListN.{length};
 ghost use Rattle.paper.specs.Frames.{lineOf, written};
-ghost use Rattle.paper.specs.Lines.{Writes, claimFrame, claimFits, claimOk, claimAt, noClaim, claimOf};
+ghost use Rattle.paper.specs.Lines.{Writes, bareLine, claimFrame, claimFits, claimOk, claimAt, noClaim, claimOf};
 ghost use Rattle.digits.specs.Places.{held};
 ghost use Rattle.paper.specs.Limits.{longestClaim, mostPlaces};
 use paper::limits::LONGEST_CLAIM;
@@ -52,7 +52,7 @@ pub fn write_claim(
     coords: &[i32],
     out: &mut [u8],
 ) -> Wrote
-    ensures { λ r. ⌜ Writes (claimFits measure d (now (coords .entry))) longestClaim (claimFrame table measure d reference (now (coords .entry))) (now (out .entry)) r (now (out .exit)) ⌝ }
+    ensures { λ r. ⌜ Writes (bareLine (claimFits measure d (now (coords .entry))) longestClaim (claimFrame table measure d reference (now (coords .entry))) (length (now (out .entry)))) (now (out .entry)) r (now (out .exit)) ⌝ }
 {
     if claim_fits(measure, d, coords) {
         if out.len() < LONGEST_CLAIM {

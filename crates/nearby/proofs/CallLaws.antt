@@ -20,7 +20,7 @@ use Rattle.paper.specs.Orders.{Found, told, snapshotOf, snapshotHolds, markHold
 use Rattle.paper.specs.Outcomes.{Outcome, refused, gives, must, number}
 use Rattle.paper.specs.Tree.{Store, claimsIn, fits, sound}
 use Rattle.paper.specs.Ends.{sizeHolds, tableOf, served, soundIn, asking, taking}
-use Rattle.paper.specs.Lists.{Held, listing, roomFor, unusedZero, soundHeld, askingHeld, takingHeld}
+use Rattle.paper.specs.Lists.{Takes, Held, listing, roomFor, unusedZero, soundHeld, askingHeld, takingHeld}
 use Rattle.paper.specs.Codec.{lines}
 use Rattle.paper.specs.Calls.{tableQuery, onTable, aimed, nearestTold, PageOf, thePage, pageCall, pageTold, counted, pageRoom, officeCall}
 use Rattle.paper.proofs.Tests.{and-first, and-second}
@@ -29,11 +29,11 @@ use Rattle.tree.proofs.Known.{fits-fit, sound-good}
 use Rattle.tree.proofs.Places.{claims-length}
 use Rattle.walk.specs.Asking.{Answerable, Pageable, Markable, PageIs}
 use Rattle.walk.proofs.Answers.{good-measurable, good-answerable}
-use Rattle.desk.specs.Desk.{Says, Open}
-use Rattle.desk.proofs.Ways.{says-refused}
-use Rattle.tablet.specs.Holding.{TakenIs}
+use Rattle.paper.specs.Lines.{Writes}
+use Rattle.desk.specs.Desk.{Open}
+use Rattle.lines.proofs.Ways.{writes-refused}
 use Rattle.paper.proofs.Outcomes.{must-stop, must-go, number-0}
-use Rattle.tablet.proofs.TakeLaws.{refuse-is}
+use Rattle.tablet.proofs.TakeLaws.{takes-refused}
 use Rattle.nearby.specs.Checks.{tableRefusal, PagePromise}
 use Rattle.paper.specs.Limits.{longestAnswer, mostPage}
 
@@ -220,19 +220,19 @@ module _ (s : Store) (probe : List ℤ) (reach : ℕ) (place : Place) (size : �
 
 -- the office: 12, 1, 2
 module _ (s : Store) (out line : List ℕ) where
-  pub office-12 : length out < longestAnswer → Says (officeCall s (length out) line) out (Refused 12) out
+  pub office-12 : length out < longestAnswer → Writes (officeCall s (length out) line) out (Refused 12) out
   unfolding officeCall
-  office-12 h = says-refused _ 12 out (must-stop (leb longestAnswer (length out)) 12 _ (lt-leb longestAnswer (length out) h))
+  office-12 h = writes-refused _ 12 out (must-stop (leb longestAnswer (length out)) 12 _ (lt-leb longestAnswer (length out) h))
 
   module _ (long : longestAnswer ≤ length out) (n : ℕ) (we : n ≡ tableRefusal s) where
-    pub office-refused : (n ≡ 0 → ⊥) → Says (officeCall s (length out) line) out (Refused n) out
+    pub office-refused : (n ≡ 0 → ⊥) → Writes (officeCall s (length out) line) out (Refused n) out
     unfolding officeCall
-    office-refused h = says-refused _ n out (must-go (leb longestAnswer (length out)) 12 _ (le-leb longestAnswer (length out) long) ∙ table-refused s n we _ h)
+    office-refused h = writes-refused _ n out (must-go (leb longestAnswer (length out)) 12 _ (le-leb longestAnswer (length out) long) ∙ table-refused s n we _ h)
 
     pub office-open : n ≡ 0 → Open s (length out)
     office-open ok = record { good = table-good s n we ok; room = long }
 
-    pub office-answers : n ≡ 0 → (r : Wrote) (after : List ℕ) → Says (served lines (tableOf s) line) out r after → Says (officeCall s (length out) line) out r after
+    pub office-answers : n ≡ 0 → (r : Wrote) (after : List ℕ) → Writes (served lines (tableOf s) line) out r after → Writes (officeCall s (length out) line) out r after
     unfolding officeCall
     office-answers ok r after w =
         let e : officeCall s (length out) line ≡ served lines (tableOf s) line =
@@ -250,10 +250,10 @@ module _ (s : Held) (a : Bool) (ae : a ≡ soundHeld Near s) (h : not a ≡ true
   unfolding soundHeld
   unsound = sym ae ∙ not-true a h
 
-  pub ask-unsound : (size : ℕ) (out : List ℕ) → Says (askingHeld lines Near s size (length out)) out (Refused 2) out
+  pub ask-unsound : (size : ℕ) (out : List ℕ) → Writes (askingHeld lines Near s size (length out)) out (Refused 2) out
   unfolding askingHeld asking
-  ask-unsound size out = says-refused _ 2 out (two (unusedZero (s .list .d) (s .list .probe)) (soundIn (roomFor s) (listing Near s)) _ unsound)
+  ask-unsound size out = writes-refused _ 2 out (two (unusedZero (s .list .d) (s .list .probe)) (soundIn (roomFor s) (listing Near s)) _ unsound)
 
-  pub take-unsound : (line : List ℕ) → TakenIs s (takingHeld lines Near s line) (record { refusal = 2; list = s .list }) (s .room)
+  pub take-unsound : (line : List ℕ) → Takes (s .list) (takingHeld lines Near s line) (s .room) (record { refusal = 2; list = s .list }) (s .room)
   unfolding takingHeld taking
-  take-unsound line = refuse-is s _ 2 _ (two (unusedZero (s .list .d) (s .list .probe)) (soundIn (roomFor s) (listing Near s)) _ unsound) refl
+  take-unsound line = takes-refused (s .list) _ 2 (s .room) _ (two (unusedZero (s .list .d) (s .list .probe)) (soundIn (roomFor s) (listing Near s)) _ unsound) refl

@@ -1,6 +1,7 @@
 // The bare writers and readers of the three kinds of line.
 ghost use mathlib.Core.Path.{_≡_};
-ghost use Rattle.paper.specs.Lines.{Writes, askFits, askFrame, askOf, answerFits, answerFrame, answerOf, claimFits, claimFrame, claimOf};
+ghost use lib.ListN.{length};
+ghost use Rattle.paper.specs.Lines.{Writes, bareLine, askFits, askFrame, askOf, answerFits, answerFrame, answerOf, claimFits, claimFrame, claimOf};
 ghost use Rattle.paper.specs.Limits.{longestAnswer, longestAsk, longestClaim};
 use paper::lines::AnswerRead;
 use paper::lines::AskRead;
@@ -18,7 +19,7 @@ pub fn write_ask_line(
     size: u8,
     out: &mut [u8],
 ) -> Wrote
-    ensures { λ r. ⌜ Writes (askFits measure d (now (probe .entry)) p size) longestAsk (askFrame 1 table measure d (now (probe .entry)) p size) (now (out .entry)) r (now (out .exit)) ⌝ }
+    ensures { λ r. ⌜ Writes (bareLine (askFits measure d (now (probe .entry)) p size) longestAsk (askFrame 1 table measure d (now (probe .entry)) p size) (length (now (out .entry)))) (now (out .entry)) r (now (out .exit)) ⌝ }
 {
     lines::write_ask(table, measure, d, probe, p, size, out)
 }
@@ -35,7 +36,7 @@ pub fn write_answer_line(
     items: &[u64],
     out: &mut [u8],
 ) -> Wrote
-    ensures { λ r. ⌜ Writes (answerFits measure d (now (probe .entry)) p last count (now (items .entry))) longestAnswer (answerFrame 2 table measure d (now (probe .entry)) p last count (now (items .entry))) (now (out .entry)) r (now (out .exit)) ⌝ }
+    ensures { λ r. ⌜ Writes (bareLine (answerFits measure d (now (probe .entry)) p last count (now (items .entry))) longestAnswer (answerFrame 2 table measure d (now (probe .entry)) p last count (now (items .entry))) (length (now (out .entry)))) (now (out .entry)) r (now (out .exit)) ⌝ }
 {
     lines::write_answer(table, measure, d, probe, p, last, count, items, out)
 }
@@ -49,7 +50,7 @@ pub fn write_claim_line(
     coordinates: &[i32],
     out: &mut [u8],
 ) -> Wrote
-    ensures { λ r. ⌜ Writes (claimFits measure d (now (coordinates .entry))) longestClaim (claimFrame table measure d reference (now (coordinates .entry))) (now (out .entry)) r (now (out .exit)) ⌝ }
+    ensures { λ r. ⌜ Writes (bareLine (claimFits measure d (now (coordinates .entry))) longestClaim (claimFrame table measure d reference (now (coordinates .entry))) (length (now (out .entry)))) (now (out .entry)) r (now (out .exit)) ⌝ }
 {
     lines::write_claim(table, measure, d, reference, coordinates, out)
 }

@@ -2,10 +2,10 @@
 ghost use mathlib.Core.Path.{_≡_};
 ghost use lib.ListN.{length};
 ghost use Rattle.paper.specs.declared.orders.Order.the-variants.{Near};
-ghost use Rattle.paper.specs.Lists.{held, openingHeld, openedTold, askingHeld, takingHeld};
+ghost use Rattle.paper.specs.Lists.{Takes, held, openingHeld, openedTold, askingHeld, takingHeld};
 ghost use Rattle.paper.specs.Codec.{lines};
-ghost use Rattle.tablet.specs.Holding.{asNear, TakenIs};
-ghost use Rattle.desk.specs.Desk.{Says};
+ghost use Rattle.tablet.specs.Holding.{asNear};
+ghost use Rattle.paper.specs.Lines.{Writes};
 use paper::lines::Wrote;
 use paper::lists::List;
 use paper::lists::Opened;
@@ -21,7 +21,7 @@ pub fn open_list(table: u32, measure: u8, d: usize, probe: &[i32], reach: u64) -
 
 // Refusals 2, 16, 6, 12.
 pub fn write_ask(l: List, room: &[u64], size: usize, out: &mut [u8]) -> Wrote
-    ensures { λ r. ⌜ Says (askingHeld lines Near (held l (now (room .entry))) size (length (now (out .entry)))) (now (out .entry)) r (now (out .exit)) ⌝ }
+    ensures { λ r. ⌜ Writes (askingHeld lines Near (held l (now (room .entry))) size (length (now (out .entry)))) (now (out .entry)) r (now (out .exit)) ⌝ }
 {
     let near = Order::Near;
     if !tablet::is_sound(near, l, room) {
@@ -32,7 +32,7 @@ pub fn write_ask(l: List, room: &[u64], size: usize, out: &mut [u8]) -> Wrote
 
 // Refusals 2, 9, 10, 16, 13, 14, 15.
 pub fn take(l: List, room: &mut [u64], line: &[u8]) -> Taken
-    ensures { λ r. ⌜ TakenIs (held l (now (room .entry))) (takingHeld lines Near (held l (now (room .entry))) (now (line .entry))) r (now (room .exit)) ⌝ }
+    ensures { λ r. ⌜ Takes l (takingHeld lines Near (held l (now (room .entry))) (now (line .entry))) (now (room .entry)) r (now (room .exit)) ⌝ }
 {
     let near = Order::Near;
     if !tablet::is_sound(near, l, room) {

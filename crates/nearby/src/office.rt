@@ -3,7 +3,7 @@ ghost use mathlib.Core.Path.{_≡_};
 ghost use lib.ListN.{length};
 ghost use Rattle.paper.specs.Tree.{lent};
 ghost use Rattle.paper.specs.Calls.{officeCall};
-ghost use Rattle.desk.specs.Desk.{Says};
+ghost use Rattle.paper.specs.Lines.{Writes};
 use crate::tables::table_refusal;
 use paper::limits::LONGEST_ANSWER;
 use paper::lines::Wrote;
@@ -18,7 +18,7 @@ pub fn answer(
     line: &[u8],
     out: &mut [u8],
 ) -> Wrote
-    ensures { λ r. ⌜ Says (officeCall (lent t (references .entry) (coordinates .entry) (rooms .entry)) (length (now (out .entry))) (now (line .entry))) (now (out .entry)) r (now (out .exit)) ⌝ }
+    ensures { λ r. ⌜ Writes (officeCall (lent t (references .entry) (coordinates .entry) (rooms .entry)) (length (now (out .entry))) (now (line .entry))) (now (out .entry)) r (now (out .exit)) ⌝ }
 {
     if out.len() < LONGEST_ANSWER {
         return Wrote::Refused(12);

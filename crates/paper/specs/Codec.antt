@@ -1,15 +1,13 @@
 -- What the lines of kinds 01 and 02 mean to the two ends: a line as an ask or an answer, and back. Definitions only.
 use Prim.Native.Nat.{ℕ}
 use mathlib.Core.Bool.{Bool, true, false, cond}
-use mathlib.Core.List.{List, _++_}
+use mathlib.Core.List.{List}
 use lib.Dec.{eqb}
 use lib.IntN.{ℤ}
-use lib.ListN.{length, take, drop}
+use lib.ListN.{length, take}
 use Rattle.paper.specs.declared.lines.Ask as lines-Ask
 use Rattle.paper.specs.declared.lines.Answer as lines-Answer
 use Rattle.paper.specs.declared.lines.Scope.{Scope}
-use Rattle.paper.specs.declared.lines.Wrote.{Wrote}
-use Rattle.paper.specs.declared.lines.Wrote.the-variants.{Line, Refused}
 use Rattle.paper.specs.declared.orders.Order.{Order}
 use Rattle.paper.specs.declared.orders.Order.the-variants.{Near, Far}
 use Rattle.paper.specs.declared.orders.Place.{Place}
@@ -82,13 +80,3 @@ isNear Far = false
 
 abbrev pub lines : Codec
 lines = record { speaks = isNear; askLine = askLine; answerLine = answerLine; readAsk = readAsk; readAnswer = readAnswer }
-
--- "A writer fills the front of its output room, gives the line's length, and keeps the bytes behind.": a call that writes a line gives this
-unfoldable pub wroteOf : Outcome (List ℕ) → Wrote
-wroteOf (refused n) = Refused n
-wroteOf (gives line) = Line (length line)
-
--- and leaves this in its output room; a refusal leaves the room as it was
-unfoldable pub roomAfter : Outcome (List ℕ) → List ℕ → List ℕ
-roomAfter (refused n) out = out
-roomAfter (gives line) out = line ++ drop (length line) out

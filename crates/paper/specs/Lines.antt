@@ -1,14 +1,14 @@
 -- The three kinds of line. Each has its frame, the test that a writer puts to its fields, the test that a reader puts to a frame, and the
 -- value that a frame holds. Asks and answers take the kind's number as a parameter. Assumes nothing.
 use Prim.Native.Nat.{ℕ, _+_, _*_}
-use mathlib.Core.Path.{_≡_}
 use mathlib.Core.Bool.{Bool, cond, _&&_, _||_}
 use mathlib.Core.List.{List, _++_}
 use lib.ListN.{length, drop, replicate}
 use lib.Dec.{leb, eqb}
 use lib.IntN.{ℤ, pos}
 use Rattle.paper.specs.Points.{inRange}
-use Rattle.paper.specs.Frames.{be, num, lineOf, frameOf, sound, written}
+use Rattle.paper.specs.Outcomes.{Outcome, refused, gives, must, Promise}
+use Rattle.paper.specs.Frames.{be, num, lineOf, frameOf, sound}
 use Rattle.paper.specs.Fields.{head, coordBytes, coordsIn, places, front, scopeIn, scopeOk, itemBytes, itemsIn, itemPlaces, numbersOk, referencesOk}
 use Rattle.paper.specs.declared.lines.Scope.{Scope}
 use Rattle.paper.specs.declared.lines.Ask.{Ask}
@@ -23,18 +23,22 @@ use Rattle.paper.specs.Limits.{itemRoom, mostPage, mostPlaces}
 
 -- ---- writing and reading, whatever the kind
 
--- "Bare line writers: 10, 12." The answer: by whether the fields fit, the room that the kind needs, the frame, and the room o
-unfoldable pub wrote : Bool → ℕ → List ℕ → List ℕ → Wrote
-wrote fits need f o = cond fits (cond (leb need (length o)) (Line (length (lineOf f))) (Refused 12)) (Refused 10)
+-- how a call that writes a line shows its outcome: the line's length, or the refusal's number
+unfoldable pub wroteOf : Outcome (List ℕ) → Wrote
+wroteOf (refused n) = Refused n
+wroteOf (gives line) = Line (length line)
 
--- "A refusal returns its number only, and every .. room holds what it held before." What the room o then holds
-unfoldable pub room : Bool → ℕ → List ℕ → List ℕ → List ℕ
-room fits need f o = cond (fits && leb need (length o)) (written f o) o
+-- the line stands at the front of the output room, and the bytes behind it are kept
+abbrev pub putLine : List ℕ → List ℕ → List ℕ
+putLine line out = line ++ drop (length line) out
 
--- what a writer promises: its answer r, and what its room holds afterwards
-pub record Writes (fits : Bool) (need : ℕ) (f o : List ℕ) (r : Wrote) (left : List ℕ) : Type 0 where
-  pub answer : r ≡ wrote fits need f o
-  pub after : left ≡ room fits need f o
+-- what every call that writes a line promises
+abbrev pub Writes : Outcome (List ℕ) → List ℕ → Wrote → List ℕ → Type 0
+Writes o before r after = Promise wroteOf putLine o before r after
+
+-- a bare writer refuses by 10 and 12: by whether the fields fit, the room that the kind needs, the frame, and the room's length
+unfoldable pub bareLine : Bool → ℕ → List ℕ → ℕ → Outcome (List ℕ)
+bareLine fits need f out = must fits 10 (must (leb need out) 12 (gives (lineOf f)))
 
 -- "Bare line readers: 9, 10." By a kind's test, the value of its frame, and what stands beside a refusal
 unfoldable pub reading : {A : Type 0} → (List ℕ → Bool) → (List ℕ → A) → (ℕ → A) → List ℕ → A

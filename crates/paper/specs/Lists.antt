@@ -6,9 +6,10 @@ use lib.IntN.{ℤ, pos}
 use lib.ListN.{length, getD, take, drop, replicate}
 use Rattle.paper.specs.declared.lists.List as lists
 use Rattle.paper.specs.declared.lists.Opened.{Opened}
+use Rattle.paper.specs.declared.lists.Taken.{Taken}
 use Rattle.paper.specs.declared.orders.Order.{Order}
 use Rattle.paper.specs.Orders.{Item, Query, fronted}
-use Rattle.paper.specs.Outcomes.{Outcome, refused, gives, must, onto}
+use Rattle.paper.specs.Outcomes.{Outcome, refused, gives, must, onto, leaves, Promise}
 use Rattle.paper.specs.Ends.{Codec, Listing, opening, every, sameZ, soundIn, asking, taking}
 use Rattle.paper.specs.Limits.{mostPlaces}
 
@@ -105,22 +106,34 @@ askingHeld c o s size out = must (unusedZero (s .list .d) (s .list .probe)) 2 (a
 unfoldable pub takingHeld : Codec → Order → Held → List ℕ → Outcome Listing
 takingHeld c o s line = must (unusedZero (s .list .d) (s .list .probe)) 2 (taking c (roomFor s) (listing o s) line)
 
--- What is held after a call: on a refusal "every table, list and room holds what it held before"; else "the items are joined to the list,
--- rooms behind them keep their contents".
-unfoldable pub put : Held → Outcome Listing → Held
-put s (refused n) = s
-put s (gives L) =
+-- a list's fields after it took items: what it was opened with stays
+abbrev pub tookFields : lists.List → Listing → lists.List
+tookFields l L =
     record {
-      list = record {
-        table = s .list .table;
-        measure = s .list .measure;
-        d = s .list .d;
-        probe = s .list .probe;
-        reach = s .list .reach;
-        started = L .started;
-        snapshot = L .snapshot;
-        count = length (L .items);
-        complete = L .complete;
-      };
-      room = fronted (L .items) (s .room);
+      table = l .table;
+      measure = l .measure;
+      d = l .d;
+      probe = l .probe;
+      reach = l .reach;
+      started = L .started;
+      snapshot = L .snapshot;
+      count = length (L .items);
+      complete = L .complete;
     }
+
+-- how taking shows its outcome: 0 beside the list as it then stands, or the refusal's number beside the list as it came
+abbrev pub takenAs : lists.List → Outcome Listing → Taken
+takenAs l (refused n) = record { refusal = n; list = l }
+takenAs l (gives L) = record { refusal = 0; list = tookFields l L }
+
+-- the items stand at the front of the list's room, and what is behind them is kept
+abbrev pub putItems : Listing → List ℕ → List ℕ
+putItems L room = fronted (L .items) room
+
+-- what taking promises of a list l and its room
+abbrev pub Takes : lists.List → Outcome Listing → List ℕ → Taken → List ℕ → Type 0
+Takes l o before r after = Promise (takenAs l) putItems o before r after
+
+-- what is held after a call
+unfoldable pub put : Held → Outcome Listing → Held
+put s o = held (takenAs (s .list) o .list) (leaves putItems o (s .room))

@@ -24,7 +24,7 @@ use Rattle.paper.specs.Frames.{frameOf, sound}
 use Rattle.paper.specs.Lines.{askOk, askAt, claimOk, claimAt}
 use Rattle.paper.specs.Ends.{Ask, tableOf, matches, answerOf, answerTo}
 use Rattle.paper.specs.Ends as Ends
-use Rattle.paper.specs.Codec.{asked, answerLine, wroteOf, roomAfter}
+use Rattle.paper.specs.Codec.{asked, answerLine}
 use Rattle.paper.specs.Program.{Books, closed, opened, tableFor, ours, claimIn, withClaim, entering, replyTo, reply, refusal, turn, claimTurn, askTurn, frameTurn, lineTurn}
 use Rattle.paper.proofs.Tests.{and-second}
 use Rattle.tree.specs.Rooms.{IsBuilt}
@@ -32,7 +32,7 @@ use Rattle.tree.specs.Soundness.{Roomy}
 use Rattle.tree.proofs.Adding.{point-length, good-end, added-good, added-claims, added-kept}
 use Rattle.tree.proofs.Places.{claims-length}
 use Rattle.lines.proofs.Tests.{is-claim}
-use Rattle.desk.specs.Desk.{Says}
+use Rattle.paper.specs.Lines.{wroteOf, putLine, Writes}
 use Rattle.serve.specs.Serving.{Put, booksOf, headerFor, Ready, Served, ServedCut}
 use Rattle.serve.proofs.Written.{wrote-none, lent-length, lent-put, lent-same}
 use Rattle.paper.specs.Limits.{longestAnswer, officeClaims}
@@ -93,14 +93,13 @@ module _ (s : Store) (a : Ask) (out : List ℕ) (at : ℕ) where
   ask-none l e z p = rw (said-none z) p
 
   module _ (some : s .table .count ≡ 0 → ⊥) (k : ℕ) (rest : k ≡ length out - at) (inside : at ≤ length out) (w : Wrote) (part : List ℕ)
-      (says : Says (replyTo (tableOf s) a) (take k (drop at out)) w part) (n : ℕ) where
+      (says : Writes (replyTo (tableOf s) a) (take k (drop at out)) w part) (n : ℕ) where
     pub refused-small : w ≡ Refused n → n ≤ 11
-    refused-small e = reply-small (tableOf s) a n (told-refused (replyTo (tableOf s) a) n (sym (says .answer) ∙ e))
+    refused-small e = reply-small (tableOf s) a n (told-refused (replyTo (tableOf s) a) n (sym (says .result) ∙ e))
 
     same : w ≡ Refused n → take at out ++ (part ++ drop k (drop at out)) ≡ out
-    unfolding roomAfter
     same e =
-        lent-same out at k rest part inside (rw (told-refused (replyTo (tableOf s) a) n (sym (says .answer) ∙ e)) at (says .room))
+        lent-same out at k rest part inside (rw (told-refused (replyTo (tableOf s) a) n (sym (says .result) ∙ e)) at (says .memory))
 
     pub refuse-ready : w ≡ Refused n → at + 11 ≤ length out → (n < 100) × (at + 11 ≤ length (take at out ++ (part ++ drop k (drop at out))))
     refuse-ready e room = (let h = refused-small e in omega arith, rw (same e) room)
@@ -108,16 +107,15 @@ module _ (s : Store) (a : Ask) (out : List ℕ) (at : ℕ) where
     pub ask-refused : w ≡ Refused n → (l : List ℕ) (e : ℕ) → Put (refusal n) (take at out ++ (part ++ drop k (drop at out))) at l e → Put Reply out at l e
     unfolding askTurn
     ask-refused e l f p =
-        let q : Reply ≡ refusal n = said-some some (refused n) (told-refused (replyTo (tableOf s) a) n (sym (says .answer) ∙ e)) in
+        let q : Reply ≡ refusal n = said-some some (refused n) (told-refused (replyTo (tableOf s) a) n (sym (says .result) ∙ e)) in
         subst (λ (x : List ℕ). Put x out at l f) (sym q) (rw (same e) at p)
 
     module _ (e : w ≡ Line n) (kept : length part ≡ length (take k (drop at out))) where
       line-told : Told (replyTo (tableOf s) a) n
-      line-told = told (replyTo (tableOf s) a) n (sym (says .answer) ∙ e)
+      line-told = told (replyTo (tableOf s) a) n (sym (says .result) ∙ e)
 
       part-is : part ≡ line-told .line ++ drop (length (line-told .line)) (take k (drop at out))
-      unfolding roomAfter
-      part-is = rw (line-told .is) at (says .room)
+      part-is = rw (line-told .is) at (says .memory)
 
       pub line-inside : at + n ≤ length out
       line-inside =

@@ -52,12 +52,12 @@ fn serve_line(
     requires { ⌜ Serving (lent t references coordinates rooms) (length (now out)) at ⌝ }
     ensures { λ r. ⌜ Served (lineTurn (booksOf (lent t (references .entry) (coordinates .entry) (rooms .entry))) (now (line .entry))) (lent (r .table) (references .exit) (coordinates .exit) (rooms .exit)) (now (out .entry)) at (now (out .exit)) (r .at) ⌝ }
 {
-    if !digits::is_sound(line) {
+    let mut frame = [0u8; LONGEST_FRAME];
+    let n = digits::frame_of(line, &mut frame);
+    if n == 0 {
         let end = refuse(out, at, 9);
         return Step { table: t, at: end };
     }
-    let mut frame = [0u8; LONGEST_FRAME];
-    let n = digits::unhex(line, &mut frame);
     serve_frame(t, references, coordinates, rooms, &frame[..n], out, at)
 }
 

@@ -12,7 +12,7 @@ use borrow.Author.Tests.{le-leb, lt-leb, eq-eqb, ne-eqb, not-true, not-false}
 use Rattle.paper.specs.declared.lines.AnswerRead.{AnswerRead}
 use Rattle.paper.specs.declared.lines.Scope.{Scope}
 use Rattle.paper.specs.declared.lines.Wrote.{Wrote}
-use Rattle.paper.specs.declared.lines.Wrote.the-variants.{Line, Refused}
+use Rattle.paper.specs.declared.lines.Wrote.the-variants.{Refused}
 use Rattle.paper.specs.declared.lists.List as lists
 use Rattle.paper.specs.declared.lists.Opened.{Opened}
 use Rattle.paper.specs.declared.orders.Order.the-variants.{Near}
@@ -20,17 +20,18 @@ use Rattle.paper.specs.declared.orders.Place.{Place}
 use Rattle.paper.specs.Orders.{snapshotOf}
 use Rattle.paper.specs.Outcomes.{Outcome, refused, gives, must, onto, number}
 use Rattle.paper.specs.Points.{inRange}
-use Rattle.paper.specs.Frames.{lineOf, frameOf, written}
+use Rattle.paper.specs.Frames.{lineOf, frameOf}
 use Rattle.paper.specs.Frames as frames
 use Rattle.paper.specs.Fields.{scopeOk}
-use Rattle.paper.specs.Lines.{wrote, room, Writes, reading, askFrame, askRanges, askFits, answerOk, answerAt, anAnswer, noAnswer, answerOf}
+use Rattle.paper.specs.Lines.{Writes, bareLine, reading, askFrame, askRanges, askFits, answerOk, answerAt, anAnswer, noAnswer, answerOf}
 use Rattle.paper.specs.Ends.{Listing, opening, presentPlace, presentAsk, soundIn, asking, taken, taking}
-use Rattle.paper.specs.Lists.{Held, held, listing, roomFor, unusedZero, soundHeld, noList, openedAs, openingHeld, openedTold, askingHeld, takingHeld}
-use Rattle.paper.specs.Codec.{scopeOf, askLine, answered, lines, wroteOf, roomAfter}
+use Rattle.paper.specs.Lists.{Takes, Held, held, listing, roomFor, unusedZero, soundHeld, noList, openedAs, openingHeld, openedTold, askingHeld, takingHeld}
+use Rattle.lines.proofs.Ways.{writes-refused, bare-fits}
+use Rattle.paper.specs.Codec.{scopeOf, askLine, answered, lines}
 use Rattle.paper.proofs.Tests.{and-first, and-second, and-both}
 use Rattle.paper.proofs.Reading.{answer-by-refusal}
 use Rattle.lines.proofs.Tests.{is-answer}
-use Rattle.tablet.specs.Holding.{Asks, asNear, TakenIs}
+use Rattle.tablet.specs.Holding.{Asks, asNear}
 use Rattle.paper.proofs.Ranges.{range-is}
 use Rattle.paper.proofs.Outcomes.{must-stop, must-go}
 use Rattle.tablet.proofs.TakeLaws.{present-after, present-start}
@@ -78,8 +79,8 @@ read-few line x xe h =
     go false b e z = absurd (let w : _≡_ {A = ℕ} 9 0 = unfold noAnswer in z in omega arith)
 
 -- a taking that is equal to another promises the same
-pub taken-same : (s : Held) {x y : Outcome Listing} (r : _) (after : List ℕ) → x ≡ y → TakenIs s y r after → TakenIs s x r after
-taken-same s r after e t = rw e t
+pub taken-same : (l : lists.List) {x y : Outcome Listing} (before : List ℕ) (r : _) (after : List ℕ) → x ≡ y → Takes l y before r after → Takes l x before r after
+taken-same l before r after e t = rw e t
 
 -- ---- writing an ask
 
@@ -124,14 +125,9 @@ module _ (l : lists.List) (mem : List ℕ) (size : ℕ) (asks : Asks l mem) (one
     unfolding askLine listing
     line-is = rw (pe, e)
 
-    pub ask-written : (r : Wrote) (left : List ℕ) → Writes (askFits (l .measure) (l .d) probe p size) longestAsk frame out r left
-        → (r ≡ Line (length (askLine (presentAsk (listing Near (held l mem)) size))))
-        × (left ≡ askLine (presentAsk (listing Near (held l mem)) size) ++ drop (length (askLine (presentAsk (listing Near (held l mem)) size))) out)
-    unfolding wrote room written
-    ask-written r left w = (
-      w .answer ∙ rw (fits-all, le-leb longestAsk (length out) long, line-is),
-      w .after ∙ rw (fits-all, le-leb longestAsk (length out) long, line-is),
-    )
+    pub ask-written : (r : Wrote) (left : List ℕ) → Writes (bareLine (askFits (l .measure) (l .d) probe p size) longestAsk frame (length out)) out r left
+        → Writes (gives (askLine (presentAsk (listing Near (held l mem)) size))) out r left
+    ask-written r left w = rw (bare-fits _ longestAsk frame (length out) fits-all long, line-is) at w
 
 -- the order of refusals: 2, 16, 6, 12
 module _ (l : lists.List) (mem : List ℕ) (size : ℕ) (out : List ℕ) (sound : soundHeld Near (held l mem) ≡ true) where
@@ -141,9 +137,8 @@ module _ (l : lists.List) (mem : List ℕ) (size : ℕ) (out : List ℕ) (sound 
   abbrev ask : Outcome (List ℕ)
   ask = askingHeld lines Near (held l mem) size (length out)
 
-  -- a call that writes a line is told by its outcome
   abbrev Promised : Wrote → List ℕ → Type 0
-  Promised r left = (r ≡ wroteOf ask) × (left ≡ roomAfter ask out)
+  Promised r left = Writes ask out r left
 
   past-2 : ask ≡ must (not (l .complete)) 16 (must (leb 1 size && leb size mostPage) 6 (must (leb longestAsk (length out)) 12 (gives (askLine (presentAsk L size)))))
   unfolding askingHeld asking listing
@@ -151,37 +146,28 @@ module _ (l : lists.List) (mem : List ℕ) (size : ℕ) (out : List ℕ) (sound 
       must-go (unusedZero (l .d) (l .probe)) 2 _ (held-go (held l mem) sound)
       ∙ must-go (soundIn (roomFor (held l mem)) L) 2 _ (in-go (held l mem) sound)
 
-  told : (n : ℕ) → ask ≡ refused n → Promised (Refused n) out
-  unfolding wroteOf roomAfter
-  told n e = (rw e, rw e)
-
   pub ask-16 : l .complete ≡ true → Promised (Refused 16) out
-  ask-16 h = told 16 (past-2 ∙ must-stop (not (l .complete)) 16 _ (ap not h))
+  ask-16 h = writes-refused ask 16 out (past-2 ∙ must-stop (not (l .complete)) 16 _ (ap not h))
 
   module _ (hc : l .complete ≡ false) where
     past-16 : ask ≡ must (leb 1 size && leb size mostPage) 6 (must (leb longestAsk (length out)) 12 (gives (askLine (presentAsk L size))))
     past-16 = past-2 ∙ must-go (not (l .complete)) 16 _ (ap not hc)
 
     pub ask-low : size < 1 → Promised (Refused 6) out
-    ask-low h = told 6 (past-16 ∙ must-stop (leb 1 size && leb size mostPage) 6 _ (rw (lt-leb 1 size h)))
+    ask-low h = writes-refused ask 6 out (past-16 ∙ must-stop (leb 1 size && leb size mostPage) 6 _ (rw (lt-leb 1 size h)))
 
     pub ask-high : 1 ≤ size → mostPage < size → Promised (Refused 6) out
-    ask-high k h = told 6 (past-16 ∙ must-stop (leb 1 size && leb size mostPage) 6 _ (rw (le-leb 1 size k, lt-leb size mostPage h)))
+    ask-high k h = writes-refused ask 6 out (past-16 ∙ must-stop (leb 1 size && leb size mostPage) 6 _ (rw (le-leb 1 size k, lt-leb size mostPage h)))
 
     module _ (one : 1 ≤ size) (most : size ≤ mostPage) where
       past-6 : ask ≡ must (leb longestAsk (length out)) 12 (gives (askLine (presentAsk L size)))
       past-6 = past-16 ∙ must-go (leb 1 size && leb size mostPage) 6 _ (and-both (leb 1 size) _ (le-leb 1 size one) (le-leb size mostPage most))
 
       pub ask-12 : length out < longestAsk → Promised (Refused 12) out
-      ask-12 h = told 12 (past-6 ∙ must-stop (leb longestAsk (length out)) 12 _ (lt-leb longestAsk (length out) h))
+      ask-12 h = writes-refused ask 12 out (past-6 ∙ must-stop (leb longestAsk (length out)) 12 _ (lt-leb longestAsk (length out) h))
 
-      pub ask-put : longestAsk ≤ length out → (r : Wrote) (left : List ℕ)
-          → (r ≡ Line (length (askLine (presentAsk L size)))) × (left ≡ askLine (presentAsk L size) ++ drop (length (askLine (presentAsk L size))) out)
-          → Promised r left
-      unfolding wroteOf roomAfter
-      ask-put h r left w =
-          let e : ask ≡ gives (askLine (presentAsk L size)) = past-6 ∙ must-go (leb longestAsk (length out)) 12 _ (le-leb longestAsk (length out) h) in
-          (w .0 ∙ rw e, w .1 ∙ rw e)
+      pub ask-put : longestAsk ≤ length out → (r : Wrote) (left : List ℕ) → Writes (gives (askLine (presentAsk L size))) out r left → Promised r left
+      ask-put h r left w = rw (past-6 ∙ must-go (leb longestAsk (length out)) 12 _ (le-leb longestAsk (length out) h)) w
 
 -- ---- opening
 

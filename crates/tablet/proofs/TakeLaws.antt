@@ -19,14 +19,14 @@ use Rattle.paper.specs.declared.orders.Place.{Place}
 use Rattle.paper.specs.declared.orders.Place.the-variants.{Start, After}
 use Rattle.paper.specs.Orders.{Item, noItem, follows, snapshotOf, flat, fronted}
 use Rattle.paper.specs.Ends.{every, rising, fitting, lastItem, presentPlace, sameProbe, sameQuery, samePlace, toPresent, pageHolds, startedWell, soundIn, joinedTo, taken, Listing}
-use Rattle.paper.specs.Lists.{Held, held, itemsIn, queryOf, listing, unusedZero, soundHeld, put}
+use Rattle.paper.specs.Lists.{Takes, takenAs, putItems, held, itemsIn, queryOf, listing, unusedZero, soundHeld}
 use Rattle.paper.specs.Codec.{placeIn, scopeOf, answered}
-use Rattle.paper.specs.Outcomes.{Outcome, refused, gives, must, number}
+use Rattle.paper.specs.Outcomes.{Outcome, refused, gives, must}
 use Rattle.paper.specs.Points.{inRange}
 use Rattle.paper.proofs.Tests.{and-first, and-second, never}
-use Rattle.paper.proofs.Outcomes.{must-stop, must-go}
+use Rattle.paper.proofs.Outcomes.{must-stop, must-go, promise-refused, promise-given}
 use Rattle.orders.proofs.Rooms.{length-in, flat-in, flat-append}
-use Rattle.tablet.specs.Holding.{itemsHold, startedBy, Asks, joinedFields, TakenIs}
+use Rattle.tablet.specs.Holding.{itemsHold, startedBy, Asks, joinedFields}
 use Rattle.tablet.proofs.ItemLaws.{itemAt, pass-means}
 use Rattle.tablet.proofs.ListLaws.{same-take}
 use Rattle.paper.specs.Limits.{mostClaims}
@@ -247,14 +247,9 @@ module _ (o : Order) (l : lists.List) (room : List ℕ) (sound : soundHeld o (he
 
 -- ---- the ways through `take_answer`
 
--- a refusal leaves what is held
-pub refuse-is : (s : Held) (x : Outcome Listing) (n : ℕ) (r : Taken) → x ≡ refused n → r ≡ record { refusal = n; list = s .list } → TakenIs s x r (s .room)
-unfolding put
-refuse-is s x n r e re =
-    record {
-      refusal = ap (λ (t : Taken). t .refusal) re ∙ sym (ap number e);
-      state = ap (λ (t : Taken). held (t .list) (s .room)) re ∙ sym (ap (put s) e);
-    }
+-- a refusal leaves the list and its room
+pub takes-refused : (l : lists.List) (x : Outcome Listing) (n : ℕ) (room : List ℕ) (r : Taken) → x ≡ refused n → r ≡ record { refusal = n; list = l } → Takes l x room r room
+takes-refused l x n room r e q = promise-refused (takenAs l) putItems x room n r e q
 
 module _ (o : Order) (l : lists.List) (room : List ℕ) (y : Answer) where
   abbrev L : Listing
@@ -305,13 +300,11 @@ module _ (o : Order) (l : lists.List) (room : List ℕ) (y : Answer) where
   pub joined-is : (x : Outcome Listing) (t : lists.List) (after : List ℕ) → x ≡ gives (joinedTo L (answered o y))
       → l .count * 3 + y .count * 3 ≤ length room → y .count * 3 ≤ length (y .items)
       → t ≡ joinedFields l y (y .count) → after ≡ paste room (l .count * 3) (y .items) (y .count * 3)
-      → TakenIs (held l room) x (record { refusal = 0; list = t }) after
-  unfolding put joinedTo listing answered
+      → Takes l x room (record { refusal = 0; list = t }) after
+  unfolding joinedTo listing answered
   joined-is x t after e h k te ae =
       let n : length (itemsIn (l .count) room ++ itemsIn (y .count) (y .items)) ≡ l .count + y .count =
       omega (arith, length-append (itemsIn (l .count) room) (itemsIn (y .count) (y .items)), length-in (l .count) room, length-in (y .count) (y .items)) in
-      record {
-        refusal = sym (ap number e);
-        state = ap (λ (u : lists.List). held u after) te ∙ ap (held (joinedFields l y (y .count))) ae
-            ∙ rw (← join-front room (y .items) (l .count) (y .count) h k, ← n) (sym (ap (put (held l room)) e));
-      }
+      promise-given (takenAs l) putItems x room (joinedTo L (answered o y)) (record { refusal = 0; list = t }) after e
+      (ap (λ (u : lists.List). record { refusal = 0; list = u }) te ∙ rw (← n))
+      (ae ∙ sym (join-front room (y .items) (l .count) (y .count) h k))

@@ -8,15 +8,13 @@ use lib.IntN.{ℤ}
 use lib.ListN.{length, getD}
 use Rattle.paper.specs.declared.lines.Answer.{Answer}
 use Rattle.paper.specs.declared.lists.List as lists
-use Rattle.paper.specs.declared.lists.Taken.{Taken}
 use Rattle.paper.specs.declared.orders.Order.{Order}
 use Rattle.paper.specs.declared.orders.Order.the-variants.{Near}
 use Rattle.paper.specs.declared.orders.Place.{Place}
 use Rattle.paper.specs.Orders.{Item, Query, follows}
 use Rattle.paper.specs.Points.{inRange}
-use Rattle.paper.specs.Ends.{fitting, leads, Listing}
-use Rattle.paper.specs.Lists.{Held, held, unusedZero, put}
-use Rattle.paper.specs.Outcomes.{Outcome, number}
+use Rattle.paper.specs.Ends.{fitting, leads}
+use Rattle.paper.specs.Lists.{unusedZero}
 use Rattle.paper.specs.Limits.{mostClaims}
 
 -- the first of the items is within reach, below the snapshot and after the place, and comes before the next
@@ -65,11 +63,6 @@ joinedFields l y n =
       count = l .count + n;
       complete = eqb (y .last) 1;
     }
-
--- a call on the list that is held gave r and left the room at `after`, where the definition says `outcome`
-pub record TakenIs (s : Held) (outcome : Outcome Listing) (r : Taken) (after : List ℕ) : Type 0 where
-  pub refusal : r .refusal ≡ number outcome
-  pub state : held (r .list) after ≡ put s outcome
 
 -- a query in near order, the base's order of a list
 abbrev pub asNear : ℕ → ℕ → ℕ → List ℤ → ℕ → Query

@@ -1,13 +1,14 @@
 // The present ask of a list: from the start, or after its last item.
 ghost use mathlib.Core.Path.{_≡_};
 ghost use mathlib.Core.Bool.{true};
-ghost use mathlib.Core.List.{_++_};
 ghost use Prim.Native.Nat.{_≤_, _<_};
-ghost use lib.ListN.{length, drop};
+ghost use lib.ListN.{length};
 ghost use Rattle.paper.specs.Orders.{snapshotOf};
 ghost use Rattle.paper.specs.Ends.{presentPlace, presentAsk};
 ghost use Rattle.paper.specs.Lists.{held, listing, soundHeld, askingHeld};
-ghost use Rattle.paper.specs.Codec.{scopeOf, askLine, lines, wroteOf, roomAfter};
+ghost use Rattle.paper.specs.Outcomes.{gives};
+ghost use Rattle.paper.specs.Lines.{Writes};
+ghost use Rattle.paper.specs.Codec.{scopeOf, askLine, lines};
 ghost use Rattle.paper.specs.declared.orders.Order.{Order};
 ghost use Rattle.paper.specs.declared.orders.Order.the-variants.{Near};
 ghost use Rattle.tablet.specs.Holding.{Asks};
@@ -45,7 +46,7 @@ pub fn present(l: List, room: &[u64]) -> Scope
 // Writes the present ask of a sound list.
 pub fn write_ask(l: List, room: &[u64], size: usize, out: &mut [u8]) -> Wrote
     requires { ⌜ soundHeld Near (held l (now room)) ≡ true ⌝ }
-    ensures { λ r. ⌜ (r ≡ wroteOf (askingHeld lines Near (held l (now (room .entry))) size (length (now (out .entry))))) × (now (out .exit) ≡ roomAfter (askingHeld lines Near (held l (now (room .entry))) size (length (now (out .entry)))) (now (out .entry))) ⌝ }
+    ensures { λ r. ⌜ Writes (askingHeld lines Near (held l (now (room .entry))) size (length (now (out .entry)))) (now (out .entry)) r (now (out .exit)) ⌝ }
 {
     if l.complete {
         return Wrote::Refused(16);
@@ -64,7 +65,7 @@ pub fn write_ask(l: List, room: &[u64], size: usize, out: &mut [u8]) -> Wrote
 
 fn put_ask(l: List, room: &[u64], size: usize, out: &mut [u8]) -> Wrote
     requires { ⌜ Asks l (now room) × ((1 ≤ size) × ((size ≤ mostPage) × (longestAsk ≤ length (now out)))) ⌝ }
-    ensures { λ r. ⌜ (r ≡ Wrote.Line (length (askLine (presentAsk (listing Near (held l (now (room .entry)))) size)))) × (now (out .exit) ≡ askLine (presentAsk (listing Near (held l (now (room .entry)))) size) ++ drop (length (askLine (presentAsk (listing Near (held l (now (room .entry)))) size))) (now (out .entry))) ⌝ }
+    ensures { λ r. ⌜ Writes (gives (askLine (presentAsk (listing Near (held l (now (room .entry)))) size))) (now (out .entry)) r (now (out .exit)) ⌝ }
 {
     let p = present(l, room);
     let probe = l.probe;

@@ -5,9 +5,9 @@ ghost use Prim.Native.Nat.{_+_, _-_, _*_, _≤_, _<_};
 ghost use lib.ListN.{length};
 ghost use lib.Seq.{paste};
 ghost use Rattle.paper.specs.Ends.{sameProbe, sameQuery, samePlace, toPresent, pageHolds, taken};
-ghost use Rattle.paper.specs.Lists.{held, queryOf, listing, roomFor, soundHeld, takingHeld};
+ghost use Rattle.paper.specs.Lists.{Takes, held, queryOf, listing, roomFor, soundHeld, takingHeld};
 ghost use Rattle.paper.specs.Codec.{placeIn, answered, lines};
-ghost use Rattle.tablet.specs.Holding.{Asks, TakenIs, joinedFields};
+ghost use Rattle.tablet.specs.Holding.{Asks, joinedFields};
 ghost use Rattle.paper.specs.declared.orders.Order as orders-Order;
 ghost use Rattle.paper.specs.declared.orders.Order.the-variants.{Near};
 ghost use Rattle.paper.specs.Limits.{itemRoom, mostPage, mostPlaces};
@@ -165,7 +165,7 @@ fn joined(l: List, y: Answer, n: usize) -> List
 // Takes an answer that was read into a sound list.
 pub fn take_answer(order: Order, l: List, room: &mut [u64], y: Answer) -> Taken
     requires { ⌜ (soundHeld order (held l (now room)) ≡ true) × (y .count ≤ mostPage) ⌝ }
-    ensures { λ r. ⌜ TakenIs (held l (now (room .entry))) (taken (roomFor (held l (now (room .entry)))) (listing order (held l (now (room .entry)))) (answered order y)) r (now (room .exit)) ⌝ }
+    ensures { λ r. ⌜ Takes l (taken (roomFor (held l (now (room .entry)))) (listing order (held l (now (room .entry)))) (answered order y)) (now (room .entry)) r (now (room .exit)) ⌝ }
 {
     if l.complete {
         return refused(16, l);
@@ -188,7 +188,7 @@ pub fn take_answer(order: Order, l: List, room: &mut [u64], y: Answer) -> Taken
 // Takes an answer line into a sound list.
 pub fn take_line(l: List, room: &mut [u64], line: &[u8]) -> Taken
     requires { ⌜ soundHeld Near (held l (now room)) ≡ true ⌝ }
-    ensures { λ r. ⌜ TakenIs (held l (now (room .entry))) (takingHeld lines Near (held l (now (room .entry))) (now (line .entry))) r (now (room .exit)) ⌝ }
+    ensures { λ r. ⌜ Takes l (takingHeld lines Near (held l (now (room .entry))) (now (line .entry))) (now (room .entry)) r (now (room .exit)) ⌝ }
 {
     let read = lines::read_answer(line);
     let n = read.refusal;

@@ -10,7 +10,7 @@ answer-fits-requires : tie.Need-answer-fits-requires
 answer-fits-requires c κs = search needs
 
 returns : tie.Need-returns
-returns c = refused-12 (sym (c .before .before .answer-fits .ensures) ∙ c .before .if1 .taken) (c .if2 .taken)
+returns c = refused-12 _ _ _ _ (sym (c .before .before .answer-fits .ensures) ∙ c .before .if1 .taken) (c .if2 .taken)
 
 fill-answer-requires : tie.Need-fill-answer-requires
 fill-answer-requires c κs =
@@ -24,10 +24,10 @@ same-length c = search needs
 returns-2 : tie.Need-returns-2
 returns-2 c =
     let e = c .before .before .fill-answer .ensures in
-    wrote-line (sym (c .before .before .before .before .before .before .answer-fits .ensures) ∙ c .before .before .before .before .before .if1 .taken) (c .before .before .before .before .if2 .left) (e .0) (e .1)
+    wrote-line _ _ _ _ _ _ (sym (c .before .before .before .before .before .before .answer-fits .ensures) ∙ c .before .before .before .before .before .if1 .taken) (c .before .before .before .before .if2 .left) (e .0) (e .1)
 
 returns-3 : tie.Need-returns-3
-returns-3 c = refused-10 (sym (c .before .answer-fits .ensures) ∙ c .if1 .left)
+returns-3 c = refused-10 _ _ _ _ (sym (c .before .answer-fits .ensures) ∙ c .if1 .left)
 
 pub write-answer-as-spec : {M : Type 1} → statement M
 write-answer-as-spec =

@@ -10,7 +10,7 @@ ask-fits-requires : tie.Need-ask-fits-requires
 ask-fits-requires c κs = search needs
 
 returns : tie.Need-returns
-returns c = refused-12 (sym (c .before .before .ask-fits .ensures) ∙ c .before .if1 .taken) (c .if2 .taken)
+returns c = refused-12 _ _ _ _ (sym (c .before .before .ask-fits .ensures) ∙ c .before .if1 .taken) (c .if2 .taken)
 
 fill-ask-requires : tie.Need-fill-ask-requires
 fill-ask-requires c κs =
@@ -24,10 +24,10 @@ same-length c = search needs
 returns-2 : tie.Need-returns-2
 returns-2 c =
     let e = c .before .before .fill-ask .ensures in
-    wrote-line (sym (c .before .before .before .before .before .before .ask-fits .ensures) ∙ c .before .before .before .before .before .if1 .taken) (c .before .before .before .before .if2 .left) (e .0) (e .1)
+    wrote-line _ _ _ _ _ _ (sym (c .before .before .before .before .before .before .ask-fits .ensures) ∙ c .before .before .before .before .before .if1 .taken) (c .before .before .before .before .if2 .left) (e .0) (e .1)
 
 returns-3 : tie.Need-returns-3
-returns-3 c = refused-10 (sym (c .before .ask-fits .ensures) ∙ c .if1 .left)
+returns-3 c = refused-10 _ _ _ _ (sym (c .before .ask-fits .ensures) ∙ c .if1 .left)
 
 pub write-ask-as-spec : {M : Type 1} → statement M
 write-ask-as-spec =

@@ -20,7 +20,7 @@ same-length : tie.Need-same-length
 same-length c = search needs
 
 returns-2 : tie.Need-returns-2
-returns-2 c = record { answer = c .before .before .write-ask .ensures .0; room = c .before .before .write-ask .ensures .1 }
+returns-2 c = c .before .before .write-ask .ensures
 
 pub write-ask-spec : {M : Type 1} → statement M
 write-ask-spec =

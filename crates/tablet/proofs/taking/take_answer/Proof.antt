@@ -3,7 +3,7 @@ use Prim.Native.Nat.{_+_, _*_, _/_, _<_, _≤_}
 use mathlib.Core.Path.{_≡_}
 use native.Mathlib.Omega.{arith}
 use lib.ListN.{length}
-use Rattle.tablet.proofs.TakeLaws.{sound-few, sound-asks, refuse-is, take-16, take-13, take-14, take-15, take-joined, joined-is}
+use Rattle.tablet.proofs.TakeLaws.{sound-few, sound-asks, takes-refused, take-16, take-13, take-14, take-15, take-joined, joined-is}
 use borrow.Author.Needs.{needs}
 use Rattle.tablet.proofs.taking.take_answer.Statement.{statement}
 use Rattle.tablet.proofs.taking.take_answer.Tie as tie
@@ -12,7 +12,7 @@ refused-requires : tie.Need-refused-requires
 refused-requires c κs = search needs
 
 returns : tie.Need-returns
-returns c = refuse-is _ _ _ _ (take-16 (c .before .before .before .args .order) (c .before .before .before .args .l) (c .before .before .before .args .room .now) (c .before .before .before .args .y) (c .before .if1 .taken)) (c .refused .ensures)
+returns c = takes-refused _ _ _ _ _ (take-16 (c .before .before .before .args .order) (c .before .before .before .args .l) (c .before .before .before .args .room .now) (c .before .before .before .args .y) (c .before .if1 .taken)) (c .refused .ensures)
 
 to-present-requires : tie.Need-to-present-requires
 to-present-requires c κs = sound-asks (c .before .before .before .args .order) (c .before .before .before .args .l) (c .before .before .before .args .room .now) (c .before .before .before .pre .0) (c .before .if1 .left)
@@ -26,7 +26,7 @@ same-length c = search needs
 returns-2 : tie.Need-returns-2
 returns-2 c =
     let g = c .before .before .before .before .before .before .args in
-    refuse-is _ _ _ _ (take-13 (g .order) (g .l) (g .room .now) (g .y) (c .before .before .before .before .if1 .left) _ (c .before .before .to-present .ensures (g .order)) (c .before .if2 .taken)) (c .refused2 .ensures)
+    takes-refused _ _ _ _ _ (take-13 (g .order) (g .l) (g .room .now) (g .y) (c .before .before .before .before .if1 .left) _ (c .before .before .to-present .ensures (g .order)) (c .before .if2 .taken)) (c .refused2 .ensures)
 
 page-holds-requires : tie.Need-page-holds-requires
 page-holds-requires c κs = search needs
@@ -40,7 +40,7 @@ same-length-2 c = search needs
 returns-3 : tie.Need-returns-3
 returns-3 c =
     let g = c .before .before .before .before .before .before .before .before .args in
-    refuse-is _ _ _ _
+    takes-refused _ _ _ _ _
     (take-14 (g .order) (g .l) (g .room .now) (g .y) (c .before .before .before .before .before .before .if1 .left) _ (c .before .before .before .before .to-present .ensures (g .order)) (c .before .before .before .if2 .left) _ (c .before .before .page-holds .ensures) (c .before .if3 .taken))
     (c .refused3 .ensures)
 
@@ -59,7 +59,7 @@ same-length-3 c = search needs
 returns-4 : tie.Need-returns-4
 returns-4 c =
     let g = c .before .before .before .before .before .before .before .before .before .before .before .args in
-    refuse-is _ _ _ _
+    takes-refused _ _ _ _ _
     (take-15 (g .order) (g .l) (g .room .now) (g .y) (c .before .before .before .before .before .before .before .before .before .if1 .left) _ (c .before .before .before .before .before .before .before .to-present .ensures (g .order)) (c .before .before .before .before .before .before .if2 .left) _ (c .before .before .before .before .before .page-holds .ensures) (c .before .before .before .before .if3 .left)
     (sound-few (g .order) (g .l) (g .room .now) (c .before .before .before .before .before .before .before .before .before .before .before .pre .0)) (c .before .if4 .taken))
     (c .refused4 .ensures)

@@ -1,6 +1,6 @@
 -- `tablet::taking::take_line` meets its contract: a line that does not read, or an answer taken. Assumes nothing.
 use Rattle.tablet.proofs.EndLaws.{take-unread, take-read, read-few, taken-same}
-use Rattle.tablet.proofs.TakeLaws.{refuse-is}
+use Rattle.tablet.proofs.TakeLaws.{takes-refused}
 use borrow.Author.Needs.{needs}
 use Rattle.tablet.proofs.taking.take_line.Statement.{statement}
 use Rattle.tablet.proofs.taking.take_line.Tie as tie
@@ -12,7 +12,7 @@ refused-requires : tie.Need-refused-requires
 refused-requires c κs = search needs
 
 returns : tie.Need-returns
-returns c = refuse-is _ _ _ _ (take-unread _ (c .before .before .before .before .before .pre) _ _ (c .before .before .read-answer .ensures) (c .before .if1 .taken)) (c .refused .ensures)
+returns c = takes-refused _ _ _ _ _ (take-unread _ (c .before .before .before .before .before .pre) _ _ (c .before .before .read-answer .ensures) (c .before .if1 .taken)) (c .refused .ensures)
 
 take-answer-requires : tie.Need-take-answer-requires
 take-answer-requires c κs = (c .before .before .before .before .before .before .pre, read-few _ _ (c .before .before .before .read-answer .ensures) (c .before .before .if1 .left))
@@ -21,7 +21,7 @@ same-length : tie.Need-same-length
 same-length c = search needs
 
 returns-2 : tie.Need-returns-2
-returns-2 c = taken-same _ _ _ (take-read _ (c .before .before .before .before .before .before .before .before .before .pre) _ _ (c .before .before .before .before .before .before .read-answer .ensures) (c .before .before .before .before .before .if1 .left)) (c .before .before .take-answer .ensures)
+returns-2 c = taken-same _ _ _ _ (take-read _ (c .before .before .before .before .before .before .before .before .before .pre) _ _ (c .before .before .before .before .before .before .read-answer .ensures) (c .before .before .before .before .before .if1 .left)) (c .before .before .take-answer .ensures)
 
 pub take-line-spec : {M : Type 1} → statement M
 take-line-spec =
