@@ -3,6 +3,6 @@ pub mod Steps
 pub mod Loops
 pub mod Whole
 pub mod Alone
-pub mod Settled
+pub mod Given
 pub mod Ample
 pub mod Unended

@@ -7,33 +7,32 @@ use lib.ListN.{length}
 use borrow.Author.Tests.{le-leb, lt-leb}
 use Rattle.paper.specs.Outcomes.{Outcome, refused, gives}
 use Rattle.paper.specs.Tree.{Store}
-use Rattle.paper.proofs.Outcomes.{must-stop, must-go}
+use Rattle.paper.proofs.Outcomes.{must-stop, must-go, promise-refused, promise-given}
 use Rattle.nearby.specs.Checks.{tableRefusal}
 use Rattle.nearby.proofs.CallLaws.{table-refused, table-goes}
 use Rattle.batch.specs.declared.Answered.{Answered}
-use Rattle.batch.specs.Batch.{Batch, start, answered, batchCall, batchAfter, Promise, refusedBy, Stands}
+use Rattle.batch.specs.Batch.{Batch, start, answered, batchCall, Rooms, twoRooms, answeredAs, putBatch, AnswersAll, refusedBy, Stands}
 use Rattle.paper.specs.Limits.{longestAnswer}
 
-promise-refused : (o : Outcome Batch) (n : ℕ) (outcomes out : List ℕ) (r : Answered) → o ≡ refused n → r ≡ refusedBy n → Promise o (start outcomes out) r outcomes out
-unfolding batchAfter
-promise-refused o n outcomes out r e q = record { refusal = rw (q, e); batch = rw (q, e) }
-
-promise-given : (o : Outcome Batch) (b b₀ : Batch) (r : Answered) (outcomes out : List ℕ) → o ≡ gives b → Stands b r outcomes out → Promise o b₀ r outcomes out
-unfolding batchAfter
-promise-given o b b₀ r outcomes out e q = record { refusal = rw e (q .refusal); batch = rw e (q .batch) }
+stands-given : (o : Outcome Batch) (b : Batch) (before : Rooms) (r : Answered) (outcomes out : List ℕ) → o ≡ gives b → Stands b r outcomes out
+    → AnswersAll o before r (twoRooms outcomes out)
+stands-given o b before r outcomes out e q =
+    promise-given answeredAs putBatch o before b r (twoRooms outcomes out) e
+    (λ i. record { refusal = q .refusal i; lines = q .batch i .lines; used = q .batch i .used; written = q .batch i .written })
+    (λ i. twoRooms (q .batch i .outcomes) (q .batch i .out))
 
 module _ (s : Store) (asks outcomes out : List ℕ) (r : Answered) where
-  pub all-12 : length out < longestAnswer → r ≡ refusedBy 12 → Promise (batchCall s asks outcomes out) (start outcomes out) r outcomes out
+  pub all-12 : length out < longestAnswer → r ≡ refusedBy 12 → AnswersAll (batchCall s asks outcomes out) (twoRooms outcomes out) r (twoRooms outcomes out)
   unfolding batchCall
-  all-12 h q = promise-refused _ 12 outcomes out r (must-stop (leb longestAnswer (length out)) 12 _ (lt-leb longestAnswer (length out) h)) q
+  all-12 h q = promise-refused answeredAs putBatch _ (twoRooms outcomes out) 12 r (must-stop (leb longestAnswer (length out)) 12 _ (lt-leb longestAnswer (length out) h)) q
 
   module _ (long : longestAnswer ≤ length out) (n : ℕ) (we : n ≡ tableRefusal s) where
-    pub all-refused : (n ≡ 0 → ⊥) → r ≡ refusedBy n → Promise (batchCall s asks outcomes out) (start outcomes out) r outcomes out
+    pub all-refused : (n ≡ 0 → ⊥) → r ≡ refusedBy n → AnswersAll (batchCall s asks outcomes out) (twoRooms outcomes out) r (twoRooms outcomes out)
     unfolding batchCall
-    all-refused h q = promise-refused _ n outcomes out r (must-go (leb longestAnswer (length out)) 12 _ (le-leb longestAnswer (length out) long) ∙ table-refused s n we _ h) q
+    all-refused h q = promise-refused answeredAs putBatch _ (twoRooms outcomes out) n r (must-go (leb longestAnswer (length out)) 12 _ (le-leb longestAnswer (length out) long) ∙ table-refused s n we _ h) q
 
     pub all-answered : n ≡ 0 → (outcomes' out' : List ℕ) → Stands (answered (length asks) s asks (start outcomes out)) r outcomes' out'
-        → Promise (batchCall s asks outcomes out) (start outcomes out) r outcomes' out'
+        → AnswersAll (batchCall s asks outcomes out) (twoRooms outcomes out) r (twoRooms outcomes' out')
     unfolding batchCall
     all-answered h outcomes' out' q =
-        promise-given _ _ (start outcomes out) r outcomes' out' (must-go (leb longestAnswer (length out)) 12 _ (le-leb longestAnswer (length out) long) ∙ table-goes s n we h _) q
+        stands-given _ _ (twoRooms outcomes out) r outcomes' out' (must-go (leb longestAnswer (length out)) 12 _ (le-leb longestAnswer (length out) long) ∙ table-goes s n we h _) q

@@ -7,7 +7,7 @@ use lib.Dec.{ltb, leb, eqb}
 use lib.ListN.{length, getD, take, drop, set}
 use Rattle.paper.specs.declared.lines.Wrote.{Wrote}
 use Rattle.paper.specs.declared.lines.Wrote.the-variants.{Line, Refused}
-use Rattle.paper.specs.Outcomes.{Outcome, refused, gives, must, number, leaves}
+use Rattle.paper.specs.Outcomes.{Outcome, refused, gives, must, number, leaves, Promise}
 use Rattle.paper.specs.Tree.{Store}
 use Rattle.paper.specs.Ends.{answerRoom}
 use Rattle.paper.specs.Lines.{putLine}
@@ -79,11 +79,6 @@ unfoldable pub batchCall : Store → List ℕ → List ℕ → List ℕ → Outc
 batchCall s asks outcomes out =
     must (answerRoom (length out)) 12 (onTable s (gives (answered (length asks) s asks (start outcomes out))))
 
--- a refused call leaves what it found
-unfoldable pub batchAfter : Outcome Batch → Batch → Batch
-batchAfter (refused n) b = b
-batchAfter (gives a) b = a
-
 -- ---- what it comes to, line by line
 
 -- where line k of the asks starts, and the line
@@ -134,13 +129,28 @@ pub record AsAlone (s : Store) (asks : List ℕ) (b : Batch) (k : ℕ) : Type 0 
 abbrev pub batchOf : Answered → List ℕ → List ℕ → Batch
 batchOf r outcomes out = record { lines = r .lines; used = r .used; written = r .written; outcomes = outcomes; out = out }
 
--- what the call promises, where the definition says o and the call found b
-pub record Promise (o : Outcome Batch) (b : Batch) (r : Answered) (outcomes out : List ℕ) : Type 0 where
-  pub refusal : r .refusal ≡ number o
-  pub batch : batchOf r outcomes out ≡ batchAfter o b
-
 abbrev pub refusedBy : ℕ → Answered
 refusedBy n = record { refusal = n; lines = 0; used = 0; written = 0 }
+
+-- how the call shows its outcome: how far it came, or the refusal's number beside zeros
+abbrev pub answeredAs : Outcome Batch → Answered
+answeredAs (refused n) = refusedBy n
+answeredAs (gives b) = record { refusal = 0; lines = b .lines; used = b .used; written = b .written }
+
+-- the two rooms that the call is lent for writing
+pub record Rooms : Type 0 where
+  pub outcomes : List ℕ
+  pub out : List ℕ
+
+abbrev pub twoRooms : List ℕ → List ℕ → Rooms
+twoRooms outcomes out = record { outcomes = outcomes; out = out }
+
+abbrev pub putBatch : Batch → Rooms → Rooms
+putBatch b rooms = twoRooms (b .outcomes) (b .out)
+
+-- what the call promises
+abbrev pub AnswersAll : Outcome Batch → Rooms → Answered → Rooms → Type 0
+AnswersAll o before r after = Promise answeredAs putBatch o before r after
 
 -- the batch stands at b, and nothing is refused
 pub record Stands (b : Batch) (r : Answered) (outcomes out : List ℕ) : Type 0 where

@@ -4,7 +4,7 @@ mod rows;
 mod turns;
 
 ghost use Rattle.paper.specs.Tree.{lent};
-ghost use Rattle.batch.specs.Batch.{start, batchCall, Promise, refusedBy};
+ghost use Rattle.batch.specs.Batch.{batchCall, twoRooms, AnswersAll, refusedBy};
 ghost use mathlib.Core.Path.{_≡_};
 use paper::limits::LONGEST_ANSWER;
 use paper::tables::Table;
@@ -41,7 +41,7 @@ pub fn answer_all(
     outcomes: &mut [u64],
     out: &mut [u8],
 ) -> Answered
-    ensures { λ r. ⌜ Promise (batchCall (lent t (references .entry) (coordinates .entry) (rooms .entry)) (now (asks .entry)) (now (outcomes .entry)) (now (out .entry))) (start (now (outcomes .entry)) (now (out .entry))) r (now (outcomes .exit)) (now (out .exit)) ⌝ }
+    ensures { λ r. ⌜ AnswersAll (batchCall (lent t (references .entry) (coordinates .entry) (rooms .entry)) (now (asks .entry)) (now (outcomes .entry)) (now (out .entry))) (twoRooms (now (outcomes .entry)) (now (out .entry))) r (twoRooms (now (outcomes .exit)) (now (out .exit))) ⌝ }
 {
     if out.len() < LONGEST_ANSWER {
         return refused(12);

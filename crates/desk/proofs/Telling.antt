@@ -21,20 +21,21 @@ use Rattle.paper.specs.Tree.{Store, claimsIn}
 use Rattle.paper.specs.Outcomes.{gives}
 use Rattle.paper.specs.Frames.{lineOf}
 use Rattle.lines.proofs.Ways.{bare-fits}
-use Rattle.paper.specs.Fields.{scopeOk, numbersOk, referencesOk}
+use Rattle.paper.specs.Fields.{flagOf, scopeOk, numbersOk, referencesOk}
 use Rattle.paper.specs.Lines.{Writes, bareLine, answerFrame, answerRanges, answerFits}
 use Rattle.paper.specs.Ends.{answerOf, tableOf}
 use Rattle.paper.specs.Codec.{placeIn, scopeOf, answerLine}
 use Rattle.paper.proofs.Tests.{and-first, and-both}
 use Rattle.tree.specs.Soundness.{Good}
 use Rattle.paper.proofs.Ranges.{is-range}
+use Rattle.paper.proofs.Places.{place-start, place-after}
 use Rattle.tree.proofs.Known.{good-few}
 use Rattle.walk.specs.Asking.{queryOf, Pageable, Markable, PageIs}
 use Rattle.tree.proofs.Places.{claims-length}
 use Rattle.orders.proofs.Rooms.{flat-length}
 use Rattle.walk.proofs.Bridge.{claims-at}
 use Rattle.walk.proofs.Answers.{good-measurable}
-use Rattle.desk.specs.Desk.{Paging, askFor, flagged, pageLine}
+use Rattle.desk.specs.Desk.{Paging, askFor, pageLine}
 use Rattle.paper.specs.Limits.{itemRoom, longestAnswer, mostClaims, mostNumber, mostPage}
 
 -- ---- items that an answer can tell
@@ -95,14 +96,6 @@ pub scope-from : (p : Scope) → scopeOk p ≡ true → p .from ≤ 1
 unfolding scopeOk
 scope-from p e = leb-true (p .from) 1 (and-first (leb (p .from) 1) _ e)
 
-pub place-start : (p : Scope) → p .from ≡ 0 → placeIn p ≡ Start
-unfolding placeIn
-place-start p e = rw (eq-eqb (p .from) 0 e)
-
-pub place-after : (p : Scope) → (p .from ≡ 0 → ⊥) → placeIn p ≡ After (p .snapshot) (record { distance = p .distance; number = p .number })
-unfolding placeIn
-place-after p e = rw (ne-eqb (p .from) 0 e)
-
 pub scope-start : (p : Scope) (n : ℕ) → p .from ≡ 0
     → record { reach = p .reach; from = 0; snapshot = n; distance = 0; number = 0 } ≡ scopeOf (p .reach) (placeIn p) (snapshotOf (placeIn p) n)
 unfolding scopeOf
@@ -135,7 +128,7 @@ line-told : (fits : Bool) (f before : List ℕ) (w : Wrote) (after : List ℕ) �
     → Writes (bareLine fits longestAnswer f (length before)) before w after → Writes (gives (lineOf f)) before w after
 line-told fits f before w after e h x = rw (bare-fits fits longestAnswer f (length before) e h) at x
 
-flag-small : (b : Bool) → flagged b ≤ 1
+flag-small : (b : Bool) → flagOf b ≤ 1
 flag-small true = omega arith
 flag-small false = omega arith
 
@@ -177,7 +170,7 @@ module _ (s : Store) (probe : List ℤ) (p : Scope) (size out : ℕ) (h : Paging
     pub told-few : r .count ≤ mostPage
     told-few = omega (arith, is-page .count, page-few, h .asking .most)
 
-    module _ (scope : Scope) (told : scope ≡ Scoped) (last : ℕ) (flag : last ≡ flagged (r .last)) (n : ℕ) (three : n ≡ 3 * r .count)
+    module _ (scope : Scope) (told : scope ≡ Scoped) (last : ℕ) (flag : last ≡ flagOf (r .last)) (n : ℕ) (three : n ≡ 3 * r .count)
         (known : (i : ℕ) → getD (s .references) i 0 < 4294967296) where
       told-items : take n room' ≡ flat Page
       unfolding fronted
@@ -185,17 +178,17 @@ module _ (s : Store) (probe : List ℤ) (p : Scope) (size out : ℕ) (h : Paging
           let k : n ≡ length (flat Page) = omega (arith, flat-length Page, is-page .count) in
           rw (is-page .room, k) (take-at (flat Page) _ (length (flat Page)) refl)
 
-      fits : answerFits (s .table .measure) (s .table .d) probe Scoped (flagged (r .last)) (length Page) (flat Page) ≡ true
+      fits : answerFits (s .table .measure) (s .table .d) probe Scoped (flagOf (r .last)) (length Page) (flat Page) ≡ true
       unfolding answerFits answerRanges
       fits =
           let g = h .asking .isOpen .good in
           let all = page-small known in
           and-both _ _ (is-range (s .table .measure) (s .table .d) (g .fit .range)) (and-both _ _ (eq-eqb _ _ (h .asking .aimed))
           (and-both _ _ (and-both _ _ (scope-repeats p (s .table .count) (h .asking .scope) (good-few s g))
-          (and-both _ _ (le-leb (flagged (r .last)) 1 (flag-small (r .last))) (le-leb (length Page) mostPage (omega (arith, page-few, h .asking .most)))))
+          (and-both _ _ (le-leb (flagOf (r .last)) 1 (flag-small (r .last))) (le-leb (length Page) mostPage (omega (arith, page-few, h .asking .most)))))
           (and-both _ _ (eq-eqb _ _ (flat-length Page)) (and-both _ _ (flat-references Page all) (flat-numbers Page all)))))
 
-      line-is : lineOf (answerFrame 2 (s .table .number) (s .table .measure) (s .table .d) probe Scoped (flagged (r .last)) (length Page) (flat Page))
+      line-is : lineOf (answerFrame 2 (s .table .number) (s .table .measure) (s .table .d) probe Scoped (flagOf (r .last)) (length Page) (flat Page))
           ≡ answerLine (answerOf (tableOf s) (askFor (s .table) probe p size))
       unfolding answerLine answerOf
       line-is = rw (claims-length (s .table .d) (s .table .count) (s .references) (s .coordinates), is-page .last)

@@ -31,20 +31,10 @@ use Rattle.lines.proofs.Tests.{is-ask}
 use Rattle.walk.specs.Asking.{queryOf}
 use Rattle.tree.proofs.Places.{claims-length}
 use Rattle.desk.specs.Desk.{Given, Answering, Asking, askFor, pageLine, pageReply}
-use Rattle.desk.proofs.Telling.{place-start, place-after}
+use Rattle.paper.proofs.Places.{place-start, place-after}
 use Rattle.paper.specs.Limits.{mostPage}
 
--- ---- is_ours, snapshot_holds
-
-module _ (x a y b z c : ℕ) where
-  pub ours-not : (x ≡ a → ⊥) → false ≡ (eqb x a && (eqb y b && eqb z c))
-  ours-not n = rw (ne-eqb x a n)
-
-  pub ours-nor : x ≡ a → (y ≡ b → ⊥) → false ≡ (eqb x a && (eqb y b && eqb z c))
-  ours-nor e n = rw (eq-eqb x a e, ne-eqb y b n)
-
-  pub ours-then : x ≡ a → y ≡ b → eqb z c ≡ (eqb x a && (eqb y b && eqb z c))
-  ours-then e q = rw (eq-eqb x a e, eq-eqb y b q)
+-- ---- snapshot_holds
 
 pub holds-start : (p : Scope) (n : ℕ) → p .from ≡ 0 → true ≡ leb (snapshotOf (placeIn p) n) n
 holds-start p n e = rw (place-start p e) (sym (le-leb n n (omega arith)))

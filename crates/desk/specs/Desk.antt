@@ -1,7 +1,7 @@
 -- The office's end: what it asks of its table, of an ask and of its output room, and what it then gives. Definitions only.
 use Prim.Native.Nat.{ℕ, _≤_}
 use mathlib.Core.Path.{_≡_}
-use mathlib.Core.Bool.{Bool, true, cond}
+use mathlib.Core.Bool.{true}
 use mathlib.Core.List.{List}
 use lib.IntN.{ℤ}
 use lib.ListN.{length}
@@ -51,9 +51,6 @@ pub record Paging (s : Store) (probe : List ℤ) (p : Scope) (size out : ℕ) : 
 
 abbrev pub askFor : Table → List ℤ → Scope → ℕ → Ask
 askFor t probe p size = record { query = queryOf t Near probe (p .reach); place = placeIn p; size = size }
-
-abbrev pub flagged : Bool → ℕ
-flagged b = cond b 1 0
 
 -- the line of the page that is asked for
 abbrev pub pageLine : Ends.Table → Ask → Outcome (List ℕ)

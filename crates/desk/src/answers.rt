@@ -1,7 +1,6 @@
 // The answer to an ask, as fields or as a line.
 ghost use mathlib.Core.Path.{_≡_};
-ghost use mathlib.Core.Bool.{_&&_};
-ghost use lib.Dec.{leb, eqb};
+ghost use lib.Dec.{leb};
 ghost use lib.ListN.{length};
 ghost use Rattle.paper.specs.declared.orders.Order.the-variants.{Near};
 ghost use Rattle.paper.specs.Orders.{snapshotOf};
@@ -12,25 +11,13 @@ ghost use Rattle.paper.specs.Codec.{lines as Codec·lines};
 ghost use Rattle.paper.specs.Program.{replyTo};
 ghost use Rattle.paper.specs.Lines.{Writes};
 ghost use Rattle.desk.specs.Desk.{Open, Answering, Asking, askFor, pageReply};
-use super::pages::place_in;
 use super::pages::tell_page;
 use paper::lines::Ask;
 use paper::lines::Scope;
 use paper::lines::Wrote;
+use paper::lines::place_of;
 use paper::tables::Table;
-
-// Whether a line is about this table.
-pub fn is_ours(t: Table, number: u32, measure: u8, d: u8) -> bool
-    ensures { λ r. ⌜ r ≡ eqb number (t .number) && (eqb measure (t .measure) && eqb d (t .d)) ⌝ }
-{
-    if number != t.number {
-        return false;
-    }
-    if measure != t.measure {
-        return false;
-    }
-    d as usize == t.d
-}
+use paper::tables::is_ours;
 
 fn snapshot_holds(p: Scope, count: usize) -> bool
     ensures { λ r. ⌜ r ≡ leb (snapshotOf (placeIn p) count) count ⌝ }
@@ -58,7 +45,7 @@ fn answer_here(
     if !snapshot_holds(p, t.count) {
         return Wrote::Refused(7);
     }
-    let place = place_in(p);
+    let place = place_of(p);
     if !walk::questions::mark_holds(t, coordinates, probe, p.reach, place) {
         return Wrote::Refused(8);
     }

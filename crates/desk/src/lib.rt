@@ -4,4 +4,3 @@ mod pages;
 
 pub use answers::answer_ask;
 pub use answers::answer_line;
-pub use answers::is_ours;

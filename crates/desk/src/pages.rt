@@ -7,24 +7,14 @@ ghost use Rattle.paper.specs.Tree.{lent};
 ghost use Rattle.paper.specs.Ends.{tableOf};
 ghost use Rattle.paper.specs.Codec.{placeIn, scopeOf};
 ghost use Rattle.paper.specs.Lines.{Writes};
-ghost use Rattle.desk.specs.Desk.{Paging, askFor, flagged, pageLine};
+ghost use Rattle.desk.specs.Desk.{Paging, askFor, pageLine};
 use paper::limits::ITEM_ROOM;
 use paper::lines::Scope;
 use paper::lines::Wrote;
-use paper::orders::Mark;
+use paper::lines::flag;
+use paper::lines::place_of;
 use paper::orders::Order;
-use paper::orders::Place;
 use paper::tables::Table;
-
-// Where the page starts, by the fields of an ask.
-pub fn place_in(p: Scope) -> Place
-    ensures { λ r. ⌜ r ≡ placeIn p ⌝ }
-{
-    if p.from == 0 {
-        return Place::Start;
-    }
-    Place::After(p.snapshot as u64, Mark::at(p.distance, p.number as u64))
-}
 
 // The fields that the answer repeats, with the snapshot that it used.
 fn answer_scope(p: Scope, count: u16) -> Scope
@@ -43,12 +33,6 @@ fn answer_scope(p: Scope, count: u16) -> Scope
     p
 }
 
-fn flag(b: bool) -> u8
-    ensures { λ r. ⌜ r ≡ flagged b ⌝ }
-{
-    if b { 1 } else { 0 }
-}
-
 // Finds the page and writes its line.
 pub fn tell_page(
     t: Table,
@@ -65,7 +49,7 @@ pub fn tell_page(
 {
     let mut room = [0u64; ITEM_ROOM];
     let near = Order::Near;
-    let place = place_in(p);
+    let place = place_of(p);
     let paged = walk::questions::page_of(
         t,
         references,

@@ -29,9 +29,6 @@ use Rattle.nearby_c.specs.declared.values.Written.{Written}
 use Rattle.nearby_c.specs.declared.values.Listing.{Listing}
 use Rattle.nearby_c.specs.declared.values.Listed.{Listed}
 
-abbrev pub flagOf : Bool → ℕ
-flagOf b = cond b 1 0
-
 abbrev pub flagIn : ℕ → Bool
 flagIn n = not (eqb n 0)
 

@@ -3,7 +3,7 @@ ghost use mathlib.Core.Path.{_≡_};
 ghost use Rattle.paper.specs.Tree.{lent};
 ghost use Rattle.many.specs.Many.{nearestEach, farthestEach, Answers};
 ghost use Rattle.many.specs.Pages.{bothRooms, pagesEach, Pages};
-ghost use Rattle.batch.specs.Batch.{start, batchCall, Promise};
+ghost use Rattle.batch.specs.Batch.{batchCall, twoRooms, AnswersAll};
 use batch::Answered;
 use paper::tables::Table;
 
@@ -80,7 +80,7 @@ pub extern "C" fn nearby_many_answers(
     outcomes: &mut [u64],
     out: &mut [u8],
 ) -> Answered
-    ensures { λ r. ⌜ Promise (batchCall (lent t (references .entry) (coordinates .entry) (rooms .entry)) (now (asks .entry)) (now (outcomes .entry)) (now (out .entry))) (start (now (outcomes .entry)) (now (out .entry))) r (now (outcomes .exit)) (now (out .exit)) ⌝ }
+    ensures { λ r. ⌜ AnswersAll (batchCall (lent t (references .entry) (coordinates .entry) (rooms .entry)) (now (asks .entry)) (now (outcomes .entry)) (now (out .entry))) (twoRooms (now (outcomes .entry)) (now (out .entry))) r (twoRooms (now (outcomes .exit)) (now (out .exit))) ⌝ }
 {
     batch::answer_all(t, references, coordinates, rooms, asks, outcomes, out)
 }

@@ -4,9 +4,10 @@ ghost use mathlib.Core.Path.{_≡_};
 ghost use Rattle.paper.specs.Outcomes.{refused};
 ghost use Rattle.paper.specs.Runs.{madeTold, enteredTold};
 ghost use Rattle.paper.specs.Calls.{nearestTold, pageTold};
-ghost use Rattle.nearby_c.specs.Values.{flagOf, tabled, foundOf, filledOf, writtenOf, placeOf, listIn, listOut};
+ghost use Rattle.nearby_c.specs.Values.{tabled, foundOf, filledOf, writtenOf, placeOf, listIn, listOut};
 use paper::limits::MOST_PLACES;
 use paper::lines::Wrote;
+use paper::lines::flag;
 use paper::lists::List;
 use paper::orders::Found;
 use paper::orders::Mark;
@@ -77,12 +78,6 @@ pub struct Listing {
 pub struct Listed {
     pub refusal: u8,
     pub list: Listing,
-}
-
-fn flag(b: bool) -> u8
-    ensures { λ r. ⌜ r ≡ flagOf b ⌝ }
-{
-    if b { 1 } else { 0 }
 }
 
 // A table of zeros stands beside a refusal.

@@ -3,4 +3,5 @@ pub mod EndExamples
 pub mod Tests
 pub mod Ranges
 pub mod Outcomes
+pub mod Places
 pub mod Reading

@@ -15,6 +15,7 @@ use Rattle.paper.specs.declared.orders.Place.the-variants.{Start, After}
 use Rattle.paper.specs.Orders.{Query, snapshotOf, flat}
 use Rattle.paper.specs.Outcomes.{Outcome, refused, gives, must}
 use Rattle.paper.specs.Frames.{lineOf, frameOf, sound}
+use Rattle.paper.specs.Fields.{flagOf}
 use Rattle.paper.specs.Lines.{askFrame, askOk, askAt, answerFrame, answerOk, answerAt}
 use Rattle.paper.specs.Ends.{Ask, Answer, Codec}
 use Rattle.paper.specs.Lists.{itemsIn}
@@ -63,7 +64,7 @@ unfoldable pub answerLine : Answer → List ℕ
 answerLine y =
     lineOf
     (answerFrame 2 (y .query .table) (y .query .measure) (y .query .d) (y .query .probe)
-    (scopeOf (y .query .reach) (y .place) (y .snapshot)) (cond (y .last) 1 0) (length (y .items)) (flat (y .items)))
+    (scopeOf (y .query .reach) (y .place) (y .snapshot)) (flagOf (y .last)) (length (y .items)) (flat (y .items)))
 
 -- "9, 10"
 unfoldable pub readAsk : List ℕ → Outcome Ask

@@ -1,6 +1,6 @@
 -- The parts that the kinds of line are made of, as bytes, as values read from bytes, and with their ranges. Assumes nothing.
 use Prim.Native.Nat.{ℕ, zero, suc, _+_, _-_, _*_}
-use mathlib.Core.Bool.{Bool, true, _&&_, _||_}
+use mathlib.Core.Bool.{Bool, true, cond, _&&_, _||_}
 use mathlib.Core.List.{List, [], _∷_, _++_}
 use lib.ListN.{drop, replicate}
 use lib.Dec.{ltb, leb, eqb}
@@ -47,6 +47,10 @@ unfoldable pub scopeOk : Scope → Bool
 scopeOk p =
     leb (p .from) 1
     && (leb (p .snapshot) mostClaims && (leb (p .number) mostNumber && (eqb (p .from) 1 || (eqb (p .distance) 0 && eqb (p .number) 0))))
+
+-- a flag is 0 or 1
+abbrev pub flagOf : Bool → ℕ
+flagOf b = cond b 1 0
 
 -- "items of number 2, reference 4, distance 8"
 unfoldable pub item : ℕ → ℕ → ℕ → List ℕ

@@ -1,7 +1,12 @@
 // The three kinds of line as values: what readers give, and what writers answer.
+ghost use mathlib.Core.Path.{_≡_};
+ghost use Rattle.paper.specs.Fields.{flagOf};
+ghost use Rattle.paper.specs.Codec.{placeIn};
 use crate::limits::ITEM_ROOM;
 use crate::limits::MOST_CLAIMS;
 use crate::limits::MOST_PLACES;
+use crate::orders::Mark;
+use crate::orders::Place;
 
 // What an ask and an answer have behind the probe: distance and number are the mark.
 #[repr(C)]
@@ -75,4 +80,21 @@ pub struct ClaimRead {
 pub enum Wrote {
     Line(usize),
     Refused(u8),
+}
+
+// A flag as a line and C have it.
+pub fn flag(b: bool) -> u8
+    ensures { λ r. ⌜ r ≡ flagOf b ⌝ }
+{
+    if b { 1 } else { 0 }
+}
+
+// Where the page starts that an ask or an answer is about.
+pub fn place_of(p: Scope) -> Place
+    ensures { λ r. ⌜ r ≡ placeIn p ⌝ }
+{
+    if p.from == 0 {
+        return Place::Start;
+    }
+    Place::After(p.snapshot as u64, Mark::at(p.distance, p.number as u64))
 }

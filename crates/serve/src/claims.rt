@@ -7,6 +7,7 @@ ghost use Rattle.serve.specs.Serving.{booksOf, headerFor, Claiming, Serv
 use super::saying::refuse;
 use paper::lines::ClaimLine;
 use paper::tables::Table;
+use paper::tables::is_ours;
 
 // What a line leads to: the table after it, and where what was said ends.
 pub struct Step {
@@ -44,7 +45,7 @@ pub fn take_claim(
     ensures { λ r. ⌜ Served (claimTurn (booksOf (lent t (references .entry) (coordinates .entry) (rooms .entry))) (entering (tableFor (booksOf (lent t (references .entry) (coordinates .entry) (rooms .entry))) c) c)) (lent (r .table) (references .exit) (coordinates .exit) (rooms .exit)) (now (out .entry)) at (now (out .exit)) (r .at) ⌝ }
 {
     let header = header_for(t, c);
-    if !desk::is_ours(header, c.table, c.measure, c.d) {
+    if !is_ours(header, c.table, c.measure, c.d) {
         let end = refuse(out, at, 11);
         return Step { table: t, at: end };
     }

@@ -16,21 +16,10 @@ use crate::items::items_hold;
 use crate::probes::same_probe;
 use paper::lines::Answer;
 use paper::lines::Scope;
+use paper::lines::place_of;
 use paper::lists::List;
 use paper::lists::Taken;
-use paper::orders::Mark;
 use paper::orders::Order;
-use paper::orders::Place;
-
-fn place_in(p: Scope) -> Place
-    ensures { λ r. ⌜ r ≡ placeIn p ⌝ }
-{
-    if p.from == 0 {
-        return Place::Start;
-    }
-    let mark = Mark::at(p.distance, p.number as u64);
-    Place::After(p.snapshot as u64, mark)
-}
 
 fn same_place(p: Scope, q: Scope) -> bool
     ensures { λ r. ⌜ r ≡ samePlace (placeIn p) (placeIn q) ⌝ }
@@ -101,7 +90,7 @@ fn page_holds(order: Order, y: Answer) -> bool
     let items = y.items;
     let scope = y.scope;
     let n = y.count as usize;
-    let place = place_in(scope);
+    let place = place_of(scope);
     if !items_hold(order, place, scope.reach, scope.snapshot as u64, &items, n) {
         return false;
     }

@@ -15,21 +15,21 @@ returns c =
     let a = c .before .before .before .before .before .args in
     here-7 (store (a .t) (a .references .now) (a .coordinates .now) (a .rooms .now)) (a .probe .now) (a .p) (a .size) _ (c .before .snapshot-holds .ensures) _ (c .if1 .taken)
 
-place-in-requires : tie.Need-place-in-requires
-place-in-requires c κs = search needs
+place-of-requires : tie.Need-place-of-requires
+place-of-requires c κs = search needs
 
 mark-holds-requires : tie.Need-mark-holds-requires
 mark-holds-requires c κs =
     let a = c .before .before .before .before .before .before .args in
     let s = store (a .t) (a .references .now) (a .coordinates .now) (a .rooms .now) in
-    markable s (a .probe .now) (c .before .before .before .before .before .before .pre .isOpen .good) (c .before .before .before .before .before .before .pre .aimed) (a .p) _ (c .place-in .ensures)
+    markable s (a .probe .now) (c .before .before .before .before .before .before .pre .isOpen .good) (c .before .before .before .before .before .before .pre .aimed) (a .p) _ (c .place-of .ensures)
     (here-stored s (a .probe .now) (a .p) (a .size) _ (c .before .before .snapshot-holds .ensures) (c .before .if1 .left))
 
 returns-2 : tie.Need-returns-2
 returns-2 c =
     let a = c .before .before .before .before .before .before .before .before .args in
     here-8 (store (a .t) (a .references .now) (a .coordinates .now) (a .rooms .now)) (a .probe .now) (a .p) (a .size) _ (c .before .before .before .before .snapshot-holds .ensures)
-    _ _ (c .before .before .place-in .ensures) (c .before .mark-holds .ensures Near (a .references .now)) (c .before .before .before .if1 .left) _ (c .if2 .taken)
+    _ _ (c .before .before .place-of .ensures) (c .before .mark-holds .ensures Near (a .references .now)) (c .before .before .before .if1 .left) _ (c .if2 .taken)
 
 tell-page-requires : tie.Need-tell-page-requires
 tell-page-requires c κs =
@@ -44,7 +44,7 @@ returns-3 : tie.Need-returns-3
 returns-3 c =
     let a = c .before .before .before .before .before .before .before .before .before .before .before .before .args in
     here-page (store (a .t) (a .references .now) (a .coordinates .now) (a .rooms .now)) (a .probe .now) (a .p) (a .size) _ (c .before .before .before .before .before .before .before .before .snapshot-holds .ensures)
-    _ _ (c .before .before .before .before .before .before .place-in .ensures) (c .before .before .before .before .before .mark-holds .ensures Near (a .references .now)) (c .before .before .before .before .before .before .before .if1 .left) _ _ _ (c .before .before .before .before .if2 .left) (c .before .before .tell-page .ensures)
+    _ _ (c .before .before .before .before .before .before .place-of .ensures) (c .before .before .before .before .before .mark-holds .ensures Near (a .references .now)) (c .before .before .before .before .before .before .before .if1 .left) _ _ _ (c .before .before .before .before .if2 .left) (c .before .before .tell-page .ensures)
 
 pub answer-here-spec : {M : Type 1} → statement M
 answer-here-spec =
@@ -52,7 +52,7 @@ answer-here-spec =
     (tie.spec
     snapshot-holds-requires
     returns
-    place-in-requires
+    place-of-requires
     mark-holds-requires
     returns-2
     tell-page-requires

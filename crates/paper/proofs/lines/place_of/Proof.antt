@@ -1,10 +1,10 @@
--- `desk::pages::place_in` meets its contract: 0 is the start, 1 a place. Assumes nothing.
+-- `paper::lines::place_of` meets its contract: 0 is the start, 1 a place. Assumes nothing.
 use mathlib.Core.Path.{sym, ap, _∙_}
 use Rattle.paper.specs.declared.orders.Place.the-variants.{After}
-use Rattle.desk.proofs.Telling.{place-start, place-after}
+use Rattle.paper.proofs.Places.{place-start, place-after}
 use borrow.Author.Needs.{needs}
-use Rattle.desk.proofs.pages.place_in.Statement.{statement}
-use Rattle.desk.proofs.pages.place_in.Tie as tie
+use Rattle.paper.proofs.lines.place_of.Statement.{statement}
+use Rattle.paper.proofs.lines.place_of.Tie as tie
 
 returns : tie.Need-returns
 returns c = sym (place-start (c .before .before .args .p) (c .if1 .taken))
@@ -21,5 +21,5 @@ at-requires c κs = search needs
 returns-2 : tie.Need-returns-2
 returns-2 c = ap (After (c .before .before .before .before .before .args .p .snapshot)) (c .at .ensures) ∙ sym (place-after (c .before .before .before .before .before .args .p) (c .before .before .before .if1 .left))
 
-pub place-in-spec : {M : Type 1} → statement M
-place-in-spec = tie.close (tie.spec returns cast-t3 cast-at at-requires returns-2)
+pub place-of-spec : {M : Type 1} → statement M
+place-of-spec = tie.close (tie.spec returns cast-t3 cast-at at-requires returns-2)
