@@ -150,7 +150,7 @@ module _ (s : Store) (probe : List ℤ) (p : Scope) (size out : ℕ) (h : Paging
 
   pub pageable : (place : Place) (room : List ℕ) → place ≡ placeIn p → itemRoom ≤ length room → Pageable (s .table) place size room
   pageable place room e l =
-      record { stored = rw e (h .stored); some = omega (arith, h .asking .some); most = h .asking .most; long = omega (arith, h .asking .most) }
+      record { stored = rw e (h .stored); some = omega (arith, h .asking .some); long = omega (arith, h .asking .most) }
 
   page-few : length Page ≤ size
   unfolding pageOf

@@ -18,24 +18,6 @@ tells : (a b : ℕ) (u : Bool) → cond u (a < b) (b ≤ a) → u ≡ ltb a b
 tells a b true h = sym (lt-ltb a b h)
 tells a b false h = sym (le-ltb a b h)
 
--- what comes after what
-module _ (o : Order) (x k y j a b : ℕ) (pa : a ≡ rank o x) (pb : b ≡ rank o y) where
-  pub follows-rank : a < b → true ≡ before o x k y j
-  unfolding before
-  follows-rank h = rw (← pa, ← pb, lt-ltb a b h)
-
-  pub leads-rank : b < a → false ≡ before o x k y j
-  unfolding before
-  leads-rank h =
-      let n : b ≤ a = omega arith in
-      rw (← pa, ← pb, le-ltb a b n, ne-eqb a b (λ e. omega arith))
-
-  pub follows-number : b ≤ a → a ≤ b → ltb k j ≡ before o x k y j
-  unfolding before
-  follows-number h g =
-      let e : a ≡ b = omega arith in
-      rw (← pa, ← pb, le-ltb a b h, eq-eqb a b e)
-
 module _ (ask : Asked) (x k : ℕ) where
   pub late : ask .snapshot ≤ k → false ≡ admitted ask x k
   unfolding admitted

@@ -209,7 +209,7 @@ module _ (s : Store) (probe : List ℤ) (reach : ℕ) (place : Place) (size : �
     page-answerable = good-answerable s (sound-good s (fits-fit s (parts .0)) (parts .1)) probe (parts .2)
 
     pub page-pageable : Pageable (s .table) place size room
-    page-pageable = record { stored = parts .5; some = parts .3; most = parts .4; long = parts .6 }
+    page-pageable = record { stored = parts .5; some = parts .3; long = parts .6 }
 
     pub page-filled : (p : Paged) (after : List ℕ) → PageIs (tableQuery s Near probe reach) (claimsIn s) place size room after p
         → PagePromise (pageCall s Near probe reach place size (length room)) (Pages.the-variants.Filled p) room after

@@ -57,13 +57,13 @@ module _ (t : Table) (references : List ℕ) (coordinates : List ℤ) (rooms : L
       record {
         tree = asks .tree;
         lent = record { located = asks .measurable .located; named = asks .named; aimed = asks .measurable .aimed };
-        roomy = record { some = h .some; most = h .most; few = omega arith; long = h .long };
+        roomy = record { some = h .some; few = omega arith; long = h .long };
       }
   ready (After n m) size o h =
       record {
         tree = asks .tree;
         lent = record { located = asks .measurable .located; named = asks .named; aimed = asks .measurable .aimed };
-        roomy = record { some = h .some; most = h .most; few = omega arith; long = h .long };
+        roomy = record { some = h .some; few = omega arith; long = h .long };
       }
 
   done : (place : Place) (size : ℕ) (o o' : List ℕ) (r : ℕ) → Pageable t place size o

@@ -224,7 +224,7 @@ next-here rooms used n m s x h hs read some =
     record { linked = h .linked; room = h .room; inUse = omega (arith, h .linked m (h .inUse) .leads s hs) }
 
 pub roomy-again : (size : ℕ) (o o' : List ℕ) (count r : ℕ) → Roomy size o count → length o' ≡ length o → r ≤ size → Roomy size o' r
-roomy-again size o o' count r h e few = record { some = h .some; most = h .most; few = few; long = omega (arith, h .long) }
+roomy-again size o o' count r h e few = record { some = h .some; few = few; long = omega (arith, h .long) }
 
 -- the rooms left above the one that a side leads to, counted for the measure of the walk
 abbrev pub leftAbove : ℕ → ℕ → ℕ

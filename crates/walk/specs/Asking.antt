@@ -15,7 +15,6 @@ use Rattle.paper.specs.Orders.{Query, startMark, snapshotOf, following, pageOf,
 use Rattle.paper.specs.Tree.{apart, claimsFrom}
 use Rattle.tree.specs.Rooms.{Neartree, Located}
 use Rattle.keep.specs.declared.Asked.{Asked}
-use Rattle.paper.specs.Limits.{mostPage}
 
 -- what is asked of a table
 abbrev pub queryOf : Table → Order → List ℤ → ℕ → Query
@@ -70,7 +69,6 @@ pub record Answerable (t : Table) (references : List ℕ) (coordinates : List �
 pub record Pageable (t : Table) (place : Place) (size : ℕ) (room : List ℕ) : Type 0 where
   pub stored : snapshotOf place (t .count) ≤ t .count
   pub some : 0 < size
-  pub most : size ≤ mostPage
   pub long : size * 3 ≤ length room
 
 -- a place's mark can be measured: the snapshot is not over the count

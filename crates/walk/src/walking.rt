@@ -87,8 +87,8 @@ fn node(
     let kr = right - 1;
     let xr = from_probe(ask.measure, ask.d, points, probe, kr);
     let two = consider(refs, ask, kr, xr, room, one);
-    let rl = keep::rank(order, xl);
-    let rr = keep::rank(order, xr);
+    let rl = order.rank(xl);
+    let rr = order.rank(xr);
     if rr < rl {
         let first = way_down(rooms, ask, m, 1, rr, rl, room, two);
         let three = side(rooms, refs, points, probe, ask, first, room, two);
