@@ -28,7 +28,8 @@ use Rattle.paper.proofs.Tests.{and-first, and-both}
 use Rattle.tree.specs.Soundness.{Good}
 use Rattle.paper.proofs.Ranges.{is-range}
 use Rattle.tree.proofs.Known.{good-few}
-use Rattle.walk.specs.Asking.{queryOf, Pageable, Markable, PageIs}
+use Rattle.paper.specs.Calls.{tableQuery}
+use Rattle.walk.specs.Asking.{Pageable, Markable, PageIs}
 use Rattle.tree.proofs.Places.{claims-length}
 use Rattle.orders.proofs.Rooms.{flat-length}
 use Rattle.walk.proofs.Bridge.{claims-at}
@@ -143,7 +144,7 @@ flag-small false = omega arith
 
 module _ (s : Store) (probe : List ℤ) (p : Scope) (size out : ℕ) (h : Paging s probe p size out) where
   abbrev Page : List Item
-  Page = pageOf (queryOf (s .table) Order.Near probe (p .reach)) (claimsIn s) (placeIn p) size
+  Page = pageOf (tableQuery (s .table) Order.Near probe (p .reach)) (claimsIn s) (placeIn p) size
 
   abbrev Scoped : Scope
   Scoped = scopeOf (p .reach) (placeIn p) (snapshotOf (placeIn p) (s .table .count))
@@ -157,7 +158,7 @@ module _ (s : Store) (probe : List ℤ) (p : Scope) (size out : ℕ) (h : Paging
   page-few = simp length-take (omega arith)
 
   item-small : ((i : ℕ) → getD (s .references) i 0 < 4294967296) → (k : ℕ) → k < snapshotOf (placeIn p) (s .table .count)
-      → Small (itemOf (queryOf (s .table) Order.Near probe (p .reach)) (claimsIn s) k)
+      → Small (itemOf (tableQuery (s .table) Order.Near probe (p .reach)) (claimsIn s) k)
   unfolding itemOf
   item-small known k l =
       let few = good-few s (h .asking .isOpen .good) in
@@ -172,8 +173,8 @@ module _ (s : Store) (probe : List ℤ) (p : Scope) (size out : ℕ) (h : Paging
 
   -- what was written is the line of the page
   module _ (place : Place) (room room' : List ℕ) (r : Paged) (at : place ≡ placeIn p)
-      (is : PageIs (queryOf (s .table) Order.Near probe (p .reach)) (claimsIn s) place size room room' r) where
-    is-page : PageIs (queryOf (s .table) Order.Near probe (p .reach)) (claimsIn s) (placeIn p) size room room' r
+      (is : PageIs (tableQuery (s .table) Order.Near probe (p .reach)) (claimsIn s) place size room room' r) where
+    is-page : PageIs (tableQuery (s .table) Order.Near probe (p .reach)) (claimsIn s) (placeIn p) size room room' r
     is-page = rw at at is
 
     pub told-few : r .count ≤ mostPage

@@ -18,7 +18,7 @@ use Rattle.paper.specs.Ends.{Ask, answerOf}
 use Rattle.paper.specs.Ends as Ends
 use Rattle.paper.specs.Codec.{placeIn, answerLine, wroteOf, roomAfter}
 use Rattle.tree.specs.Soundness.{Good}
-use Rattle.walk.specs.Asking.{queryOf}
+use Rattle.paper.specs.Calls.{tableQuery}
 use Rattle.paper.specs.Limits.{longestAnswer, mostPage, mostPlaces}
 
 -- a call that writes a line: its answer, and what its room then holds
@@ -56,7 +56,7 @@ pub record Paging (s : Store) (probe : List ℤ) (p : Scope) (size out : ℕ) : 
   pub stored : snapshotOf (placeIn p) (s .table .count) ≤ s .table .count
 
 abbrev pub askFor : Table → List ℤ → Scope → ℕ → Ask
-askFor t probe p size = record { query = queryOf t Near probe (p .reach); place = placeIn p; size = size }
+askFor t probe p size = record { query = tableQuery t Near probe (p .reach); place = placeIn p; size = size }
 
 abbrev pub flagged : Bool → ℕ
 flagged b = cond b 1 0
