@@ -30,7 +30,8 @@ use Rattle.tree.specs.Soundness.{Good}
 use Rattle.paper.proofs.Ranges.{is-range}
 use Rattle.paper.proofs.Places.{place-start, place-after}
 use Rattle.tree.proofs.Known.{good-few}
-use Rattle.walk.specs.Asking.{queryOf, Pageable, Markable, PageIs}
+use Rattle.paper.specs.Calls.{tableQuery}
+use Rattle.walk.specs.Asking.{Pageable, Markable, PageIs}
 use Rattle.tree.proofs.Places.{claims-length}
 use Rattle.orders.proofs.Rooms.{flat-length}
 use Rattle.walk.proofs.Bridge.{claims-at}
@@ -134,21 +135,21 @@ flag-small false = omega arith
 
 module _ (s : Store) (probe : List ℤ) (p : Scope) (size out : ℕ) (h : Paging s probe p size out) where
   abbrev Page : List Item
-  Page = pageOf (queryOf (s .table) Order.Near probe (p .reach)) (claimsIn s) (placeIn p) size
+  Page = pageOf (tableQuery (s .table) Order.Near probe (p .reach)) (claimsIn s) (placeIn p) size
 
   abbrev Scoped : Scope
   Scoped = scopeOf (p .reach) (placeIn p) (snapshotOf (placeIn p) (s .table .count))
 
   pub pageable : (place : Place) (room : List ℕ) → place ≡ placeIn p → itemRoom ≤ length room → Pageable (s .table) place size room
   pageable place room e l =
-      record { stored = rw e (h .stored); some = omega (arith, h .asking .some); most = h .asking .most; long = omega (arith, h .asking .most) }
+      record { stored = rw e (h .stored); some = omega (arith, h .asking .some); long = omega (arith, h .asking .most) }
 
   page-few : length Page ≤ size
   unfolding pageOf
   page-few = simp length-take (omega arith)
 
   item-small : ((i : ℕ) → getD (s .references) i 0 < 4294967296) → (k : ℕ) → k < snapshotOf (placeIn p) (s .table .count)
-      → Small (itemOf (queryOf (s .table) Order.Near probe (p .reach)) (claimsIn s) k)
+      → Small (itemOf (tableQuery (s .table) Order.Near probe (p .reach)) (claimsIn s) k)
   unfolding itemOf
   item-small known k l =
       let few = good-few s (h .asking .isOpen .good) in
@@ -163,8 +164,8 @@ module _ (s : Store) (probe : List ℤ) (p : Scope) (size out : ℕ) (h : Paging
 
   -- what was written is the line of the page
   module _ (place : Place) (room room' : List ℕ) (r : Paged) (at : place ≡ placeIn p)
-      (is : PageIs (queryOf (s .table) Order.Near probe (p .reach)) (claimsIn s) place size room room' r) where
-    is-page : PageIs (queryOf (s .table) Order.Near probe (p .reach)) (claimsIn s) (placeIn p) size room room' r
+      (is : PageIs (tableQuery (s .table) Order.Near probe (p .reach)) (claimsIn s) place size room room' r) where
+    is-page : PageIs (tableQuery (s .table) Order.Near probe (p .reach)) (claimsIn s) (placeIn p) size room room' r
     is-page = rw at at is
 
     pub told-few : r .count ≤ mostPage

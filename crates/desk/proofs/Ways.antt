@@ -28,7 +28,7 @@ use Rattle.paper.specs.Program.{replyTo}
 use Rattle.paper.proofs.Tests.{and-first, and-second}
 use Rattle.lines.proofs.Ways.{writes-refused}
 use Rattle.lines.proofs.Tests.{is-ask}
-use Rattle.walk.specs.Asking.{queryOf}
+use Rattle.paper.specs.Calls.{tableQuery}
 use Rattle.tree.proofs.Places.{claims-length}
 use Rattle.desk.specs.Desk.{Given, Answering, Asking, askFor, pageLine, pageReply}
 use Rattle.paper.proofs.Places.{place-start, place-after}
@@ -56,7 +56,7 @@ module _ (s : Store) (probe : List ℤ) (p : Scope) (size : ℕ) (b : Bool) (hol
   pub here-stored : not b ≡ false → snapshotOf (placeIn p) (s .table .count) ≤ s .table .count
   here-stored t = leb-true _ _ (sym holds ∙ not-false b t)
 
-  module _ (m : Bool) (place : Place) (at : place ≡ placeIn p) (marked : m ≡ markHolds (queryOf (s .table) Near probe (p .reach)) (claimsIn s) place) (t : not b ≡ false) where
+  module _ (m : Bool) (place : Place) (at : place ≡ placeIn p) (marked : m ≡ markHolds (tableQuery (s .table) Near probe (p .reach)) (claimsIn s) place) (t : not b ≡ false) where
     pub here-8 : (before : List ℕ) → not m ≡ true → Writes (pageReply (tableOf s) (askFor (s .table) probe p size)) before (Refused 8) before
     unfolding pageReply
     here-8 before u = writes-refused _ 8 before (rw (stored-is, not-false b t, ← at, ← marked, not-true m u))
@@ -64,7 +64,7 @@ module _ (s : Store) (probe : List ℤ) (p : Scope) (size : ℕ) (b : Bool) (hol
     pub here-page : (before : List ℕ) (w : Wrote) (after : List ℕ) → not m ≡ false → Writes (pageLine (tableOf s) (askFor (s .table) probe p size)) before w after
         → Writes (pageReply (tableOf s) (askFor (s .table) probe p size)) before w after
     unfolding pageReply
-    here-page before w after u x = rw (stored-is, not-false b t, sym (ap (λ (z : Place). markHolds (queryOf (s .table) Near probe (p .reach)) (claimsIn s) z) at) ∙ sym marked ∙ not-false m u) x
+    here-page before w after u x = rw (stored-is, not-false b t, sym (ap (λ (z : Place). markHolds (tableQuery (s .table) Near probe (p .reach)) (claimsIn s) z) at) ∙ sym marked ∙ not-false m u) x
 
 -- ---- answer_ask
 

@@ -17,7 +17,7 @@ use Rattle.paper.specs.Ends.{Ask, answerOf}
 use Rattle.paper.specs.Ends as Ends
 use Rattle.paper.specs.Codec.{placeIn, answerLine}
 use Rattle.tree.specs.Soundness.{Good}
-use Rattle.walk.specs.Asking.{queryOf}
+use Rattle.paper.specs.Calls.{tableQuery}
 use Rattle.paper.specs.Limits.{longestAnswer, mostPage, mostPlaces}
 
 -- an ask that a reader gives
@@ -50,7 +50,7 @@ pub record Paging (s : Store) (probe : List ℤ) (p : Scope) (size out : ℕ) : 
   pub stored : snapshotOf (placeIn p) (s .table .count) ≤ s .table .count
 
 abbrev pub askFor : Table → List ℤ → Scope → ℕ → Ask
-askFor t probe p size = record { query = queryOf t Near probe (p .reach); place = placeIn p; size = size }
+askFor t probe p size = record { query = tableQuery t Near probe (p .reach); place = placeIn p; size = size }
 
 -- the line of the page that is asked for
 abbrev pub pageLine : Ends.Table → Ask → Outcome (List ℕ)

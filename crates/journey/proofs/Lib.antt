@@ -5,4 +5,3 @@ pub mod Growth
 pub mod Journey
 pub mod AnyLines
 pub mod Demand
-pub mod Examples

@@ -6,7 +6,7 @@ use native.Mathlib.Omega.{arith}
 use lib.Dec.{ltb, leb}
 use lib.ListN.{getD}
 use mathlib.Core.List.{List}
-use borrow.Author.Tests.{lt-ltb, le-ltb, le-leb, lt-leb, eq-eqb, ne-eqb, ltb-true, ltb-false, leb-true, leb-false}
+use borrow.Author.Tests.{lt-ltb, le-ltb, le-leb, lt-leb, ltb-true, ltb-false, leb-true, leb-false}
 use Rattle.paper.specs.declared.orders.Order.{Order}
 use Rattle.paper.specs.declared.orders.Order.the-variants.{Near, Far}
 use Rattle.paper.specs.Orders.{rank, before}
@@ -17,24 +17,6 @@ use Rattle.keep.specs.Skips.{admitted, capOf, boundOf, halfOf, beyondOf,
 tells : (a b : ℕ) (u : Bool) → cond u (a < b) (b ≤ a) → u ≡ ltb a b
 tells a b true h = sym (lt-ltb a b h)
 tells a b false h = sym (le-ltb a b h)
-
--- what comes after what
-module _ (o : Order) (x k y j a b : ℕ) (pa : a ≡ rank o x) (pb : b ≡ rank o y) where
-  pub follows-rank : a < b → true ≡ before o x k y j
-  unfolding before
-  follows-rank h = rw (← pa, ← pb, lt-ltb a b h)
-
-  pub leads-rank : b < a → false ≡ before o x k y j
-  unfolding before
-  leads-rank h =
-      let n : b ≤ a = omega arith in
-      rw (← pa, ← pb, le-ltb a b n, ne-eqb a b (λ e. omega arith))
-
-  pub follows-number : b ≤ a → a ≤ b → ltb k j ≡ before o x k y j
-  unfolding before
-  follows-number h g =
-      let e : a ≡ b = omega arith in
-      rw (← pa, ← pb, le-ltb a b h, eq-eqb a b e)
 
 module _ (ask : Asked) (x k : ℕ) where
   pub late : ask .snapshot ≤ k → false ≡ admitted ask x k

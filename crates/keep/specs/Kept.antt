@@ -8,7 +8,6 @@ use lib.ListN.{length, take, drop, getD, set}
 use Rattle.paper.specs.declared.orders.Order.{Order}
 use Rattle.paper.specs.Orders.{before}
 use Rattle.keep.specs.Page.{ranks, insert, filled}
-use Rattle.paper.specs.Limits.{mostPage}
 
 -- an order as one number, for claims numbered below 2^64
 abbrev pub key : (ℕ → ℕ) → ℕ → ℕ
@@ -42,7 +41,6 @@ pub record Holding (order : Order) (ref dist : ℕ → ℕ) (ok : ℕ → Bool) 
 -- the room has place for `size` items
 pub record Roomy (size : ℕ) (room : List ℕ) (count : ℕ) : Type 0 where
   pub some : 0 < size
-  pub most : size ≤ mostPage
   pub few : count ≤ size
   pub long : size * 3 ≤ length room
 

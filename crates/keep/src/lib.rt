@@ -4,11 +4,8 @@ ghost use mathlib.Core.Path.{_≡_};
 ghost use Prim.Native.Nat.{_+_, _*_, _<_, _≤_};
 ghost use lib.ListN.{length};
 ghost use mathlib.Core.Bool.{cond};
-ghost use Rattle.paper.specs.Orders.{before};
-ghost use Rattle.paper.specs.Orders.{rank as Orders·rank};
 ghost use Rattle.keep.specs.Kept.{Roomy, PlaceIs, shifted, written, heldAt, KeepIs};
 ghost use Rattle.keep.specs.Skips.{admitted, boundOf, halfOf, beyondOf, passedOf};
-ghost use Rattle.paper.specs.Limits.{mostPage};
 use paper::orders::Mark;
 use paper::orders::Order;
 
@@ -29,31 +26,6 @@ pub struct Asked {
     pub size: usize,
 }
 
-// The order's rank of a distance. Far order turns the distances round.
-pub fn rank(order: Order, x: u64) -> u64
-    ensures { λ r. ⌜ r ≡ Orders·rank order x ⌝ }
-{
-    match order {
-        Order::Near => x,
-        Order::Far => 0xffff_ffff_ffff_ffff - x,
-    }
-}
-
-// Whether distance y and number j come after distance x and number k.
-pub fn follows(order: Order, x: u64, k: u64, y: u64, j: u64) -> bool
-    ensures { λ r. ⌜ r ≡ before order x k y j ⌝ }
-{
-    let a = rank(order, x);
-    let b = rank(order, y);
-    if a < b {
-        return true;
-    }
-    if b < a {
-        return false;
-    }
-    k < j
-}
-
 // Whether claim k, at distance x, is admitted.
 pub fn admits(ask: Asked, x: u64, k: u64) -> bool
     ensures { λ r. ⌜ r ≡ admitted ask x k ⌝ }
@@ -69,7 +41,7 @@ pub fn admits(ask: Asked, x: u64, k: u64) -> bool
         return false;
     }
     if after {
-        return follows(order, ask.mark.distance, ask.mark.number, x, k);
+        return order.before(ask.mark.distance, ask.mark.number, x, k);
     }
     true
 }
@@ -128,19 +100,19 @@ pub fn passed(ask: Asked, x: u64, far: u64) -> bool
     let order = ask.order;
     let after = ask.after;
     if after {
-        return too_far(x, rank(order, ask.mark.distance), far);
+        return too_far(x, order.rank(ask.mark.distance), far);
     }
     false
 }
 
 // The place of distance x and number k among the first `count` items.
 fn place(order: Order, room: &[u64], count: usize, x: u64, k: u64) -> usize
-    requires { ⌜ (count * 3 ≤ length (now room)) × (count ≤ mostPage) ⌝ }
+    requires { ⌜ count * 3 ≤ length (now room) ⌝ }
     ensures { λ r. ⌜ PlaceIs order (now (room .entry)) count x k r ⌝ }
 {
     let mut i = count;
     while 0 < i {
-        if follows(order, room[i * 3 - 1], room[i * 3 - 3], x, k) {
+        if order.before(room[i * 3 - 1], room[i * 3 - 3], x, k) {
             return i;
         }
         i -= 1;
@@ -172,7 +144,7 @@ fn write(room: &mut [u64], a: usize, x: u64, y: u64, z: u64)
 
 // Whether item p is there, and is claim k.
 fn held(room: &[u64], p: usize, count: usize, k: u64) -> bool
-    requires { ⌜ (count * 3 ≤ length (now room)) × (count ≤ mostPage) ⌝ }
+    requires { ⌜ count * 3 ≤ length (now room) ⌝ }
     ensures { λ r. ⌜ r ≡ heldAt (now (room .entry)) p count k ⌝ }
 {
     if p < count {
@@ -225,5 +197,5 @@ pub fn wanted(ask: Asked, room: &[u64], count: usize) -> u64
             Order::Far => 0xffff_ffff_ffff_ffff,
         };
     }
-    rank(order, room[size * 3 - 1])
+    order.rank(room[size * 3 - 1])
 }

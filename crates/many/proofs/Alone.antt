@@ -67,8 +67,8 @@ page-fills s probe reach place size room l h =
     (room-kept (eqb (length probe) (s .table .d)) 5 _ l
     (room-kept (sizeHolds size) 6 _ l
     (room-kept (snapshotHolds (claimsIn s) place) 7 _ l
-    (room-kept (markHolds (tableQuery s Near probe reach) (claimsIn s) place) 8 _ l
-    (room-kept (leb (size * 3) room) 12 _ l (page-fits (tableQuery s Near probe reach) s place size l h)))))))
+    (room-kept (markHolds (tableQuery (s .table) Near probe reach) (claimsIn s) place) 8 _ l
+    (room-kept (leb (size * 3) room) 12 _ l (page-fits (tableQuery (s .table) Near probe reach) s place size l h)))))))
 
 -- ---- the nearest and the farthest
 

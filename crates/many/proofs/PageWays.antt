@@ -76,7 +76,7 @@ module _ (s : Store) (probe : List ℤ) (reach : ℕ) (place : Place) (size room
     pub here-markable : Markable (s .table) (s .coordinates) probe place
     here-markable = page-markable s probe reach place size room 0 (k .tested) refl (k .aimed) true (sym (k .size)) refl b be hb
 
-    module _ (e : Bool) (ee : e ≡ markHolds (tableQuery s Near probe reach) (claimsIn s) place) where
+    module _ (e : Bool) (ee : e ≡ markHolds (tableQuery (s .table) Near probe reach) (claimsIn s) place) where
       pub here-8 : not e ≡ true → _≡_ {A = ℕ} 8 (number (pageCall s Near probe reach place size room))
       here-8 h = page-8 s probe reach place size room 0 (k .tested) refl (k .aimed) true (sym (k .size)) refl b be hb e ee h
 

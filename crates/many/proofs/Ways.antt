@@ -66,7 +66,7 @@ part-length d i l h =
     rw e (length-take-le d (drop (i * d) l) (omega (arith, k)))
 
 pub row-answerable : (s : Store) (probes : List ℤ) (i w out : ℕ) → One s (length probes) i w out
-    → Answerable (s .table) (s .references) (s .coordinates) (s .rooms) (take (i * s .table .d + s .table .d - i * s .table .d) (drop (i * s .table .d) probes))
+    → Answerable s (take (i * s .table .d + s .table .d - i * s .table .d) (drop (i * s .table .d) probes))
 row-answerable s probes i w out h =
     good-answerable s (table-good s 0 (h .tested) refl) (take (i * s .table .d + s .table .d - i * s .table .d) (drop (i * s .table .d) probes))
     (part-length (s .table .d) i probes (h .aimed))

@@ -21,10 +21,10 @@ probeAt s probes i = point (s .table .d) probes i
 
 -- what the single calls find for question i
 abbrev pub nearestAt : Store → List ℤ → List ℕ → ℕ → Found
-nearestAt s probes reaches i = nearestOf (tableQuery s Near (probeAt s probes i) (getD reaches i 0)) (claimsIn s)
+nearestAt s probes reaches i = nearestOf (tableQuery (s .table) Near (probeAt s probes i) (getD reaches i 0)) (claimsIn s)
 
 abbrev pub farthestAt : Store → List ℤ → ℕ → Found
-farthestAt s probes i = farthestOf (tableQuery s Near (probeAt s probes i) 0) (claimsIn s)
+farthestAt s probes i = farthestOf (tableQuery (s .table) Near (probeAt s probes i) 0) (claimsIn s)
 
 -- n questions for an item each: 1, 2, 5, and 12 where the room has under four numbers for each
 unfoldable pub firstsCall : Store → ℕ → ℕ → (ℕ → Found) → List ℕ → Outcome (List ℕ)

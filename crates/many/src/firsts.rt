@@ -27,7 +27,7 @@ fn nearest_row(
     out: &mut [u64],
 )
     requires { ⌜ One (lent t references coordinates rooms) (length (now probes)) i 4 (length (now out)) ⌝ }
-    ensures { λ _. ⌜ now (out .exit) ≡ sets (now (out .entry)) (i * 4) (foundRow (nearestOf (tableQuery (lent t (references .entry) (coordinates .entry) (rooms .entry)) Near (point (t .d) (now (probes .entry)) i) reach) (claimsIn (lent t (references .entry) (coordinates .entry) (rooms .entry))))) ⌝ }
+    ensures { λ _. ⌜ now (out .exit) ≡ sets (now (out .entry)) (i * 4) (foundRow (nearestOf (tableQuery t Near (point (t .d) (now (probes .entry)) i) reach) (claimsIn (lent t (references .entry) (coordinates .entry) (rooms .entry))))) ⌝ }
 {
     let d = t.d;
     let a = i * d;

@@ -23,7 +23,7 @@ use Rattle.paper.specs.Ends.{sizeHolds, tableOf, served, soundIn, asking, takin
 use Rattle.paper.specs.Lists.{Takes, Held, listing, roomFor, unusedZero, soundHeld, askingHeld, takingHeld}
 use Rattle.paper.specs.Codec.{lines}
 use Rattle.paper.specs.Calls.{tableQuery, onTable, aimed, nearestTold, PageOf, thePage, pageCall, pageTold, counted, pageRoom, officeCall}
-use Rattle.paper.proofs.Tests.{and-first, and-second}
+use Rattle.paper.proofs.Tests.{and-first}
 use Rattle.tree.specs.Soundness.{Good, Lent}
 use Rattle.tree.proofs.Known.{fits-fit, sound-good}
 use Rattle.tree.proofs.Places.{claims-length}
@@ -114,8 +114,8 @@ module _ (s : Store) (probe : List ℤ) (reach : ℕ) (place : Place) (size room
     after-5 =
         must (sizeHolds size) 6
         (must (snapshotHolds (claimsIn s) place) 7
-        (must (markHolds (tableQuery s Near probe reach) (claimsIn s) place) 8
-        (must (leb (size * 3) room) 12 (gives (thePage (tableQuery s Near probe reach) s place size)))))
+        (must (markHolds (tableQuery (s .table) Near probe reach) (claimsIn s) place) 8
+        (must (leb (size * 3) room) 12 (gives (thePage (tableQuery (s .table) Near probe reach) s place size)))))
 
     pub page-5 : (length probe ≡ s .table .d → ⊥) → _≡_ {A = ℕ} 5 (number page)
     unfolding pageCall
@@ -135,7 +135,7 @@ module _ (s : Store) (probe : List ℤ) (reach : ℕ) (place : Place) (size room
         unfolding snapshotHolds
         snapshot-is = rw (claims-length (s .table .d) (s .table .count) (s .references) (s .coordinates)) (sym be)
 
-        past-6 : page ≡ must (snapshotHolds (claimsIn s) place) 7 (must (markHolds (tableQuery s Near probe reach) (claimsIn s) place) 8 (must (leb (size * 3) room) 12 (gives (thePage (tableQuery s Near probe reach) s place size))))
+        past-6 : page ≡ must (snapshotHolds (claimsIn s) place) 7 (must (markHolds (tableQuery (s .table) Near probe reach) (claimsIn s) place) 8 (must (leb (size * 3) room) 12 (gives (thePage (tableQuery (s .table) Near probe reach) s place size))))
         past-6 = past-5 ∙ must-go (sizeHolds size) 6 _ (sym ae ∙ not-false a ha)
 
         pub page-7 : not b ≡ true → _≡_ {A = ℕ} 7 (number page)
@@ -149,16 +149,16 @@ module _ (s : Store) (probe : List ℤ) (reach : ℕ) (place : Place) (size room
                 stored = leb-true (snapshotOf place (s .table .count)) (s .table .count) (sym be ∙ not-false b hb);
               }
 
-          module _ (e : Bool) (ee : e ≡ markHolds (tableQuery s Near probe reach) (claimsIn s) place) where
-            past-7 : page ≡ must (markHolds (tableQuery s Near probe reach) (claimsIn s) place) 8 (must (leb (size * 3) room) 12 (gives (thePage (tableQuery s Near probe reach) s place size)))
+          module _ (e : Bool) (ee : e ≡ markHolds (tableQuery (s .table) Near probe reach) (claimsIn s) place) where
+            past-7 : page ≡ must (markHolds (tableQuery (s .table) Near probe reach) (claimsIn s) place) 8 (must (leb (size * 3) room) 12 (gives (thePage (tableQuery (s .table) Near probe reach) s place size)))
             past-7 = past-6 ∙ must-go (snapshotHolds (claimsIn s) place) 7 _ (snapshot-is ∙ not-false b hb)
 
             pub page-8 : not e ≡ true → _≡_ {A = ℕ} 8 (number page)
-            page-8 h = sym (ap number (past-7 ∙ must-stop (markHolds (tableQuery s Near probe reach) (claimsIn s) place) 8 _ (sym ee ∙ not-true e h)))
+            page-8 h = sym (ap number (past-7 ∙ must-stop (markHolds (tableQuery (s .table) Near probe reach) (claimsIn s) place) 8 _ (sym ee ∙ not-true e h)))
 
             module _ (he : not e ≡ false) where
-              past-8 : page ≡ must (leb (size * 3) room) 12 (gives (thePage (tableQuery s Near probe reach) s place size))
-              past-8 = past-7 ∙ must-go (markHolds (tableQuery s Near probe reach) (claimsIn s) place) 8 _ (sym ee ∙ not-false e he)
+              past-8 : page ≡ must (leb (size * 3) room) 12 (gives (thePage (tableQuery (s .table) Near probe reach) s place size))
+              past-8 = past-7 ∙ must-go (markHolds (tableQuery (s .table) Near probe reach) (claimsIn s) place) 8 _ (sym ee ∙ not-false e he)
 
               pub page-12 : room / 3 < size → _≡_ {A = ℕ} 12 (number page)
               page-12 h = sym (ap number (past-8 ∙ must-stop (leb (size * 3) room) 12 _ (lt-leb (size * 3) room (omega arith))))
@@ -180,9 +180,9 @@ module _ (s : Store) (probe : List ℤ) (reach : ℕ) (place : Place) (size : �
       record { answer = rw e; room = rw e }
 
   module _ (z : n ≡ 0) where
-    parts : (fits s ≡ true) × (sound s ≡ true) × (length probe ≡ s .table .d) × (1 ≤ size) × (size ≤ mostPage)
+    parts : (fits s ≡ true) × (sound s ≡ true) × (length probe ≡ s .table .d) × (1 ≤ size)
         × (snapshotOf place (s .table .count) ≤ s .table .count) × (size * 3 ≤ length room)
-        × (pageCall s Near probe reach place size (length room) ≡ gives (thePage (tableQuery s Near probe reach) s place size))
+        × (pageCall s Near probe reach place size (length room) ≡ gives (thePage (tableQuery (s .table) Near probe reach) s place size))
     unfolding pageCall snapshotHolds
     parts =
         let p₁ = number-0 (fits s) 0 _ (sym ne ∙ z) in
@@ -190,31 +190,30 @@ module _ (s : Store) (probe : List ℤ) (reach : ℕ) (place : Place) (size : �
         let p₅ = number-0 (eqb (length probe) (s .table .d)) 4 _ (p₂ .1) in
         let p₆ = number-0 (sizeHolds size) 5 _ (p₅ .1) in
         let p₇ = number-0 (leb (snapshotOf place (length (claimsIn s))) (length (claimsIn s))) 6 _ (p₆ .1) in
-        let p₈ = number-0 (markHolds (tableQuery s Near probe reach) (claimsIn s) place) 7 _ (p₇ .1) in
+        let p₈ = number-0 (markHolds (tableQuery (s .table) Near probe reach) (claimsIn s) place) 7 _ (p₇ .1) in
         let p₁₂ = number-0 (leb (size * 3) (length room)) 11 _ (p₈ .1) in
         let cl = claims-length (s .table .d) (s .table .count) (s .references) (s .coordinates) in (
           p₁ .0,
           p₂ .0,
           eqb-true (length probe) (s .table .d) (p₅ .0),
           leb-true 1 size (and-first (leb 1 size) (leb size mostPage) (p₆ .0)),
-          leb-true size mostPage (and-second (leb 1 size) (leb size mostPage) (p₆ .0)),
           (rw cl at (leb-true (snapshotOf place (length (claimsIn s))) (length (claimsIn s)) (p₇ .0))),
           leb-true (size * 3) (length room) (p₁₂ .0),
           must-go (fits s) 1 _ (p₁ .0) ∙ must-go (sound s) 2 _ (p₂ .0) ∙ must-go (eqb (length probe) (s .table .d)) 5 _ (p₅ .0)
               ∙ must-go (sizeHolds size) 6 _ (p₆ .0) ∙ must-go (leb (snapshotOf place (length (claimsIn s))) (length (claimsIn s))) 7 _ (p₇ .0)
-              ∙ must-go (markHolds (tableQuery s Near probe reach) (claimsIn s) place) 8 _ (p₈ .0) ∙ must-go (leb (size * 3) (length room)) 12 _ (p₁₂ .0),
+              ∙ must-go (markHolds (tableQuery (s .table) Near probe reach) (claimsIn s) place) 8 _ (p₈ .0) ∙ must-go (leb (size * 3) (length room)) 12 _ (p₁₂ .0),
         )
 
-    pub page-answerable : Answerable (s .table) (s .references) (s .coordinates) (s .rooms) probe
+    pub page-answerable : Answerable s probe
     page-answerable = good-answerable s (sound-good s (fits-fit s (parts .0)) (parts .1)) probe (parts .2)
 
     pub page-pageable : Pageable (s .table) place size room
-    page-pageable = record { stored = parts .5; some = parts .3; most = parts .4; long = parts .6 }
+    page-pageable = record { stored = parts .4; some = parts .3; long = parts .5 }
 
-    pub page-filled : (p : Paged) (after : List ℕ) → PageIs (tableQuery s Near probe reach) (claimsIn s) place size room after p
+    pub page-filled : (p : Paged) (after : List ℕ) → PageIs (tableQuery (s .table) Near probe reach) (claimsIn s) place size room after p
         → PagePromise (pageCall s Near probe reach place size (length room)) (Pages.the-variants.Filled p) room after
     unfolding pageTold counted pageRoom thePage
-    page-filled p after w = record { answer = rw (parts .7, w .count, w .last); room = rw (parts .7) (w .room) }
+    page-filled p after w = record { answer = rw (parts .6, w .count, w .last); room = rw (parts .6) (w .room) }
 
 -- ---- calls that write a line
 

@@ -3,6 +3,7 @@ pub mod Lists
 pub mod Sorted
 pub mod Page
 pub mod Meaning
+pub mod Pages
 pub mod Taking
 pub mod Sound
 pub mod Rooms

@@ -1,5 +1,6 @@
 pub mod Examples
 pub mod EndExamples
+pub mod ProgramExample
 pub mod Tests
 pub mod Ranges
 pub mod Outcomes

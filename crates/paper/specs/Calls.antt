@@ -11,6 +11,7 @@ use Rattle.paper.specs.declared.orders.Order.{Order}
 use Rattle.paper.specs.declared.orders.Order.the-variants.{Near}
 use Rattle.paper.specs.declared.orders.Page as Pages
 use Rattle.paper.specs.declared.orders.Place.{Place}
+use Rattle.paper.specs.declared.tables.Table.{Table}
 use Rattle.paper.specs.Orders.{Item, Query, Found, told, following, pageOf, lastOf, nearestOf, farthestOf, snapshotHolds, markHolds, fronted}
 use Rattle.paper.specs.Outcomes.{Outcome, refused, gives, must}
 use Rattle.paper.specs.Tree.{Store, claimsIn, fits, sound}
@@ -18,9 +19,9 @@ use Rattle.paper.specs.Ends.{tableOf, served, answerRoom, sizeHolds}
 use Rattle.paper.specs.Codec.{lines}
 
 -- what is asked of a table: its own number, measure and d
-abbrev pub tableQuery : Store → Order → List ℤ → ℕ → Query
-tableQuery s order probe reach =
-    record { order = order; table = s .table .number; measure = s .table .measure; d = s .table .d; probe = probe; reach = reach }
+abbrev pub tableQuery : Table → Order → List ℤ → ℕ → Query
+tableQuery t order probe reach =
+    record { order = order; table = t .number; measure = t .measure; d = t .d; probe = probe; reach = reach }
 
 -- every call on a table begins with 1 and 2
 abbrev pub onTable : {A : Type 0} → Store → Outcome A → Outcome A
@@ -32,10 +33,10 @@ aimed s probe x = onTable s (must (eqb (length probe) (s .table .d)) 5 x)
 
 -- "Nearest and farthest: 1, 2, 5."
 unfoldable pub nearestCall : Store → List ℤ → ℕ → Outcome Found
-nearestCall s probe reach = aimed s probe (gives (nearestOf (tableQuery s Near probe reach) (claimsIn s)))
+nearestCall s probe reach = aimed s probe (gives (nearestOf (tableQuery (s .table) Near probe reach) (claimsIn s)))
 
 unfoldable pub farthestCall : Store → List ℤ → Outcome Found
-farthestCall s probe = aimed s probe (gives (farthestOf (tableQuery s Near probe 0) (claimsIn s)))
+farthestCall s probe = aimed s probe (gives (farthestOf (tableQuery (s .table) Near probe 0) (claimsIn s)))
 
 -- the number and the values of each case
 unfoldable pub nearestTold : Answers.Nearest → Outcome Found
@@ -57,9 +58,9 @@ pageCall s order probe reach place size room =
     aimed s probe
     (must (sizeHolds size) 6
     (must (snapshotHolds (claimsIn s) place) 7
-    (must (markHolds (tableQuery s order probe reach) (claimsIn s) place) 8
+    (must (markHolds (tableQuery (s .table) order probe reach) (claimsIn s) place) 8
     (must (leb (size * 3) room) 12
-    (gives (thePage (tableQuery s order probe reach) s place size))))))
+    (gives (thePage (tableQuery (s .table) order probe reach) s place size))))))
 
 -- the number and the values of each case: how many items, and whether they are the last
 pub record Counted : Type 0 where

@@ -4,37 +4,13 @@ use Prim.Native.Nat.{ℕ}
 use mathlib.Core.Path.{_≡_}
 use mathlib.Core.Bool.{true, false}
 use mathlib.Core.List.{List, [], _∷_, _++_}
-use lib.IntN.{pos}
-use Rattle.paper.specs.declared.orders.Order.the-variants.{Near}
 use Rattle.paper.specs.Points.{Claim}
-use Rattle.paper.specs.Orders.{Item, Query}
 use Rattle.paper.specs.Outcomes.{Outcome, refused, gives}
 use Rattle.paper.specs.Frames.{lineOf}
-use Rattle.paper.specs.Ends.{Answer, Table, office, answerTo, Listing, fresh, presentAsk, taken}
+use Rattle.paper.specs.Ends.{Answer, office, answerTo, Listing, fresh, presentAsk, taken}
 use Rattle.paper.specs.Codec.{lines}
-use Rattle.paper.specs.Limits.{longestAnswer, officeClaims}
-
--- "Claims 2, 3, 9, 6, 5 as above (document 000, figure 3)", with references 65 to 69 in hexadecimal digits
-abbrev pub claim : ℕ → ℕ → Claim
-claim reference x = record { reference = reference; place = pos x ∷ [] }
-
-abbrev pub five : List Claim
-five = claim 101 2 ∷ claim 102 3 ∷ claim 103 9 ∷ claim 104 6 ∷ claim 105 5 ∷ []
-
--- "a claim at 4 entered after"
-abbrev pub six : List Claim
-six = five ++ (claim 106 4 ∷ [])
-
--- "probe 4, reach 5 unless said"
-abbrev pub query : ℕ → Query
-query reach = record { order = Near; table = 7; measure = 1; d = 1; probe = pos 4 ∷ []; reach = reach }
-
-abbrev pub table : List Claim → Table
-table claims = record { number = 7; measure = 1; d = 1; capacity = officeClaims; claims = claims }
-
--- an item of the five, by its number, reference and distance
-abbrev pub item : ℕ → ℕ → ℕ → Item
-item number reference distance = record { number = number; reference = reference; distance = distance }
+use Rattle.paper.specs.Limits.{longestAnswer}
+use Rattle.paper.specs.Examples.{claim, five, six, query, table, item}
 
 -- the answer to a list's present ask, taken into the list, in a room for so many items
 abbrev pub takes : ℕ → Listing → Outcome Answer → Outcome Listing

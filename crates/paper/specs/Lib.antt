@@ -10,6 +10,7 @@ pub mod Lines
 pub mod Ends
 pub mod Lists
 pub mod Codec
+pub mod Examples
 pub mod EndExamples
 pub mod Calls
 pub mod Program

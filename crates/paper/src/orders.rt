@@ -1,11 +1,39 @@
 // Document 01, "Near order" and "Asking".
 ghost use mathlib.Core.Path.{_≡_};
 ghost use Rattle.paper.specs.Orders.{startMark, markAt};
+ghost use Rattle.paper.specs.Orders.{rank as Orders·rank, before as Orders·before};
 
 // Near order is the base's order of a list; far order is farthest's.
 pub enum Order {
     Near,
     Far,
+}
+
+impl Order {
+    // The order's rank of a distance. Far order turns the distances round.
+    pub fn rank(self, x: u64) -> u64
+        ensures { λ r. ⌜ r ≡ Orders·rank self x ⌝ }
+    {
+        match self {
+            Order::Near => x,
+            Order::Far => 0xffff_ffff_ffff_ffff - x,
+        }
+    }
+
+    // Whether distance x and number k come before distance y and number j.
+    pub fn before(self, x: u64, k: u64, y: u64, j: u64) -> bool
+        ensures { λ r. ⌜ r ≡ Orders·before self x k y j ⌝ }
+    {
+        let a = self.rank(x);
+        let b = self.rank(y);
+        if a < b {
+            return true;
+        }
+        if b < a {
+            return false;
+        }
+        k < j
+    }
 }
 
 // The last claim that a page before has shown: its distance from the probe, with its number.

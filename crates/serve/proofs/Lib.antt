@@ -2,4 +2,3 @@ pub mod Written
 pub mod Turns
 pub mod Moves
 pub mod Session
-pub mod Example

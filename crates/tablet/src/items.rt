@@ -25,7 +25,7 @@ fn is_after(order: Order, place: Place, x: u64, k: u64) -> bool
 {
     match place {
         Place::Start => true,
-        Place::After(_, mark) => keep::follows(order, mark.distance, mark.number, x, k),
+        Place::After(_, mark) => order.before(mark.distance, mark.number, x, k),
     }
 }
 
@@ -54,7 +54,7 @@ fn item_holds(
         return false;
     }
     if i + 1 < count {
-        return keep::follows(order, x, k, room[i * 3 + 5], room[i * 3 + 3]);
+        return order.before(x, k, room[i * 3 + 5], room[i * 3 + 3]);
     }
     true
 }

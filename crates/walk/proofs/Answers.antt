@@ -21,15 +21,16 @@ use Rattle.paper.specs.declared.orders.Place.the-variants.{Start, After}
 use Rattle.paper.specs.declared.points.Measure.{Measure}
 use Rattle.paper.specs.declared.tables.Table.{Table}
 use Rattle.paper.specs.Points.{measureOf, greatestOf, Claim}
-use Rattle.paper.specs.Orders.{Item, Query, startMark, itemOf, listed, follows, snapshotOf, following, pageOf, told, firstOf, nearestOf, farthestOf, markHolds, flat, fronted}
-use Rattle.paper.specs.Tree.{Store}
+use Rattle.paper.specs.Orders.{Item, Query, startMark, itemOf, listed, follows, snapshotOf, following, pageOf, lastOf, told, firstOf, nearestOf, farthestOf, markHolds, flat, fronted}
+use Rattle.paper.specs.Tree.{Store, claimsFrom, claimsIn}
+use Rattle.paper.specs.Calls.{tableQuery}
 use Rattle.tree.specs.Soundness.{Good}
 use Rattle.tree.proofs.Known.{lent-located, good-tree}
 use Rattle.tree.proofs.Places.{located-at, claims-length}
 use Rattle.keep.specs.declared.Asked.{Asked}
 use Rattle.keep.specs.Skips.{admitted}
 use Rattle.walk.specs.Walking.{distOf, distBy, InSight, PageAsk, AskFilled}
-use Rattle.walk.specs.Asking.{queryOf, claimsOf, askedOf, Measurable, Answerable, Pageable, Markable, PageIs}
+use Rattle.walk.specs.Asking.{askedOf, Measurable, Answerable, Pageable, Markable, Fills, PageIs}
 use Rattle.orders.proofs.Rooms.{flat-length}
 use Rattle.orders.proofs.Sorted.{rest-start}
 use Rattle.walk.proofs.Bridge.{item-is, filled-page}
@@ -48,85 +49,99 @@ module _ (t : Table) (order : Order) (reach : ℕ) (place : Place) (size : ℕ) 
   unfolding askedOf
   asked-after n m p = rw p
 
--- the page
-module _ (t : Table) (references : List ℕ) (coordinates : List ℤ) (rooms : List ℕ) (probe : List ℤ) (asks : Answerable t references coordinates rooms probe)
-    (order : Order) (reach : ℕ) where
-  ready : (place : Place) (size : ℕ) (o : List ℕ) → Pageable t place size o → PageAsk rooms references coordinates probe (askedOf t order reach place size) o
+-- the front is filled
+module _ (s : Store) (probe : List ℤ) (asks : Answerable s probe) (order : Order) (reach : ℕ) where
+  abbrev Asks : Place → ℕ → Asked
+  Asks place size = askedOf (s .table) order reach place size
+
+  abbrev Page : Place → ℕ → List Item
+  Page place size = pageOf (tableQuery (s .table) order probe reach) (claimsIn s) place size
+
+  abbrev PageAsks : Asked → List ℕ → Type 0
+  PageAsks ask o = PageAsk (s .references) (s .coordinates) (s .rooms) probe ask o
+
+  abbrev FilledBy : Asked → List ℕ → List ℕ → ℕ → Type 0
+  FilledBy ask o o' r = AskFilled ask (s .references) (distBy ask (s .coordinates) probe) o o' r
+
+  ready : (place : Place) (size : ℕ) (o : List ℕ) → Pageable (s .table) place size o → PageAsks (Asks place size) o
   unfolding askedOf
   ready Start size o h =
       record {
         tree = asks .tree;
         lent = record { located = asks .measurable .located; named = asks .named; aimed = asks .measurable .aimed };
-        roomy = record { some = h .some; most = h .most; few = omega arith; long = h .long };
+        roomy = record { some = h .some; few = omega arith; long = h .long };
       }
   ready (After n m) size o h =
       record {
         tree = asks .tree;
         lent = record { located = asks .measurable .located; named = asks .named; aimed = asks .measurable .aimed };
-        roomy = record { some = h .some; most = h .most; few = omega arith; long = h .long };
+        roomy = record { some = h .some; few = omega arith; long = h .long };
       }
 
-  done : (place : Place) (size : ℕ) (o o' : List ℕ) (r : ℕ) → Pageable t place size o
-      → AskFilled (askedOf t order reach place size) references (distBy (askedOf t order reach place size) coordinates probe) o o' r
-      → PageIs (queryOf t order probe reach) (claimsOf t references coordinates) place size o o' (record { count = r; last = ltb r size })
+  done : (place : Place) (size : ℕ) (o o' : List ℕ) (r : ℕ) → Pageable (s .table) place size o → FilledBy (Asks place size) o o' r → Fills (Page place size) o o' r
   unfolding askedOf admitted follows
   done Start size o o' r h f =
-      filled-page t order reach references coordinates probe Start (omega (arith, asks .tree .few)) (h .stored) _ (λ k. refl) size o o' r f
+      filled-page (s .table) order reach (s .references) (s .coordinates) probe Start (omega (arith, asks .tree .few)) (h .stored) _ (λ k. refl) size o o' r f
   done (After n m) size o o' r h f =
-      filled-page t order reach references coordinates probe (After n m) (omega (arith, asks .tree .few)) (h .stored) _ (λ k. refl) size o o' r f
+      filled-page (s .table) order reach (s .references) (s .coordinates) probe (After n m) (omega (arith, asks .tree .few)) (h .stored) _ (λ k. refl) size o o' r f
 
-  module _ (place : Place) (size : ℕ) (ask : Asked) (is : ask ≡ askedOf t order reach place size) (o : List ℕ) (h : Pageable t place size o) where
-    pub page-ready : PageAsk rooms references coordinates probe ask o
-    page-ready = subst (λ (a : Asked). PageAsk rooms references coordinates probe a o) (sym is) (ready place size o h)
+  module _ (place : Place) (size : ℕ) (ask : Asked) (is : ask ≡ Asks place size) (o : List ℕ) (h : Pageable (s .table) place size o) where
+    pub fill-ready : PageAsks ask o
+    fill-ready = subst (λ (a : Asked). PageAsks a o) (sym is) (ready place size o h)
 
-    pub page-done : (o' : List ℕ) (r : ℕ) → AskFilled ask references (distBy ask coordinates probe) o o' r
-        → PageIs (queryOf t order probe reach) (claimsOf t references coordinates) place size o o' (record { count = r; last = ltb r size })
-    page-done o' r f = done place size o o' r h (subst (λ (a : Asked). AskFilled a references (distBy a coordinates probe) o o' r) is f)
+    pub fill-done : (o' : List ℕ) (r : ℕ) → FilledBy ask o o' r → Fills (Page place size) o o' r
+    fill-done o' r f = done place size o o' r h (subst (λ (a : Asked). FilledBy a o o' r) is f)
 
--- the first of the order: a page of one
-module _ (t : Table) (order : Order) (probe : List ℤ) (reach : ℕ) (references : List ℕ) (coordinates : List ℤ) where
+-- a page is a filled front, and last where it is not full
+pub page-is : (q : Query) (cs : List Claim) (place : Place) (size : ℕ) (o o' : List ℕ) (r : ℕ) → Fills (pageOf q cs place size) o o' r
+    → PageIs q cs place size o o' (record { count = r; last = ltb r size })
+unfolding lastOf pageOf
+page-is q cs place size o o' r h = record { room = h .room; count = h .counts; last = ap (λ (x : ℕ). ltb x size) (h .counts) }
+
+-- the first of the order: a front of one
+module _ (s : Store) (order : Order) (probe : List ℤ) (reach : ℕ) where
+  abbrev Q : Query
+  Q = tableQuery (s .table) order probe reach
+
   abbrev L : List Item
-  L = listed (queryOf t order probe reach) (claimsOf t references coordinates) (t .count)
+  L = listed Q (claimsIn s) (s .table .count)
 
-  pub start-page : (size : ℕ) → pageOf (queryOf t order probe reach) (claimsOf t references coordinates) Start size ≡ take size L
+  start-page : (size : ℕ) → pageOf Q (claimsIn s) Start size ≡ take size L
   unfolding pageOf following
   start-page size =
-      rw (claims-length (t .d) (t .count) references coordinates, rest-start order L)
+      rw (claims-length (s .table .d) (s .table .count) (s .references) (s .coordinates), rest-start order L)
 
-  module _ (o o' : List ℕ) (r : Paged) (h : PageIs (queryOf t order probe reach) (claimsOf t references coordinates) Start 1 o o' r) where
-    pub first-none : r .count ≡ 0 → told Nothing ≡ firstOf L
+  module _ (o o' : List ℕ) (r : ℕ) (h : Fills (pageOf Q (claimsIn s) Start 1) o o' r) where
+    pub first-none : r ≡ 0 → told Nothing ≡ firstOf L
     unfolding told firstOf
-    first-none z = go L (sym z ∙ h .count ∙ ap length (start-page 1))
+    first-none z = go L (sym z ∙ h .counts ∙ ap length (start-page 1))
       where
         go : (l : List Item) → 0 ≡ length (take 1 l) → told Nothing ≡ firstOf l
         go [] e = refl
         go (a ∷ l) e = absurd (omega arith)
 
-    pub first-some : (r .count ≡ 0 → ⊥) → told (AnItem (getD o' 0 0) (getD o' 1 0) (getD o' 2 0)) ≡ firstOf L
+    pub first-some : (r ≡ 0 → ⊥) → told (AnItem (getD o' 0 0) (getD o' 1 0) (getD o' 2 0)) ≡ firstOf L
     unfolding told firstOf fronted flat
-    first-some some = go L (h .count ∙ ap length (start-page 1)) (h .room ∙ ap (λ (l : List Item). fronted l o) (start-page 1))
+    first-some some = go L (h .counts ∙ ap length (start-page 1)) (h .room ∙ ap (λ (l : List Item). fronted l o) (start-page 1))
       where
-        go : (l : List Item) → r .count ≡ length (take 1 l) → o' ≡ fronted (take 1 l) o → told (AnItem (getD o' 0 0) (getD o' 1 0) (getD o' 2 0)) ≡ firstOf l
+        go : (l : List Item) → r ≡ length (take 1 l) → o' ≡ fronted (take 1 l) o → told (AnItem (getD o' 0 0) (getD o' 1 0) (getD o' 2 0)) ≡ firstOf l
         go [] e f = absurd (some e)
         go (a ∷ l) e f = rw f
 
-pub nearest-is : (t : Table) (probe : List ℤ) (reach : ℕ) (references : List ℕ) (coordinates : List ℤ) (r : Answer)
-    → told r ≡ firstOf (listed (queryOf t Near probe reach) (claimsOf t references coordinates) (t .count))
-    → told r ≡ nearestOf (queryOf t Near probe reach) (claimsOf t references coordinates)
-unfolding nearestOf
-nearest-is t probe reach references coordinates r h = rw (claims-length (t .d) (t .count) references coordinates) h
+module _ (s : Store) (probe : List ℤ) (r : Answer) where
+  pub nearest-is : (reach : ℕ) → told r ≡ firstOf (L s Near probe reach) → told r ≡ nearestOf (tableQuery (s .table) Near probe reach) (claimsIn s)
+  unfolding nearestOf
+  nearest-is reach h = rw (claims-length (s .table .d) (s .table .count) (s .references) (s .coordinates)) h
 
-pub farthest-is : (t : Table) (probe : List ℤ) (references : List ℕ) (coordinates : List ℤ) (m : Measure) (greatest : ℕ) (r : Answer)
-    → m ≡ measureOf (t .measure) → greatest ≡ greatestOf m (t .d)
-    → told r ≡ firstOf (listed (queryOf t Far probe greatest) (claimsOf t references coordinates) (t .count))
-    → told r ≡ farthestOf (queryOf t Far probe (greatestOf (measureOf (t .measure)) (t .d))) (claimsOf t references coordinates)
-unfolding farthestOf
-farthest-is t probe references coordinates m greatest r pm pg h = rw (claims-length (t .d) (t .count) references coordinates, ← pm, ← pg) h
+  pub farthest-is : (m : Measure) (greatest : ℕ) → m ≡ measureOf (s .table .measure) → greatest ≡ greatestOf m (s .table .d)
+      → told r ≡ firstOf (L s Far probe greatest) → told r ≡ farthestOf (tableQuery (s .table) Near probe 0) (claimsIn s)
+  unfolding farthestOf
+  farthest-is m greatest pm pg h = rw (claims-length (s .table .d) (s .table .count) (s .references) (s .coordinates), ← pm, ← pg) h
 
 -- whether the mark holds
 module _ (t : Table) (coordinates probe : List ℤ) (reach : ℕ) (place : Place) where
   abbrev Holds : Bool → Type 0
-  Holds b = (order : Order) (references : List ℕ) → b ≡ markHolds (queryOf t order probe reach) (claimsOf t references coordinates) place
+  Holds b = (order : Order) (references : List ℕ) → b ≡ markHolds (tableQuery t order probe reach) (claimsFrom (t .d) (t .count) references coordinates) place
 
   pub mark-start : place ≡ Start → Holds true
   unfolding markHolds
@@ -149,7 +164,7 @@ module _ (t : Table) (coordinates probe : List ℤ) (reach : ℕ) (place : Place
     mark-late l order references = rw (is, le-ltb (m .number) n l)
 
     module _ (x : ℕ) (measured : x ≡ distOf (t .measure) (t .d) coordinates probe (m .number)) (l : m .number < n) where
-      far-is : (order : Order) (references : List ℕ) → itemOf (queryOf t order probe reach) (claimsOf t references coordinates) (m .number) .distance ≡ x
+      far-is : (order : Order) (references : List ℕ) → itemOf (tableQuery t order probe reach) (claimsFrom (t .d) (t .count) references coordinates) (m .number) .distance ≡ x
       far-is order references = ap (λ (a : Item). a .distance) (item-is t order reach references coordinates probe (m .number) (omega (arith, stored))) ∙ sym measured
 
       pub mark-off : (x ≡ m .distance → ⊥) → Holds false
@@ -182,5 +197,5 @@ module _ (s : Store) (g : Good s) (probe : List ℤ) (h : length probe ≡ s .ta
   good-measurable =
       record { located = lent-located (s .table) (s .coordinates) (length (s .rooms)) (s .table .count) (g .fit .lent) (g .count); aimed = omega arith }
 
-  pub good-answerable : Answerable (s .table) (s .references) (s .coordinates) (s .rooms) probe
+  pub good-answerable : Answerable s probe
   good-answerable = record { tree = good-tree s g; measurable = good-measurable; named = omega (arith, g .count, g .fit .references) }

@@ -16,16 +16,17 @@ use Rattle.paper.specs.declared.orders.Place.{Place}
 use Rattle.paper.specs.declared.points.Measure.{Measure}
 use Rattle.paper.specs.declared.tables.Table.{Table}
 use Rattle.paper.specs.Points.{measureOf, distance, Claim, noClaim, point}
-use Rattle.paper.specs.Orders.{Item, Query, rank, earlier, itemOf, listed, follows, rest, snapshotOf, following, pageOf, lastOf, flat, fronted}
+use Rattle.paper.specs.Orders.{Item, Query, rank, earlier, itemOf, listed, follows, rest, snapshotOf, following, pageOf, flat, fronted}
 use Rattle.paper.specs.Orders.{insert as put}
 use Rattle.paper.specs.Tree.{claimsFrom}
+use Rattle.paper.specs.Calls.{tableQuery}
 use Rattle.tree.proofs.Places.{claims-length}
 use Rattle.keep.specs.Page.{ranks, sooner, insert, sortedOf, firstSorted, items, Filled}
 use Rattle.keep.specs.Kept.{key, Rising, none, more}
 use Rattle.keep.proofs.Keeping.{sooner-true, sooner-false, key-sooner, key-differs, scan-rising}
 use Rattle.keep.proofs.Placing.{before-ranks}
 use Rattle.walk.specs.Walking.{refOf, distOf}
-use Rattle.walk.specs.Asking.{queryOf, claimsOf, PageIs}
+use Rattle.walk.specs.Asking.{Fills}
 use Rattle.orders.proofs.Sorted.{rest-insert}
 
 -- claim k as an item, where its reference is `ref k` and it is `dist k` away
@@ -134,7 +135,7 @@ distance-front m (suc d) e p q h = rw (distance-front m d e p q (omega arith), g
 module _ (t : Table) (order : Order) (reach : ℕ) (references : List ℕ) (coordinates probe : List ℤ) where
   -- claim k, measured
   pub item-is : (k : ℕ) → k < t .count
-      → itemOf (queryOf t order probe reach) (claimsOf t references coordinates) k ≡ itemAt (refOf references) (distOf (t .measure) (t .d) coordinates probe) k
+      → itemOf (tableQuery t order probe reach) (claimsFrom (t .d) (t .count) references coordinates) k ≡ itemAt (refOf references) (distOf (t .measure) (t .d) coordinates probe) k
   unfolding itemOf distOf point
   item-is k h =
       ap
@@ -145,12 +146,12 @@ module _ (t : Table) (order : Order) (reach : ℕ) (references : List ℕ) (coor
       (distance-front (measureOf (t .measure)) (t .d) (t .d) (drop (k * t .d) coordinates) probe (le-refl (t .d)))
 
   module _ (place : Place) (small : t .count < 2 ^ 64) (stored : snapshotOf place (t .count) ≤ t .count) (ok : ℕ → Bool)
-      (oks : (k : ℕ) → ok k ≡ (ltb k (snapshotOf place (t .count)) && okIn (queryOf t order probe reach) place (refOf references) (distOf (t .measure) (t .d) coordinates probe) k)) where
+      (oks : (k : ℕ) → ok k ≡ (ltb k (snapshotOf place (t .count)) && okIn (tableQuery t order probe reach) place (refOf references) (distOf (t .measure) (t .d) coordinates probe) k)) where
     abbrev Q : Query
-    Q = queryOf t order probe reach
+    Q = tableQuery t order probe reach
 
     abbrev Cs : List Claim
-    Cs = claimsOf t references coordinates
+    Cs = claimsFrom (t .d) (t .count) references coordinates
 
     abbrev Ref : ℕ → ℕ
     Ref = refOf references
@@ -178,15 +179,13 @@ module _ (t : Table) (order : Order) (reach : ℕ) (references : List ℕ) (coor
       page-numbers = ap (take size) following-numbers ∙ take-items (itemAt Ref Dist) size _
 
       -- what the walk fills in is the page
-      pub filled-page : (o o' : List ℕ) (r : ℕ) → Filled order Ref Dist ok (t .count) size o o' r → PageIs Q Cs place size o o' (record { count = r; last = ltb r size })
-      unfolding fronted lastOf pageOf
+      pub filled-page : (o o' : List ℕ) (r : ℕ) → Filled order Ref Dist ok (t .count) size o o' r → Fills (pageOf Q Cs place size) o o' r
+      unfolding fronted
       filled-page o o' r h =
           let e = page-numbers in
           let len : length (map (itemAt Ref Dist) First) ≡ length First = length-map First (itemAt Ref Dist) in
           let w : 3 * length (map (itemAt Ref Dist) First) ≡ length First * 3 = omega arith in
-          let n : r ≡ length (take size (following Q Cs place)) = h .counts ∙ sym len ∙ sym (ap length e) in
           record {
             room = h .room ∙ sym (ap (λ (l : List Item). flat l ++ drop (3 * length l) o) e ∙ rw (flat-items Ref Dist First, w));
-            count = n;
-            last = ap (λ (x : ℕ). ltb x size) n;
+            counts = h .counts ∙ sym len ∙ sym (ap length e);
           }

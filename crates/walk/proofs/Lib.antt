@@ -1,5 +1,5 @@
 pub mod Skipping
 pub mod Ways
 pub mod Bridge
-pub mod Pages
+pub mod Farthest
 pub mod Answers

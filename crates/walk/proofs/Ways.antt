@@ -224,7 +224,7 @@ next-here rooms used n m s x h hs read some =
     record { linked = h .linked; room = h .room; inUse = omega (arith, h .linked m (h .inUse) .leads s hs) }
 
 pub roomy-again : (size : ℕ) (o o' : List ℕ) (count r : ℕ) → Roomy size o count → length o' ≡ length o → r ≤ size → Roomy size o' r
-roomy-again size o o' count r h e few = record { some = h .some; most = h .most; few = few; long = omega (arith, h .long) }
+roomy-again size o o' count r h e few = record { some = h .some; few = few; long = omega (arith, h .long) }
 
 -- the rooms left above the one that a side leads to, counted for the measure of the walk
 abbrev pub leftAbove : ℕ → ℕ → ℕ
@@ -240,13 +240,13 @@ pub in-sight : (ask : Asked) (references : List ℕ) (coordinates probe : List �
 in-sight ask references coordinates probe k h hk =
     record { narrow = h .located .narrow; inside = located-at (ask .d) (ask .claims) k coordinates (h .located) hk; aimed = h .aimed }
 
-module _ (rooms references : List ℕ) (coordinates probe : List ℤ) (ask : Asked) (m : ℕ) (o₀ : List ℕ) (c₀ : ℕ) (h : NodeAsk rooms references coordinates probe ask m o₀ c₀)
+module _ (references : List ℕ) (coordinates : List ℤ) (rooms : List ℕ) (probe : List ℤ) (ask : Asked) (m : ℕ) (o₀ : List ℕ) (c₀ : ℕ) (h : NodeAsk references coordinates rooms probe ask m o₀ c₀)
     (s : ℕ) (hs : s < 2) (o : List ℕ) (count : ℕ) where
   pub way-ready : length o ≡ length o₀ → count ≤ ask .size → WayAsk rooms ask m s o count
   way-ready len few = record { which = hs; inside = omega (arith, h .walk .room, h .walk .inUse); roomy = roomy-again (ask .size) o₀ o c₀ count (h .roomy) len few }
 
   module _ (x y way : ℕ) (is : way ≡ wayDown rooms ask m s x y o count) where
-    pub side-ready : length o ≡ length o₀ → count ≤ ask .size → SideAsk rooms references coordinates probe ask way o count
+    pub side-ready : length o ≡ length o₀ → count ≤ ask .size → SideAsk references coordinates rooms probe ask way o count
     side-ready len few =
         record {
           walk = λ some. next-here rooms (ask .used) (ask .claims) m s way (h .walk) hs (way-leads ask rooms m s x y o count way is some) some;
@@ -263,7 +263,7 @@ module _ (rooms references : List ℕ) (coordinates probe : List ℤ) (ask : Ask
         go (suc k) f = let q : m < suc k - 1 = f (λ z. omega arith) in omega (arith, h .walk .inUse)
 
 -- the page
-module _ (rooms references : List ℕ) (coordinates probe : List ℤ) (ask : Asked) (o : List ℕ) (asks : PageAsk rooms references coordinates probe ask o) where
+module _ (references : List ℕ) (coordinates : List ℤ) (rooms : List ℕ) (probe : List ℤ) (ask : Asked) (o : List ℕ) (asks : PageAsk references coordinates rooms probe ask o) where
   pub page-none : ask .used ≡ 0 → AskFilled ask references (distBy ask coordinates probe) o o 0
   unfolding firstSorted sortedOf items
   page-none z =

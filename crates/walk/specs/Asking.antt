@@ -11,20 +11,10 @@ use Rattle.paper.specs.declared.orders.Place.{Place}
 use Rattle.paper.specs.declared.orders.Place.the-variants.{Start, After}
 use Rattle.paper.specs.declared.tables.Table.{Table}
 use Rattle.paper.specs.Points.{Claim}
-use Rattle.paper.specs.Orders.{Query, startMark, snapshotOf, following, pageOf, lastOf, fronted}
-use Rattle.paper.specs.Tree.{apart, claimsFrom}
+use Rattle.paper.specs.Orders.{Item, Query, startMark, snapshotOf, following, pageOf, lastOf, fronted}
+use Rattle.paper.specs.Tree.{Store, apartIn}
 use Rattle.tree.specs.Rooms.{Neartree, Located}
 use Rattle.keep.specs.declared.Asked.{Asked}
-use Rattle.paper.specs.Limits.{mostPage}
-
--- what is asked of a table
-abbrev pub queryOf : Table → Order → List ℤ → ℕ → Query
-queryOf t order probe reach =
-    record { order = order; table = t .number; measure = t .measure; d = t .d; probe = probe; reach = reach }
-
--- its claims
-abbrev pub claimsOf : Table → List ℕ → List ℤ → List Claim
-claimsOf t references coordinates = claimsFrom (t .d) (t .count) references coordinates
 
 -- the question as the walk asks it: "From the start, the snapshot is the present count and no mark applies."
 unfoldable pub askedOf : Table → Order → ℕ → Place → ℕ → Asked
@@ -61,22 +51,26 @@ pub record Measurable (t : Table) (coordinates probe : List ℤ) : Type 0 where
   pub aimed : t .d ≤ length probe
 
 -- the table is sound, as far as a search needs it
-pub record Answerable (t : Table) (references : List ℕ) (coordinates : List ℤ) (rooms : List ℕ) (probe : List ℤ) : Type 0 where
-  pub tree : Neartree rooms (apart (t .measure) (t .d) coordinates) (t .used) (t .count)
-  pub measurable : Measurable t coordinates probe
-  pub named : t .count ≤ length references
+pub record Answerable (s : Store) (probe : List ℤ) : Type 0 where
+  pub tree : Neartree (s .rooms) (apartIn s) (s .table .used) (s .table .count)
+  pub measurable : Measurable (s .table) (s .coordinates) probe
+  pub named : s .table .count ≤ length (s .references)
 
--- the page can be asked for: the snapshot is not over the count, and the room holds a page
+-- a page can be asked for: the snapshot is not over the count, and the room holds the page
 pub record Pageable (t : Table) (place : Place) (size : ℕ) (room : List ℕ) : Type 0 where
   pub stored : snapshotOf place (t .count) ≤ t .count
   pub some : 0 < size
-  pub most : size ≤ mostPage
   pub long : size * 3 ≤ length room
 
 -- a place's mark can be measured: the snapshot is not over the count
 pub record Markable (t : Table) (coordinates probe : List ℤ) (place : Place) : Type 0 where
   pub measurable : Measurable t coordinates probe
   pub stored : snapshotOf place (t .count) ≤ t .count
+
+-- the items stand at the front of the room, and what is behind them stays
+pub record Fills (items : List Item) (before after : List ℕ) (count : ℕ) : Type 0 where
+  pub room : after ≡ fronted items before
+  pub counts : count ≡ length items
 
 -- the page stands at the front of the room, what is behind it stays, and count and last are the page's
 pub record PageIs (q : Query) (cs : List Claim) (place : Place) (size : ℕ) (before after : List ℕ) (r : Paged) : Type 0 where

@@ -92,7 +92,7 @@ pub record StepAsk (ask : Asked) (references : List ℕ) (k : ℕ) (o : List ℕ
   pub roomy : Roomy (ask .size) o count
 
 -- what the walk of room m asks
-pub record NodeAsk (rooms references : List ℕ) (coordinates probe : List ℤ) (ask : Asked) (m : ℕ) (o : List ℕ) (count : ℕ) : Type 0 where
+pub record NodeAsk (references : List ℕ) (coordinates : List ℤ) (rooms : List ℕ) (probe : List ℤ) (ask : Asked) (m : ℕ) (o : List ℕ) (count : ℕ) : Type 0 where
   pub walk : Searchable rooms (ask .used) (ask .claims) m
   pub lent : Lent ask references coordinates probe
   pub roomy : Roomy (ask .size) o count
@@ -104,13 +104,13 @@ pub record WayAsk (rooms : List ℕ) (ask : Asked) (m s : ℕ) (o : List ℕ) (c
   pub roomy : Roomy (ask .size) o count
 
 -- what the walk below a side asks
-pub record SideAsk (rooms references : List ℕ) (coordinates probe : List ℤ) (ask : Asked) (way : ℕ) (o : List ℕ) (count : ℕ) : Type 0 where
+pub record SideAsk (references : List ℕ) (coordinates : List ℤ) (rooms : List ℕ) (probe : List ℤ) (ask : Asked) (way : ℕ) (o : List ℕ) (count : ℕ) : Type 0 where
   pub walk : (way ≡ 0 → ⊥) → Searchable rooms (ask .used) (ask .claims) (way - 1)
   pub lent : Lent ask references coordinates probe
   pub roomy : Roomy (ask .size) o count
 
 -- what a page asks
-pub record PageAsk (rooms references : List ℕ) (coordinates probe : List ℤ) (ask : Asked) (o : List ℕ) : Type 0 where
+pub record PageAsk (references : List ℕ) (coordinates : List ℤ) (rooms : List ℕ) (probe : List ℤ) (ask : Asked) (o : List ℕ) : Type 0 where
   pub tree : Neartree rooms (apartBy ask coordinates) (ask .used) (ask .claims)
   pub lent : Lent ask references coordinates probe
   pub roomy : Roomy (ask .size) o 0

@@ -5,9 +5,10 @@ ghost use mathlib.Core.List.{List};
 ghost use lib.ListN.{take};
 ghost use Rattle.paper.specs.declared.orders.Order.{Order};
 ghost use Rattle.paper.specs.declared.orders.Order.the-variants.{Near, Far};
-ghost use Rattle.paper.specs.Points.{measureOf, greatestOf};
-ghost use Rattle.paper.specs.Orders.{told, listed, firstOf, nearestOf, farthestOf, markHolds};
-ghost use Rattle.walk.specs.Asking.{queryOf, claimsOf, askedOf, Answerable, Pageable, Markable, PageIs};
+ghost use Rattle.paper.specs.Orders.{told, listed, pageOf, firstOf, nearestOf, farthestOf, markHolds};
+ghost use Rattle.paper.specs.Tree.{lent, claimsFrom, claimsIn};
+ghost use Rattle.paper.specs.Calls.{tableQuery};
+ghost use Rattle.walk.specs.Asking.{askedOf, Answerable, Pageable, Markable, Fills, PageIs};
 use super::walking::from_probe;
 use super::walking::page;
 use keep::Asked;
@@ -51,7 +52,29 @@ fn asked(t: Table, order: Order, reach: u64, place: Place, size: usize) -> Asked
     }
 }
 
-// The first page-size claims after the place, in order, at the front of the room, three numbers each: number, reference, distance.
+// The first `size` claims after the place, in order, at the front of the room, three numbers each: number, reference, distance. Gives
+// how many they are.
+pub fn fill(
+    t: Table,
+    references: &[u32],
+    coordinates: &[i32],
+    rooms: &[u64],
+    order: Order,
+    probe: &[i32],
+    reach: u64,
+    place: Place,
+    size: usize,
+    room: &mut [u64],
+) -> usize
+    requires { ⌜ Answerable (lent t references coordinates rooms) (now probe) ⌝ }
+    requires { ⌜ Pageable t place size (now room) ⌝ }
+    ensures { λ r. ⌜ Fills (pageOf (tableQuery t order (now (probe .entry)) reach) (claimsIn (lent t (references .entry) (coordinates .entry) (rooms .entry))) place size) (now (room .entry)) (now (room .exit)) r ⌝ }
+{
+    let ask = asked(t, order, reach, place, size);
+    page(references, coordinates, rooms, probe, ask, room)
+}
+
+// A page: so many claims at the front of the room, and whether there are no more.
 pub fn page_of(
     t: Table,
     references: &[u32],
@@ -64,12 +87,22 @@ pub fn page_of(
     size: usize,
     room: &mut [u64],
 ) -> Paged
-    requires { ⌜ Answerable t (now references) (now coordinates) (now rooms) (now probe) ⌝ }
+    requires { ⌜ Answerable (lent t references coordinates rooms) (now probe) ⌝ }
     requires { ⌜ Pageable t place size (now room) ⌝ }
-    ensures { λ r. ⌜ PageIs (queryOf t order (now (probe .entry)) reach) (claimsOf t (now (references .entry)) (now (coordinates .entry))) place size (now (room .entry)) (now (room .exit)) r ⌝ }
+    ensures { λ r. ⌜ PageIs (tableQuery t order (now (probe .entry)) reach) (claimsIn (lent t (references .entry) (coordinates .entry) (rooms .entry))) place size (now (room .entry)) (now (room .exit)) r ⌝ }
 {
-    let ask = asked(t, order, reach, place, size);
-    let count = page(rooms, references, coordinates, probe, ask, room);
+    let count = fill(
+        t,
+        references,
+        coordinates,
+        rooms,
+        order,
+        probe,
+        reach,
+        place,
+        size,
+        room,
+    );
     Paged {
         count,
         last: count < size,
@@ -87,7 +120,7 @@ pub fn front<'a>(room: &'a [u64], count: usize) -> &'a [u64]
     room
 }
 
-// The first claim within reach, in the order: a page of one.
+// The first claim within reach, in the order.
 fn first(
     t: Table,
     references: &[u32],
@@ -97,12 +130,12 @@ fn first(
     probe: &[i32],
     reach: u64,
 ) -> Found
-    requires { ⌜ Answerable t (now references) (now coordinates) (now rooms) (now probe) ⌝ }
-    ensures { λ r. ⌜ told r ≡ firstOf (listed (queryOf t order (now (probe .entry)) reach) (claimsOf t (now (references .entry)) (now (coordinates .entry))) (t .count)) ⌝ }
+    requires { ⌜ Answerable (lent t references coordinates rooms) (now probe) ⌝ }
+    ensures { λ r. ⌜ told r ≡ firstOf (listed (tableQuery t order (now (probe .entry)) reach) (claimsIn (lent t (references .entry) (coordinates .entry) (rooms .entry))) (t .count)) ⌝ }
 {
     let mut room = [0u64; 3];
     let start = Place::Start;
-    let paged = page_of(
+    let count = fill(
         t,
         references,
         coordinates,
@@ -114,7 +147,6 @@ fn first(
         1,
         &mut room,
     );
-    let count = paged.count;
     if count == 0 {
         return Found::Nothing;
     }
@@ -130,8 +162,8 @@ pub fn nearest(
     probe: &[i32],
     reach: u64,
 ) -> Found
-    requires { ⌜ Answerable t (now references) (now coordinates) (now rooms) (now probe) ⌝ }
-    ensures { λ r. ⌜ told r ≡ nearestOf (queryOf t Near (now (probe .entry)) reach) (claimsOf t (now (references .entry)) (now (coordinates .entry))) ⌝ }
+    requires { ⌜ Answerable (lent t references coordinates rooms) (now probe) ⌝ }
+    ensures { λ r. ⌜ told r ≡ nearestOf (tableQuery t Near (now (probe .entry)) reach) (claimsIn (lent t (references .entry) (coordinates .entry) (rooms .entry))) ⌝ }
 {
     let near = Order::Near;
     first(t, references, coordinates, rooms, near, probe, reach)
@@ -145,8 +177,8 @@ pub fn farthest(
     rooms: &[u64],
     probe: &[i32],
 ) -> Found
-    requires { ⌜ Answerable t (now references) (now coordinates) (now rooms) (now probe) ⌝ }
-    ensures { λ r. ⌜ told r ≡ farthestOf (queryOf t Far (now (probe .entry)) (greatestOf (measureOf (t .measure)) (t .d))) (claimsOf t (now (references .entry)) (now (coordinates .entry))) ⌝ }
+    requires { ⌜ Answerable (lent t references coordinates rooms) (now probe) ⌝ }
+    ensures { λ r. ⌜ told r ≡ farthestOf (tableQuery t Near (now (probe .entry)) 0) (claimsIn (lent t (references .entry) (coordinates .entry) (rooms .entry))) ⌝ }
 {
     let far = Order::Far;
     let greatest = Measure::numbered(t.measure).greatest(t.d as u64);
@@ -156,7 +188,7 @@ pub fn farthest(
 // Whether a place's mark is a claim of its snapshot, at that claim's distance, within reach.
 pub fn mark_holds(t: Table, coordinates: &[i32], probe: &[i32], reach: u64, place: Place) -> bool
     requires { ⌜ Markable t (now coordinates) (now probe) place ⌝ }
-    ensures { λ r. ⌜ ((order : Order) (references : List ℕ) → r ≡ markHolds (queryOf t order (now (probe .entry)) reach) (claimsOf t references (now (coordinates .entry))) place) ⌝ }
+    ensures { λ r. ⌜ ((order : Order) (references : List ℕ) → r ≡ markHolds (tableQuery t order (now (probe .entry)) reach) (claimsFrom (t .d) (t .count) references (now (coordinates .entry))) place) ⌝ }
 {
     let Place::After(snapshot, mark) = place else {
         return true;

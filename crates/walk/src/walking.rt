@@ -12,21 +12,29 @@ fn wide(x: u32) -> u64
 }
 
 // How far claim k is from the probe.
-pub fn from_probe(measure: u8, d: usize, points: &[i32], probe: &[i32], k: u64) -> u64
-    requires { ⌜ InSight d k (now points) (now probe) ⌝ }
-    ensures { λ r. ⌜ r ≡ distOf measure d (now (points .entry)) (now (probe .entry)) k ⌝ }
+pub fn from_probe(measure: u8, d: usize, coordinates: &[i32], probe: &[i32], k: u64) -> u64
+    requires { ⌜ InSight d k (now coordinates) (now probe) ⌝ }
+    ensures { λ r. ⌜ r ≡ distOf measure d (now (coordinates .entry)) (now (probe .entry)) k ⌝ }
 {
-    measure::distance(measure, d, points, k as usize * d, probe, 0)
+    measure::distance(measure, d, coordinates, k as usize * d, probe, 0)
 }
 
 // The step of claim k, at distance x.
-fn consider(refs: &[u32], ask: Asked, k: u64, x: u64, room: &mut [u64], count: usize) -> usize
-    requires { ⌜ StepAsk ask (now refs) k (now room) count ⌝ }
-    ensures { λ r. ⌜ Stepped ask (now (refs .entry)) k x (now (room .entry)) count (now (room .exit)) r ⌝ }
+fn consider(references: &[u32], ask: Asked, k: u64, x: u64, room: &mut [u64], count: usize) -> usize
+    requires { ⌜ StepAsk ask (now references) k (now room) count ⌝ }
+    ensures { λ r. ⌜ Stepped ask (now (references .entry)) k x (now (room .entry)) count (now (room .exit)) r ⌝ }
 {
     if keep::admits(ask, x, k) {
         let order = ask.order;
-        return keep::keep(order, ask.size, room, count, k, wide(refs[k as usize]), x);
+        return keep::keep(
+            order,
+            ask.size,
+            room,
+            count,
+            k,
+            wide(references[k as usize]),
+            x,
+        );
     }
     count
 }
@@ -64,80 +72,107 @@ fn way_down(
 
 // The claims on and below the two sides of room m, the nearer side first.
 fn node(
+    references: &[u32],
+    coordinates: &[i32],
     rooms: &[u64],
-    refs: &[u32],
-    points: &[i32],
     probe: &[i32],
     ask: Asked,
     m: usize,
     room: &mut [u64],
     count: usize,
 ) -> usize
-    requires { ⌜ NodeAsk (now rooms) (now refs) (now points) (now probe) ask m (now room) count ⌝ }
-    ensures { λ r. ⌜ AskWalked ask (now (refs .entry)) (distBy ask (now (points .entry)) (now (probe .entry))) (Holds (now (rooms .entry)) (apartBy ask (now (points .entry))) m) (now (room .entry)) count (now (room .exit)) r ⌝ }
+    requires { ⌜ NodeAsk (now references) (now coordinates) (now rooms) (now probe) ask m (now room) count ⌝ }
+    ensures { λ r. ⌜ AskWalked ask (now (references .entry)) (distBy ask (now (coordinates .entry)) (now (probe .entry))) (Holds (now (rooms .entry)) (apartBy ask (now (coordinates .entry))) m) (now (room .entry)) count (now (room .exit)) r ⌝ }
 {
     let order = ask.order;
     let kl = field(rooms, m, 0) - 1;
-    let xl = from_probe(ask.measure, ask.d, points, probe, kl);
-    let one = consider(refs, ask, kl, xl, room, count);
+    let xl = from_probe(ask.measure, ask.d, coordinates, probe, kl);
+    let one = consider(references, ask, kl, xl, room, count);
     let right = field(rooms, m, 1);
     if right == 0 {
         return one;
     }
     let kr = right - 1;
-    let xr = from_probe(ask.measure, ask.d, points, probe, kr);
-    let two = consider(refs, ask, kr, xr, room, one);
-    let rl = keep::rank(order, xl);
-    let rr = keep::rank(order, xr);
+    let xr = from_probe(ask.measure, ask.d, coordinates, probe, kr);
+    let two = consider(references, ask, kr, xr, room, one);
+    let rl = order.rank(xl);
+    let rr = order.rank(xr);
     if rr < rl {
         let first = way_down(rooms, ask, m, 1, rr, rl, room, two);
-        let three = side(rooms, refs, points, probe, ask, first, room, two);
+        let three = side(references, coordinates, rooms, probe, ask, first, room, two);
         let second = way_down(rooms, ask, m, 0, rl, rr, room, three);
-        return side(rooms, refs, points, probe, ask, second, room, three);
+        return side(
+            references,
+            coordinates,
+            rooms,
+            probe,
+            ask,
+            second,
+            room,
+            three,
+        );
     }
     let first = way_down(rooms, ask, m, 0, rl, rr, room, two);
-    let three = side(rooms, refs, points, probe, ask, first, room, two);
+    let three = side(references, coordinates, rooms, probe, ask, first, room, two);
     let second = way_down(rooms, ask, m, 1, rr, rl, room, three);
-    side(rooms, refs, points, probe, ask, second, room, three)
+    side(
+        references,
+        coordinates,
+        rooms,
+        probe,
+        ask,
+        second,
+        room,
+        three,
+    )
 }
 
 // The claims below a side, where `way` is the room below it plus one, or 0 where none of them can change the answer. The tests are
 // made before the call: so short a function is compiled into `node`, and a level of the tree takes the stack of one call, not of two.
 fn side(
+    references: &[u32],
+    coordinates: &[i32],
     rooms: &[u64],
-    refs: &[u32],
-    points: &[i32],
     probe: &[i32],
     ask: Asked,
     way: u64,
     room: &mut [u64],
     count: usize,
 ) -> usize
-    requires { ⌜ SideAsk (now rooms) (now refs) (now points) (now probe) ask way (now room) count ⌝ }
-    ensures { λ r. ⌜ AskWalked ask (now (refs .entry)) (distBy ask (now (points .entry)) (now (probe .entry))) (Reached (now (rooms .entry)) (apartBy ask (now (points .entry))) way) (now (room .entry)) count (now (room .exit)) r ⌝ }
+    requires { ⌜ SideAsk (now references) (now coordinates) (now rooms) (now probe) ask way (now room) count ⌝ }
+    ensures { λ r. ⌜ AskWalked ask (now (references .entry)) (distBy ask (now (coordinates .entry)) (now (probe .entry))) (Reached (now (rooms .entry)) (apartBy ask (now (coordinates .entry))) way) (now (room .entry)) count (now (room .exit)) r ⌝ }
 {
     if way == 0 {
         return count;
     }
     let next = (way - 1) as usize;
-    node(rooms, refs, points, probe, ask, next, room, count)
+    node(
+        references,
+        coordinates,
+        rooms,
+        probe,
+        ask,
+        next,
+        room,
+        count,
+    )
 }
 
 // Puts the first `size` admitted claims, in order, at the front of the room, three numbers a claim, and gives how many they are.
 pub fn page(
+    references: &[u32],
+    coordinates: &[i32],
     rooms: &[u64],
-    refs: &[u32],
-    points: &[i32],
     probe: &[i32],
     ask: Asked,
     room: &mut [u64],
 ) -> usize
-    requires { ⌜ PageAsk (now rooms) (now refs) (now points) (now probe) ask (now room) ⌝ }
-    ensures { λ r. ⌜ AskFilled ask (now (refs .entry)) (distBy ask (now (points .entry)) (now (probe .entry))) (now (room .entry)) (now (room .exit)) r ⌝ }
+    requires { ⌜ PageAsk (now references) (now coordinates) (now rooms) (now probe) ask (now room) ⌝ }
+    ensures { λ r. ⌜ AskFilled ask (now (references .entry)) (distBy ask (now (coordinates .entry)) (now (probe .entry))) (now (room .entry)) (now (room .exit)) r ⌝ }
 {
     let used = ask.used;
     if used == 0 {
         return 0;
     }
-    node(rooms, refs, points, probe, ask, 0, room, 0)
+    node(references, coordinates, rooms, probe, ask, 0, room, 0)
 }

@@ -10,14 +10,14 @@ returns c = late _ _ _ (c .if1 .taken)
 returns-2 : tie.Need-returns-2
 returns-2 c = away _ _ _ (c .before .if1 .left) (c .if2 .taken)
 
-follows-requires : tie.Need-follows-requires
-follows-requires c κs = search needs
+before-requires : tie.Need-before-requires
+before-requires c κs = search needs
 
 returns-3 : tie.Need-returns-3
-returns-3 c = marked _ _ _ _ (c .before .before .before .if1 .left) (c .before .before .if2 .left) (c .before .if3 .taken) (c .follows .ensures)
+returns-3 c = marked _ _ _ _ (c .before .before .before .if1 .left) (c .before .before .if2 .left) (c .before .if3 .taken) (c .before2 .ensures)
 
 returns-4 : tie.Need-returns-4
 returns-4 c = fine _ _ _ (c .before .before .if1 .left) (c .before .if2 .left) (c .if3 .left)
 
 pub admits-spec : {M : Type 1} → statement M
-admits-spec = tie.close (tie.spec returns returns-2 follows-requires returns-3 returns-4)
+admits-spec = tie.close (tie.spec returns returns-2 before-requires returns-3 returns-4)

@@ -13,35 +13,35 @@ abbrev μ-loop : tie.MeasureT-loop
 loop-holds : tie.Need-loop-holds Inv-loop μ-loop
 loop-holds c = behind-start _ _ _ _ _
 
-mul-follows : tie.Need-mul-follows Inv-loop μ-loop
-mul-follows c = omega arith
+mul-before : tie.Need-mul-before Inv-loop μ-loop
+mul-before c = omega arith
 
-sub-follows : tie.Need-sub-follows Inv-loop μ-loop
-sub-follows c = omega arith
+sub-before : tie.Need-sub-before Inv-loop μ-loop
+sub-before c = omega arith
 
-mul-follows-2 : tie.Need-mul-follows-2 Inv-loop μ-loop
-mul-follows-2 c = omega arith
+mul-before-2 : tie.Need-mul-before-2 Inv-loop μ-loop
+mul-before-2 c = omega arith
 
-shared-slice-read-follows : tie.Need-shared-slice-read-follows Inv-loop μ-loop
-shared-slice-read-follows c = omega arith
+shared-slice-read-before : tie.Need-shared-slice-read-before Inv-loop μ-loop
+shared-slice-read-before c = omega arith
 
-mul-follows-3 : tie.Need-mul-follows-3 Inv-loop μ-loop
-mul-follows-3 c = omega arith
+mul-before-3 : tie.Need-mul-before-3 Inv-loop μ-loop
+mul-before-3 c = omega arith
 
-sub-follows-2 : tie.Need-sub-follows-2 Inv-loop μ-loop
-sub-follows-2 c = omega arith
+sub-before-2 : tie.Need-sub-before-2 Inv-loop μ-loop
+sub-before-2 c = omega arith
 
-mul-follows-4 : tie.Need-mul-follows-4 Inv-loop μ-loop
-mul-follows-4 c = omega arith
+mul-before-4 : tie.Need-mul-before-4 Inv-loop μ-loop
+mul-before-4 c = omega arith
 
-shared-slice-read-follows-2 : tie.Need-shared-slice-read-follows-2 Inv-loop μ-loop
-shared-slice-read-follows-2 c = omega arith
+shared-slice-read-before-2 : tie.Need-shared-slice-read-before-2 Inv-loop μ-loop
+shared-slice-read-before-2 c = omega arith
 
-follows-requires : tie.Need-follows-requires Inv-loop μ-loop
-follows-requires c κs = tt
+before-requires : tie.Need-before-requires Inv-loop μ-loop
+before-requires c κs = tt
 
 returns : tie.Need-returns Inv-loop μ-loop
-returns c = place-found _ _ _ _ _ _ _ (c .before .before .before .before .before .loop .inv) (c .before .follows .ensures) (c .if1 .taken)
+returns c = place-found _ _ _ _ _ _ _ (c .before .before .before .before .before .loop .inv) (c .before .before2 .ensures) (c .if1 .taken)
 
 sub-i : tie.Need-sub-i Inv-loop μ-loop
 sub-i c = omega arith
@@ -50,7 +50,7 @@ loop-less : tie.Need-loop-less Inv-loop μ-loop
 loop-less c = omega arith
 
 loop-again : tie.Need-loop-again Inv-loop μ-loop
-loop-again c = behind-turn _ _ _ _ _ _ _ (c .before .before .before .before .before .loop .inv) (c .before .before .before .before .loop-test .taken) (c .before .follows .ensures) (c .if1 .left)
+loop-again c = behind-turn _ _ _ _ _ _ _ (c .before .before .before .before .before .loop .inv) (c .before .before .before .before .loop-test .taken) (c .before .before2 .ensures) (c .if1 .left)
 
 returns-2 : tie.Need-returns-2 Inv-loop μ-loop
 returns-2 c = place-none _ _ _ _ _ _ (c .before .loop .inv) (c .loop-test .left)
@@ -62,15 +62,15 @@ place-spec =
     Inv-loop
     μ-loop
     loop-holds
-    mul-follows
-    sub-follows
-    mul-follows-2
-    shared-slice-read-follows
-    mul-follows-3
-    sub-follows-2
-    mul-follows-4
-    shared-slice-read-follows-2
-    follows-requires
+    mul-before
+    sub-before
+    mul-before-2
+    shared-slice-read-before
+    mul-before-3
+    sub-before-2
+    mul-before-4
+    shared-slice-read-before-2
+    before-requires
     returns
     sub-i
     loop-less

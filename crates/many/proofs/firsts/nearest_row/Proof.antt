@@ -41,7 +41,7 @@ returns : tie.Need-returns
 returns c =
     let a = c .before .before .before .before .before .before .before .before .before .args in
     let s = store (a .t) (a .references .now) (a .coordinates .now) (a .rooms .now) in
-    row-found (λ (p : List ℤ). nearestOf (tableQuery s Near p (a .reach)) (claimsIn s)) _ _ _ _ _ _ (c .before .before .before .before .nearest .ensures) (c .before .before .put-found .ensures)
+    row-found (λ (p : List ℤ). nearestOf (tableQuery (s .table) Near p (a .reach)) (claimsIn s)) _ _ _ _ _ _ (c .before .before .before .before .nearest .ensures) (c .before .before .put-found .ensures)
 
 pub nearest-row-spec : {M : Type 1} → statement M
 nearest-row-spec =

@@ -41,35 +41,35 @@ returns-3 c = way-mark _ _ _ _ _ _ _ (c .before .before .before .before .before 
 add-if4 : tie.Need-add-if4
 add-if4 c = search needs
 
-mul-follows : tie.Need-mul-follows
-mul-follows c = search needs
+mul-before : tie.Need-mul-before
+mul-before c = search needs
 
-add-follows : tie.Need-add-follows
-add-follows c = search needs
+add-before : tie.Need-add-before
+add-before c = search needs
 
-mul-follows-2 : tie.Need-mul-follows-2
-mul-follows-2 c = search needs
+mul-before-2 : tie.Need-mul-before-2
+mul-before-2 c = search needs
 
-shared-slice-read-follows : tie.Need-shared-slice-read-follows
-shared-slice-read-follows c = search needs
+shared-slice-read-before : tie.Need-shared-slice-read-before
+shared-slice-read-before c = search needs
 
-mul-follows-3 : tie.Need-mul-follows-3
-mul-follows-3 c = search needs
+mul-before-3 : tie.Need-mul-before-3
+mul-before-3 c = search needs
 
-add-follows-2 : tie.Need-add-follows-2
-add-follows-2 c = search needs
+add-before-2 : tie.Need-add-before-2
+add-before-2 c = search needs
 
-mul-follows-4 : tie.Need-mul-follows-4
-mul-follows-4 c = search needs
+mul-before-4 : tie.Need-mul-before-4
+mul-before-4 c = search needs
 
-shared-slice-read-follows-2 : tie.Need-shared-slice-read-follows-2
-shared-slice-read-follows-2 c = search needs
+shared-slice-read-before-2 : tie.Need-shared-slice-read-before-2
+shared-slice-read-before-2 c = search needs
 
-follows-requires : tie.Need-follows-requires
-follows-requires c κs = search needs
+before-requires : tie.Need-before-requires
+before-requires c κs = search needs
 
 returns-4 : tie.Need-returns-4
-returns-4 c = way-next _ _ _ _ _ _ _ (c .before .before .before .before .before .before .before .before .before .before .before .pre .0) (c .before .before .before .before .before .before .before .if1 .left) (c .before .before .before .before .before .before .if2 .left) (c .before .before .before .before .before .is-after .result) (c .before .before .before .before .before .is-after .ensures _) (c .before .before .before .before .if3 .left) (c .before .before .before .if4 .taken) _ (c .follows .ensures)
+returns-4 c = way-next _ _ _ _ _ _ _ (c .before .before .before .before .before .before .before .before .before .before .before .pre .0) (c .before .before .before .before .before .before .before .if1 .left) (c .before .before .before .before .before .before .if2 .left) (c .before .before .before .before .before .is-after .result) (c .before .before .before .before .before .is-after .ensures _) (c .before .before .before .before .if3 .left) (c .before .before .before .if4 .taken) _ (c .before2 .ensures)
 
 returns-5 : tie.Need-returns-5
 returns-5 c = way-last _ _ _ _ _ _ _ (c .before .before .before .before .before .before .before .before .pre .0) (c .before .before .before .before .if1 .left) (c .before .before .before .if2 .left) (c .before .before .is-after .result) (c .before .before .is-after .ensures _) (c .before .if3 .left) (c .if4 .left)
@@ -90,14 +90,14 @@ item-holds-spec =
     is-after-requires
     returns-3
     add-if4
-    mul-follows
-    add-follows
-    mul-follows-2
-    shared-slice-read-follows
-    mul-follows-3
-    add-follows-2
-    mul-follows-4
-    shared-slice-read-follows-2
-    follows-requires
+    mul-before
+    add-before
+    mul-before-2
+    shared-slice-read-before
+    mul-before-3
+    add-before-2
+    mul-before-4
+    shared-slice-read-before-2
+    before-requires
     returns-4
     returns-5)

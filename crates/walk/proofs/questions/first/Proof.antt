@@ -1,38 +1,39 @@
 -- `walk::questions::first` meets its contract. Assumes nothing.
 use Rattle.walk.proofs.Answers.{first-none, first-some}
+use Rattle.paper.specs.Tree.{store}
 use borrow.Author.Needs.{needs}
 use Rattle.walk.proofs.questions.first.Statement.{statement}
 use Rattle.walk.proofs.questions.first.Tie as tie
 
-slice-aggregate-page-of : tie.Need-slice-aggregate-page-of
-slice-aggregate-page-of c = search needs
+slice-aggregate-fill : tie.Need-slice-aggregate-fill
+slice-aggregate-fill c = search needs
 
-page-of-requires : tie.Need-page-of-requires
-page-of-requires c κs = search needs
+fill-requires : tie.Need-fill-requires
+fill-requires c κs = search needs
 
 returns : tie.Need-returns
-returns c = let a = c .before .before .before .before .before .before .args in first-none (a .t) (a .order) (a .probe .now) (a .reach) (a .references .now) (a .coordinates .now) _ _ _ (c .before .before .page-of .ensures) (c .if1 .taken)
+returns c = let a = c .before .before .before .before .before .before .args in first-none (store (a .t) (a .references .now) (a .coordinates .now) (a .rooms .now)) (a .order) (a .probe .now) (a .reach) _ _ _ (c .before .before .fill .ensures) (c .if1 .taken)
 
-array-read-t17 : tie.Need-array-read-t17
-array-read-t17 c = search needs
+array-read-t16 : tie.Need-array-read-t16
+array-read-t16 c = search needs
 
-array-read-t20 : tie.Need-array-read-t20
-array-read-t20 c = search needs
+array-read-t19 : tie.Need-array-read-t19
+array-read-t19 c = search needs
 
-array-read-t23 : tie.Need-array-read-t23
-array-read-t23 c = search needs
+array-read-t22 : tie.Need-array-read-t22
+array-read-t22 c = search needs
 
 returns-2 : tie.Need-returns-2
-returns-2 c = let a = c .before .before .before .before .before .before .args in first-some (a .t) (a .order) (a .probe .now) (a .reach) (a .references .now) (a .coordinates .now) _ _ _ (c .before .before .page-of .ensures) (c .if1 .left)
+returns-2 c = let a = c .before .before .before .before .before .before .args in first-some (store (a .t) (a .references .now) (a .coordinates .now) (a .rooms .now)) (a .order) (a .probe .now) (a .reach) _ _ _ (c .before .before .fill .ensures) (c .if1 .left)
 
 pub first-spec : {M : Type 1} → statement M
 first-spec =
     tie.close
     (tie.spec
-    slice-aggregate-page-of
-    page-of-requires
+    slice-aggregate-fill
+    fill-requires
     returns
-    array-read-t17
-    array-read-t20
-    array-read-t23
+    array-read-t16
+    array-read-t19
+    array-read-t22
     returns-2)

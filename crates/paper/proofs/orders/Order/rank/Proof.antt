@@ -1,8 +1,8 @@
--- `keep::rank` meets its contract. Assumes nothing.
+-- `Order::rank` meets its contract. Assumes nothing.
 use Rattle.paper.specs.Orders.{rank}
 use borrow.Author.Needs.{needs}
-use Rattle.keep.proofs.rank.Statement.{statement}
-use Rattle.keep.proofs.rank.Tie as tie
+use Rattle.paper.proofs.orders.Order.rank.Statement.{statement}
+use Rattle.paper.proofs.orders.Order.rank.Tie as tie
 
 enum-told : tie.Need-enum-told
 enum-told c = search needs

@@ -13,13 +13,12 @@ use borrow.Author.Tests.{lt-ltb, le-leb, eq-eqb, leb-true, leb-false}
 use Rattle.paper.specs.declared.orders.Mark.{Mark}
 use Rattle.paper.specs.declared.orders.Place.{Place}
 use Rattle.paper.specs.declared.orders.Place.the-variants.{Start, After}
-use Rattle.paper.specs.Points.{measureOf, Claim, noClaim}
+use Rattle.paper.specs.Points.{Claim}
 use Rattle.paper.specs.Orders.{Item, noItem, Query, itemOf, listed, following, pageOf, nothing, firstOf, nearestOf, farQuery, farthestOf, markHolds}
 use Rattle.paper.specs.Ends.{markOf}
-use Rattle.measure.proofs.Laws.{In32, distance-most}
 use Rattle.orders.proofs.Lists.{All, all-getD, take-again}
 use Rattle.orders.proofs.Sorted.{rest-start, rest-next, IsOf, listed-are, listed-rising, listed-grown}
 use Rattle.orders.proofs.Meaning.{listed-has}
 
 le-or-more : (a b : ℕ) → (a ≤ b) ⊎ (b < a)
 le-or-more a b = go (leb a b) refl
@@ -109,7 +108,7 @@ first-take zero l h = absurd (omega arith)
 first-take (suc size) [] h = refl
 first-take (suc size) (a ∷ l) h = refl
 
-first-some : (l : List Item) (a : Item) → List·Memᴰ a l → firstOf l ≡ nothing → ⊥
+pub first-some : (l : List Item) (a : Item) → List·Memᴰ a l → firstOf l ≡ nothing → ⊥
 unfolding firstOf
 first-some (b ∷ l) a m e = let z : _≡_ {A = ℕ} 0 1 = cc in omega arith
 
@@ -140,13 +139,7 @@ module _ (q : Query) (cs : List Claim) where
       go [] h = refl
       go (a ∷ l) h = absurd (let d : a .distance ≡ itemOf q cs (a .number) .distance = ap (λ (y : Item). y .distance) (h .0 .is) in omega (arith, none (a .number) (h .0 .below), h .0 .within))
 
-  -- Nothing exactly if there is no claim, where coordinates are of 32 bits
+  -- Nothing where there is no claim; that there is something else where there is one needs the measure (walk, Farthest)
   pub farthest-none : length cs ≡ 0 → farthestOf q cs ≡ nothing
   unfolding farthestOf listed firstOf
   farthest-none e = rw e
-
-  pub farthest-some : In32 (q .probe) → In32 (getD cs 0 noClaim .place) → 0 < length cs → farthestOf q cs ≡ nothing → ⊥
-  unfolding farthestOf itemOf
-  farthest-some hp hc h e =
-      first-some (listed (farQuery q) cs (length cs)) (itemOf (farQuery q) cs 0)
-      (listed-has (farQuery q) cs (length cs) 0 h (distance-most (measureOf (q .measure)) (q .d) (getD cs 0 noClaim .place) (q .probe) hc hp)) e

@@ -1,0 +1,114 @@
+-- Document 01, "Marked examples, d = 1, measure 1": a to j as one statement about the definitions, and further ones that the
+-- document names elsewhere or that catch what these let pass. Definitions only.
+use Prim.Native.Nat.{ℕ}
+use mathlib.Core.Path.{_≡_}
+use mathlib.Core.Bool.{Bool, true, false}
+use mathlib.Core.List.{List, [], _∷_, _++_, map}
+use lib.IntN.{ℤ, pos, negsuc}
+use lib.ListN.{replicate}
+use Rattle.paper.specs.declared.orders.Order.the-variants.{Near}
+use Rattle.paper.specs.declared.orders.Place.{Place}
+use Rattle.paper.specs.declared.orders.Place.the-variants.{Start, After}
+use Rattle.paper.specs.declared.points.Measure.the-variants.{CityBlock, Maximum, Hamming}
+use Rattle.paper.specs.Points.{distance, greatestOf, Claim}
+use Rattle.paper.specs.Orders.{Item, Query, listed, nothing, found, nearestOf, farthestOf}
+use Rattle.paper.specs.Tree.{grown, apart, afresh}
+use Rattle.paper.specs.Outcomes.{Outcome, refused, gives}
+use Rattle.paper.specs.Ends.{Answer, Table, answerTo}
+use Rattle.paper.specs.Limits.{officeClaims}
+
+-- "Claims 2, 3, 9, 6, 5 as above (document 000, figure 3)", with references 65 to 69 in hexadecimal digits
+abbrev pub claim : ℕ → ℕ → Claim
+claim reference x = record { reference = reference; place = pos x ∷ [] }
+
+abbrev pub five : List Claim
+five = claim 101 2 ∷ claim 102 3 ∷ claim 103 9 ∷ claim 104 6 ∷ claim 105 5 ∷ []
+
+-- "a claim at 4 entered after"
+abbrev pub six : List Claim
+six = five ++ (claim 106 4 ∷ [])
+
+-- "probe 4, reach 5 unless said"
+abbrev pub query : ℕ → Query
+query reach = record { order = Near; table = 7; measure = 1; d = 1; probe = pos 4 ∷ []; reach = reach }
+
+abbrev pub table : List Claim → Table
+table claims = record { number = 7; measure = 1; d = 1; capacity = officeClaims; claims = claims }
+
+-- an item of the five, by its number, reference and distance
+abbrev pub item : ℕ → ℕ → ℕ → Item
+item number reference distance = record { number = number; reference = reference; distance = distance }
+
+-- how far two of some claims are apart, their coordinates standing one after another
+unfoldable pub coordinatesOf : List Claim → List ℤ
+coordinatesOf [] = []
+coordinatesOf (c ∷ l) = c .place ++ coordinatesOf l
+
+abbrev pub apartOf : List Claim → ℕ → ℕ → ℕ
+apartOf claims = apart 1 1 (coordinatesOf claims)
+
+-- a place's snapshot, and its mark's distance and number
+abbrev pub after : ℕ → ℕ → ℕ → Place
+after snapshot distance number = After snapshot (record { distance = distance; number = number })
+
+-- what the office answers: the numbers of the page, and whether it is last
+pub record Page : Type 0 where
+  pub numbers : List ℕ
+  pub last : Bool
+
+abbrev pub page : List ℕ → Bool → Page
+page numbers last = record { numbers = numbers; last = last }
+
+abbrev pub shown : Outcome Answer → Outcome Page
+shown (refused n) = refused n
+shown (gives y) = gives (page (map (λ x. x .number) (y .items)) (y .last))
+
+unfoldable pub answered : List Claim → Place → ℕ → Outcome Page
+answered claims place size = shown (answerTo (table claims) (record { query = query 5; place = place; size = size }))
+
+-- examples a to j
+pub record Marked : Type 0 where
+  -- "root 2 and 3, far distance 6 on its right; below it 9 and 6, far distance 1 on the right; below that 5"
+  pub a : afresh (apartOf five) 5
+      ≡ grown
+      ((1 ∷ 2 ∷ 0 ∷ 6 ∷ 0 ∷ 2 ∷ [])
+      ++ ((3 ∷ 4 ∷ 0 ∷ 1 ∷ 0 ∷ 3 ∷ [])
+      ++ ((5 ∷ 0 ∷ 0 ∷ 0 ∷ 0 ∷ 0 ∷ [])
+      ++ replicate 12 0)))
+      3
+  -- "near order by number: 1, 4, 0, 3, 2, at distances 1, 1, 2, 2, 5"
+  pub b : listed (query 5) five 5 ≡ item 1 102 1 ∷ item 4 105 1 ∷ item 0 101 2 ∷ item 3 104 2 ∷ item 2 103 5 ∷ []
+  -- "nearest: 1. Farthest: 2, distance 5."
+  pub c : (nearestOf (query 5) five ≡ found (item 1 102 1)) × (farthestOf (query 5) five ≡ found (item 2 103 5))
+  -- "nearest within 0: Nothing; within 1: number 1"
+  pub d : (nearestOf (query 0) five ≡ nothing) × (nearestOf (query 1) five ≡ found (item 1 102 1))
+  -- "pages of 2: 1, 4; then 0, 3; then 2, last"
+  pub e : (answered five Start 2 ≡ gives (page (1 ∷ 4 ∷ []) false))
+      × (answered five (after 5 1 4) 2 ≡ gives (page (0 ∷ 3 ∷ []) false))
+      × (answered five (after 5 2 3) 2 ≡ gives (page (2 ∷ []) true))
+  -- "a claim at 4 entered after the first page changes none of e"
+  pub f : (answered six (after 5 1 4) 2 ≡ gives (page (0 ∷ 3 ∷ []) false)) × (answered six (after 5 2 3) 2 ≡ gives (page (2 ∷ []) true))
+  -- "snapshot 5, mark distance 2, number 4: refusal 8"
+  pub g : answered five (after 5 2 4) 2 ≡ refused 8
+  -- "snapshot 6 with five claims: refusal 7"
+  pub h : answered five (after 6 1 4) 2 ≡ refused 7
+  -- "−2,147,483,648 to 2,147,483,647: 4,294,967,295"
+  pub i : distance CityBlock 1 (negsuc 2147483647 ∷ []) (pos 2147483647 ∷ []) ≡ 4294967295
+  -- "a page of 5 is not last, and the next is empty and last"
+  pub j : (answered five Start 5 ≡ gives (page (1 ∷ 4 ∷ 0 ∷ 3 ∷ 2 ∷ []) false)) × (answered five (after 5 5 2) 5 ≡ gives (page [] true))
+
+pub record MarkedBesides : Type 0 where
+  -- "below the left one when the distances are equal": a claim at 1 beside 0 and 2
+  pub tie : afresh (apartOf (claim 0 0 ∷ claim 0 2 ∷ claim 0 1 ∷ [])) 3
+      ≡ grown
+      ((1 ∷ 2 ∷ 1 ∷ 0 ∷ 2 ∷ 0 ∷ [])
+      ++ ((3 ∷ 0 ∷ 0 ∷ 0 ∷ 0 ∷ 0 ∷ [])
+      ++ replicate 6 0))
+      2
+  -- e again, in pages of 1: its pages of 2 end where its ties end, so a mark of distance alone would pass there
+  pub ties : (answered five Start 1 ≡ gives (page (1 ∷ []) false)) × (answered five (after 5 1 1) 1 ≡ gives (page (4 ∷ []) false))
+  -- document 001: "distance 3 between 1,2,3 and 4,4,4" for the maximum; "1,2,3 and 1,3,2 are 2 apart" for Hamming
+  pub maximum : distance Maximum 3 (pos 1 ∷ pos 2 ∷ pos 3 ∷ []) (pos 4 ∷ pos 4 ∷ pos 4 ∷ []) ≡ 3
+  pub hamming : distance Hamming 3 (pos 1 ∷ pos 2 ∷ pos 3 ∷ []) (pos 1 ∷ pos 3 ∷ pos 2 ∷ []) ≡ 2
+  -- "34,359,738,360 at d = 8"
+  pub widest : greatestOf CityBlock 8 ≡ 34359738360
