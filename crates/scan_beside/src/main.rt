@@ -1,11 +1,17 @@
 // Generated tables and questions beside a plain scan, which shares no code with the walk: its own distance, its own selection.
 // Prints how many pages were asked for, how many of them were refused for their mark, how many items and last pages came, how many
 // nearest and farthest claims were asked for and how often there was none, and how many answers were not the scan's.
+mod checked;
 mod scan;
 mod tables;
 
 ghost use mathlib.Core.Path.{_≡_};
-ghost use Prim.Native.Nat.{_<_, _≤_};
+ghost use Prim.Native.Nat.{ℕ, _<_, _≤_};
+ghost use Rattle.paper.specs.Orders.{snapshotOf};
+ghost use Rattle.paper.specs.Tree.{lent};
+ghost use Rattle.walk.specs.Asking.{Answerable};
+ghost use Rattle.scan_beside.specs.Questions.{Small, Drawn};
+use checked::closed;
 use paper::orders::Found;
 use paper::orders::Mark;
 use paper::orders::Order;
@@ -17,7 +23,8 @@ use scan::Best;
 use std::num::wrapping_add_u64;
 use tables::next;
 use tables::pick;
-use trial::Answer;
+use walk::questions::mark_holds;
+use walk::questions::page_of;
 
 // What was asked, and how much of it was not the scan's.
 struct Tally {
@@ -63,7 +70,9 @@ fn order_of(far: bool) -> Order {
     Order::Near
 }
 
-fn place_of(a: Asking) -> Place {
+fn place_of(a: Asking) -> Place
+    ensures { λ r. ⌜ ((count : ℕ) → a .snapshot ≤ count → snapshotOf r count ≤ count) ⌝ }
+{
     let after = a.after;
     if after {
         return Place::After(a.snapshot as u64, Mark::at(a.distance, a.number));
@@ -112,7 +121,7 @@ fn same_page(
     paged.last == (count < size)
 }
 
-// A page beside the scan's. A mark beyond the reach is refused.
+// A page beside the scan's. Only a mark beyond the reach is refused.
 fn page_beside(
     t: Table,
     references: &[u32],
@@ -124,42 +133,32 @@ fn page_beside(
     a: Asking,
     tally: Tally,
 ) -> Tally
-    requires { ⌜ (a .snapshot ≤ 48) × (a .d ≤ 8) ⌝ }
+    requires { ⌜ Answerable (lent t references coordinates rooms) (now probe) × Drawn t a ⌝ }
 {
     let mut room = [7777777u64; 48];
-    let order = order_of(a.far);
     let place = place_of(a);
-    let answer = trial::page(
+    let reach = a.reach;
+    if !mark_holds(t, coordinates, probe, reach, place) {
+        return tally.page(true, 0, false, reach < a.distance);
+    }
+    let paged = page_of(
         t,
         references,
         coordinates,
         rooms,
-        order,
+        order_of(a.far),
         probe,
-        a.reach,
+        reach,
         place,
         a.size,
         &mut room,
     );
-    match answer {
-        Answer::Refused(n) => {
-            let after = a.after;
-            let reach = a.reach;
-            if n != 8 {
-                return tally.page(true, 0, false, false);
-            }
-            if !after {
-                return tally.page(true, 0, false, false);
-            }
-            tally.page(true, 0, false, reach < a.distance)
-        }
-        Answer::Page(paged) => tally.page(
-            false,
-            paged.count,
-            paged.last,
-            same_page(points, codes, a, &room, paged),
-        ),
-    }
+    tally.page(
+        false,
+        paged.count,
+        paged.last,
+        same_page(points, codes, a, &room, paged),
+    )
 }
 
 // Nearest within the reach and farthest, beside the scan's.
@@ -171,14 +170,15 @@ fn firsts_beside(
     probe: &[i32],
     points: &[u64; 384],
     codes: &[u64; 8],
-    near: Asking,
-    far: Asking,
+    reach: u64,
     tally: Tally,
 ) -> Tally
-    requires { ⌜ ((near .snapshot ≤ 48) × (near .d ≤ 8)) × ((far .snapshot ≤ 48) × (far .d ≤ 8)) ⌝ }
+    requires { ⌜ Answerable (lent t references coordinates rooms) (now probe) × Small t ⌝ }
 {
-    let one = trial::nearest(t, references, coordinates, rooms, probe, near.reach);
-    let two = trial::farthest(t, references, coordinates, rooms, probe);
+    let near = from_start(t, false, reach, 1);
+    let far = from_start(t, true, 0xffff_ffff_ffff_ffff, 1);
+    let one = walk::questions::nearest(t, references, coordinates, rooms, probe, reach);
+    let two = walk::questions::farthest(t, references, coordinates, rooms, probe);
     let with = tally.first(
         is_nothing(one),
         same_first(one, scan::first(points, codes, near)),
@@ -208,15 +208,15 @@ fn reach_of(x: u64, other: u64) -> u64 {
 }
 
 // The question about the whole table, and the one after a mark in its first claims.
-fn from_start(t: Table, n: usize, far: bool, reach: u64, size: usize) -> Asking
-    ensures { λ r. ⌜ (r .snapshot ≡ n) × (r .d ≡ t .d) ⌝ }
+fn from_start(t: Table, far: bool, reach: u64, size: usize) -> Asking
+    ensures { λ r. ⌜ (r .snapshot ≡ t .count) × ((r .d ≡ t .d) × (r .size ≡ size)) ⌝ }
 {
     Asking {
         far: far,
         measure: t.measure as u64,
         d: t.d,
         reach: reach,
-        snapshot: n,
+        snapshot: t.count,
         after: false,
         distance: 0,
         number: 0,
@@ -225,7 +225,7 @@ fn from_start(t: Table, n: usize, far: bool, reach: u64, size: usize) -> Asking
 }
 
 fn from_mark(a: Asking, snapshot: usize, distance: u64, number: u64) -> Asking
-    ensures { λ r. ⌜ (r .snapshot ≡ snapshot) × (r .d ≡ a .d) ⌝ }
+    ensures { λ r. ⌜ (r .snapshot ≡ snapshot) × ((r .d ≡ a .d) × (r .size ≡ a .size)) ⌝ }
 {
     Asking {
         far: a.far,
@@ -241,31 +241,31 @@ fn from_mark(a: Asking, snapshot: usize, distance: u64, number: u64) -> Asking
 }
 
 // A question for a page from the start or from a place in the middle, in either order, of each size.
-fn drawn(t: Table, points: &[u64; 384], codes: &[u64; 8], n: usize, seed: u64) -> Asking
-    requires { ⌜ (n ≤ 48) × (t .d ≤ 8) ⌝ }
-    ensures { λ r. ⌜ (r .snapshot ≤ 48) × (r .d ≤ 8) ⌝ }
+fn drawn(t: Table, points: &[u64; 384], codes: &[u64; 8], seed: u64) -> Asking
+    requires { ⌜ Small t ⌝ }
+    ensures { λ r. ⌜ Drawn t r ⌝ }
 {
     let far = pick(seed, 2) == 1;
     let a = next(seed);
     let size = 1 + pick(a, 16) as usize;
     let b = next(a);
-    let snapshot = pick(b, n as u64 + 1) as usize;
+    let snapshot = pick(b, t.count as u64 + 1) as usize;
     let c = next(b);
     if snapshot == 0 {
-        return from_start(t, n, far, reach_of(c, 1), size);
+        return from_start(t, far, reach_of(c, 1), size);
     }
     let k = pick(c, snapshot as u64) as usize;
     let x = scan::distance(t.measure as u64, t.d, points, k, codes);
     let e = next(c);
-    let start = from_start(t, n, far, reach_of(e, x), size);
+    let start = from_start(t, far, reach_of(e, x), size);
     if pick(next(e), 4) == 0 {
         return start;
     }
     from_mark(start, snapshot, x, k as u64)
 }
 
-// Such a page, beside the scan's.
-fn ask_page(
+// A question of each kind. A table that cannot be asked counts as a page that is not the scan's.
+fn ask(
     t: Table,
     references: &[u32],
     coordinates: &[i32],
@@ -273,13 +273,27 @@ fn ask_page(
     probe: &[i32],
     points: &[u64; 384],
     codes: &[u64; 8],
-    n: usize,
     seed: u64,
     tally: Tally,
 ) -> Tally
-    requires { ⌜ (n ≤ 48) × (t .d ≤ 8) ⌝ }
+    requires { ⌜ Small t ⌝ }
 {
-    let question = drawn(t, points, codes, n, seed);
+    if closed(t, references, coordinates, rooms, probe) != 0 {
+        return tally.page(true, 0, false, false);
+    }
+    let a = next(seed);
+    let with = firsts_beside(
+        t,
+        references,
+        coordinates,
+        rooms,
+        probe,
+        points,
+        codes,
+        reach_of(a, 7),
+        tally,
+    );
+    let question = drawn(t, points, codes, next(a));
     page_beside(
         t,
         references,
@@ -289,91 +303,11 @@ fn ask_page(
         points,
         codes,
         question,
-        tally,
-    )
-}
-
-// A question of each kind.
-fn ask(
-    t: Table,
-    references: &[u32],
-    coordinates: &[i32],
-    rooms: &[u64],
-    probe: &[i32],
-    points: &[u64; 384],
-    codes: &[u64; 8],
-    n: usize,
-    seed: u64,
-    tally: Tally,
-) -> Tally
-    requires { ⌜ (n ≤ 48) × (t .d ≤ 8) ⌝ }
-{
-    let a = next(seed);
-    let near = from_start(t, n, false, reach_of(a, 7), 1);
-    let far = from_start(t, n, true, 0xffff_ffff_ffff_ffff, 1);
-    let with = firsts_beside(
-        t,
-        references,
-        coordinates,
-        rooms,
-        probe,
-        points,
-        codes,
-        near,
-        far,
-        tally,
-    );
-    ask_page(
-        t,
-        references,
-        coordinates,
-        rooms,
-        probe,
-        points,
-        codes,
-        n,
-        next(a),
         with,
     )
 }
 
 // With the first d coordinates of a probe.
-fn ask_front(
-    t: Table,
-    references: &[u32],
-    coordinates: &[i32],
-    rooms: &[u64],
-    probe: &[i32],
-    points: &[u64; 384],
-    codes: &[u64; 8],
-    seed: u64,
-    tally: Tally,
-) -> Tally {
-    let n = t.count;
-    let d = t.d;
-    if 48 < n {
-        return tally;
-    }
-    if 8 < d {
-        return tally;
-    }
-    if probe.len() < d {
-        return tally;
-    }
-    ask(
-        t,
-        references,
-        coordinates,
-        rooms,
-        &probe[0..d],
-        points,
-        codes,
-        n,
-        seed,
-        tally,
-    )
-}
-
 fn ask_at(
     t: Table,
     references: &[u32; 48],
@@ -385,12 +319,20 @@ fn ask_at(
     seed: u64,
     tally: Tally,
 ) -> Tally {
-    ask_front(
+    let d = t.d;
+    if 48 < t.count {
+        return tally;
+    }
+    if 8 < d {
+        return tally;
+    }
+    let whole = &probe[..];
+    ask(
         t,
         references,
         coordinates,
         rooms,
-        probe,
+        &whole[0..d],
         points,
         codes,
         seed,

@@ -98,33 +98,15 @@ fn node(
     let rl = order.rank(xl);
     let rr = order.rank(xr);
     if rr < rl {
-        let first = way_down(rooms, ask, m, 1, rr, rl, room, two);
-        let three = side(references, coordinates, rooms, probe, ask, first, room, two);
-        let second = way_down(rooms, ask, m, 0, rl, rr, room, three);
-        return side(
-            references,
-            coordinates,
-            rooms,
-            probe,
-            ask,
-            second,
-            room,
-            three,
-        );
+        let way = way_down(rooms, ask, m, 1, rr, rl, room, two);
+        let three = side(references, coordinates, rooms, probe, ask, way, room, two);
+        let way = way_down(rooms, ask, m, 0, rl, rr, room, three);
+        return side(references, coordinates, rooms, probe, ask, way, room, three);
     }
-    let first = way_down(rooms, ask, m, 0, rl, rr, room, two);
-    let three = side(references, coordinates, rooms, probe, ask, first, room, two);
-    let second = way_down(rooms, ask, m, 1, rr, rl, room, three);
-    side(
-        references,
-        coordinates,
-        rooms,
-        probe,
-        ask,
-        second,
-        room,
-        three,
-    )
+    let way = way_down(rooms, ask, m, 0, rl, rr, room, two);
+    let three = side(references, coordinates, rooms, probe, ask, way, room, two);
+    let way = way_down(rooms, ask, m, 1, rr, rl, room, three);
+    side(references, coordinates, rooms, probe, ask, way, room, three)
 }
 
 // The claims below a side, where `way` is the room below it plus one, or 0 where none of them can change the answer. The tests are
@@ -145,17 +127,8 @@ fn side(
     if way == 0 {
         return count;
     }
-    let next = (way - 1) as usize;
-    node(
-        references,
-        coordinates,
-        rooms,
-        probe,
-        ask,
-        next,
-        room,
-        count,
-    )
+    let m = (way - 1) as usize;
+    node(references, coordinates, rooms, probe, ask, m, room, count)
 }
 
 // Puts the first `size` admitted claims, in order, at the front of the room, three numbers a claim, and gives how many they are.

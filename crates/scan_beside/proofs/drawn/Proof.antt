@@ -1,23 +1,24 @@
 -- `scan_beside::drawn` meets its contract: the snapshot is that of the whole table, or below it. Assumes nothing.
-use native.Mathlib.Omega.{arith}
+use lib.Dec.{lit<}
 use borrow.Author.Needs.{needs}
+use Rattle.scan_beside.proofs.Laws.{start-drawn, mark-drawn}
 use Rattle.scan_beside.proofs.drawn.Statement.{statement}
 use Rattle.scan_beside.proofs.drawn.Tie as tie
 
 pick-requires : tie.Need-pick-requires
-pick-requires c κs = search needs
+pick-requires c κs = lit< tt
 
 next-requires : tie.Need-next-requires
-next-requires c κs = search needs
+next-requires c κs = tt
 
 pick-requires-2 : tie.Need-pick-requires-2
-pick-requires-2 c κs = search needs
+pick-requires-2 c κs = lit< tt
 
 add-size : tie.Need-add-size
 add-size c = search needs
 
 next-requires-2 : tie.Need-next-requires-2
-next-requires-2 c κs = search needs
+next-requires-2 c κs = tt
 
 add-pick : tie.Need-add-pick
 add-pick c = search needs
@@ -26,16 +27,16 @@ pick-requires-3 : tie.Need-pick-requires-3
 pick-requires-3 c κs = search needs
 
 next-requires-3 : tie.Need-next-requires-3
-next-requires-3 c κs = search needs
+next-requires-3 c κs = tt
 
 reach-of-requires : tie.Need-reach-of-requires
-reach-of-requires c κs = search needs
+reach-of-requires c κs = tt
 
 from-start-requires : tie.Need-from-start-requires
-from-start-requires c κs = search needs
+from-start-requires c κs = tt
 
 returns : tie.Need-returns
-returns c = search needs
+returns c = start-drawn _ _ _ (c .before .before .before .before .before .before .before .before .before .pre) (c .from-start .ensures) (c .before .before .before .before .before .before .pick2 .ensures)
 
 pick-requires-4 : tie.Need-pick-requires-4
 pick-requires-4 c κs = search needs
@@ -47,60 +48,28 @@ distance-requires : tie.Need-distance-requires
 distance-requires c κs = search needs
 
 next-requires-4 : tie.Need-next-requires-4
-next-requires-4 c κs = search needs
+next-requires-4 c κs = tt
 
 reach-of-requires-2 : tie.Need-reach-of-requires-2
-reach-of-requires-2 c κs = search needs
+reach-of-requires-2 c κs = tt
 
 from-start-requires-2 : tie.Need-from-start-requires-2
-from-start-requires-2 c κs = search needs
+from-start-requires-2 c κs = tt
 
 next-requires-5 : tie.Need-next-requires-5
-next-requires-5 c κs = search needs
+next-requires-5 c κs = tt
 
 pick-requires-5 : tie.Need-pick-requires-5
-pick-requires-5 c κs = search needs
+pick-requires-5 c κs = lit< tt
 
 returns-2 : tie.Need-returns-2
-returns-2 c =
-    let p = c .before .before .before .before .before .before .before .before .before .before .before .before .before .before .before .before .pre in
-    let e = c .before .before .before .from-start2 .ensures in
-    (omega arith, omega arith)
+returns-2 c = start-drawn _ _ _ (c .before .before .before .before .before .before .before .before .before .before .before .before .before .before .before .before .pre) (c .before .before .before .from-start2 .ensures) (c .before .before .before .before .before .before .before .before .before .before .before .before .before .pick2 .ensures)
 
 from-mark-requires : tie.Need-from-mark-requires
-from-mark-requires c κs = search needs
+from-mark-requires c κs = tt
 
 returns-3 : tie.Need-returns-3
-returns-3 c =
-    let p = c .before .before .before .before .before .before .before .before .before .before .before .before .before .before .before .before .before .pre in
-    let e = c .before .before .before .before .from-start2 .ensures in
-    let f = c .from-mark .ensures in
-    let s = c .before .before .before .before .before .before .before .before .before .before .before .before .pick3 .ensures in
-    (omega arith, omega arith)
+returns-3 c = mark-drawn _ (c .before .before .before .before .from-start2 .result) _ _ (start-drawn _ _ _ (c .before .before .before .before .before .before .before .before .before .before .before .before .before .before .before .before .before .pre) (c .before .before .before .before .from-start2 .ensures) (c .before .before .before .before .before .before .before .before .before .before .before .before .before .before .pick2 .ensures)) (c .from-mark .ensures) (c .before .before .before .before .before .before .before .before .before .before .before .before .pick3 .ensures)
 
 pub drawn-spec : {M : Type 1} → statement M
-drawn-spec =
-    tie.close
-    (tie.spec
-    pick-requires
-    next-requires
-    pick-requires-2
-    add-size
-    next-requires-2
-    add-pick
-    pick-requires-3
-    next-requires-3
-    reach-of-requires
-    from-start-requires
-    returns
-    pick-requires-4
-    cast-distance
-    distance-requires
-    next-requires-4
-    reach-of-requires-2
-    from-start-requires-2
-    next-requires-5
-    pick-requires-5
-    returns-2
-    from-mark-requires
-    returns-3)
+drawn-spec = tie.close (tie.spec pick-requires next-requires pick-requires-2 add-size next-requires-2 add-pick pick-requires-3 next-requires-3 reach-of-requires from-start-requires returns pick-requires-4 cast-distance distance-requires next-requires-4 reach-of-requires-2 from-start-requires-2 next-requires-5 pick-requires-5 returns-2 from-mark-requires returns-3)

@@ -135,8 +135,8 @@ node-returns-3 t c = let a = c .before .before .before .before .before .before .
 side-returns : (t : ℕ) → side-lts.Need-returns (side-calls t) (side-at t) side.Post
 side-returns t c = let a = c .before .before .before .before .args in side-none (a .ask) (a .references .now) (a .rooms .now) (apartBy (a .ask) (a .coordinates .now)) (distBy (a .ask) (a .coordinates .now) (a .probe .now)) _ _ _ (c .before .before .before .before .pre .1 .roomy .few) (c .if1 .taken)
 
-side-sub-next : (t : ℕ) → side-lts.Need-sub-next (side-calls t) (side-at t) side.Post
-side-sub-next t c = let h = c .if1 .left in omega arith
+side-sub-m : (t : ℕ) → side-lts.Need-sub-m (side-calls t) (side-at t) side.Post
+side-sub-m t c = let h = c .if1 .left in omega arith
 
 side-node-requires : (t : ℕ) → side-lts.Need-node-requires (side-calls t) (side-at t) side.Post
 side-node-requires t c κs = let a = c .before .before .before .before .before .args in let p = c .before .before .before .before .before .pre .1 in let h = c .before .before .before .before .before .pre .0 in let q = node-falls (a .ask .used) (a .way) (c .before .if1 .left) in (omega (arith, h, q), record { walk = p .walk (c .before .if1 .left); lent = p .lent; roomy = p .roomy })
@@ -153,4 +153,4 @@ pub +node+side-spec : {M : Type 1} → statement M
     (λ t. node-lts.spec (node-calls t) (node-at t) node.Post
     (node-field-requires t) (node-sub-kl t) (node-from-probe-requires t) (node-consider-requires t) (node-field-requires-2 t) (node-same-length t) (node-returns t) (node-sub-kr t) (node-from-probe-requires-2 t) (node-consider-requires-2 t) (node-rank-requires t) (node-rank-requires-2 t) (node-way-down-requires t) (node-side-requires t) (node-way-down-requires-2 t) (node-side-requires-2 t) (node-same-length-2 t) (node-returns-2 t) (node-way-down-requires-3 t) (node-side-requires-3 t) (node-way-down-requires-4 t) (node-side-requires-4 t) (node-same-length-3 t) (node-returns-3 t))
     (λ t. side-lts.spec (side-calls t) (side-at t) side.Post
-    (side-returns t) (side-sub-next t) (side-node-requires t) (side-same-length t) (side-returns-2 t))
+    (side-returns t) (side-sub-m t) (side-node-requires t) (side-same-length t) (side-returns-2 t))
