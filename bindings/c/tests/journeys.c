@@ -165,7 +165,7 @@ static void ask_some(journey *j, drawn_list *l)
     }
     size_t size = below(j->from, NEARBY_MOST_PAGE + 2);
     nearby_written ask = write_ask(l, size, (output){ out, sizeof out });
-    CHECK(ask.refusal == (l->t.list.complete ? 16 : size < 1 || size > 16 ? 6 : 0));
+    CHECK(ask.refusal == (l->t.list.complete ? 16 : size < 1 || size > NEARBY_MOST_PAGE ? 6 : 0));
     if (ask.refusal == 0)
         send_line(j->from, j->link, out, ask.length);
 }
