@@ -1,4 +1,6 @@
 // Document 01's marked examples c, d, e, f, g, h and j on code: claims 2, 3, 9, 6, 5, measure 1, probe 4, reach 5 unless said.
+use nearby::enter;
+use nearby::make_table;
 use paper::orders::Found;
 use paper::orders::Mark;
 use paper::orders::Order;
@@ -7,8 +9,6 @@ use paper::orders::Place;
 use paper::tables::Entered;
 use paper::tables::Made;
 use paper::tables::Table;
-use tree::runs::enter_run;
-use tree::runs::make_table;
 use trial::Answer;
 
 fn number(x: u64, end: &[u8]) {
@@ -161,7 +161,7 @@ fn asked(t: Table, references: &[u32], coordinates: &[i32], rooms: &[u64]) {
 }
 
 fn run(t: Table, references: &mut [u32; 8], coordinates: &mut [i32; 8], rooms: &mut [u64; 48]) {
-    let Entered::Table(five) = enter_run(
+    let Entered::Table(five) = enter(
         t,
         references,
         coordinates,
@@ -172,8 +172,7 @@ fn run(t: Table, references: &mut [u32; 8], coordinates: &mut [i32; 8], rooms: &
         return;
     };
     asked(five, references, coordinates, rooms);
-    let Entered::Table(six) = enter_run(five, references, coordinates, rooms, &[106u32], &[4i32])
-    else {
+    let Entered::Table(six) = enter(five, references, coordinates, rooms, &[106u32], &[4i32]) else {
         return;
     };
     io::write_all(1, b"f\n");

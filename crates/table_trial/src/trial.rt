@@ -4,11 +4,11 @@ use super::drawing::draw;
 use super::drawing::lay;
 use super::own::build;
 use super::own::differences;
+use nearby::enter;
+use nearby::make_table;
 use paper::tables::Entered;
 use paper::tables::Made;
 use paper::tables::Table;
-use tree::runs::enter_run;
-use tree::runs::make_table;
 
 pub struct Score {
     pub tables: u64,
@@ -133,7 +133,7 @@ fn more(
     }
     after(
         s,
-        enter_run(
+        enter(
             s.table,
             references,
             coordinates,
@@ -162,7 +162,7 @@ fn refused(
     if places.len() < nd {
         return 0;
     }
-    let e = enter_run(
+    let e = enter(
         t,
         references,
         coordinates,
