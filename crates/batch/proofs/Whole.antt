@@ -8,7 +8,7 @@ use borrow.Author.Tests.{le-leb, lt-leb}
 use Rattle.paper.specs.Outcomes.{Outcome, refused, gives}
 use Rattle.paper.specs.Tree.{Store}
 use Rattle.paper.proofs.Outcomes.{must-stop, must-go, promise-refused, promise-given}
-use Rattle.nearby.specs.Checks.{tableRefusal}
+use Rattle.paper.specs.Calls.{tableRefusal}
 use Rattle.nearby.proofs.CallLaws.{table-refused, table-goes}
 use Rattle.batch.specs.declared.Answered.{Answered}
 use Rattle.batch.specs.Batch.{Batch, start, answered, batchCall, Rooms, twoRooms, answeredAs, putBatch, AnswersAll, refusedBy, Stands}

@@ -11,8 +11,7 @@ use Rattle.paper.specs.Outcomes.{Outcome, refused, gives, must, number, leaves,
 use Rattle.paper.specs.Tree.{Store}
 use Rattle.paper.specs.Ends.{answerRoom}
 use Rattle.paper.specs.Lines.{putLine}
-use Rattle.paper.specs.Calls.{onTable, officeCall}
-use Rattle.nearby.specs.Checks.{tableRefusal}
+use Rattle.paper.specs.Calls.{onTable, tableRefusal, officeCall}
 use Rattle.batch.specs.declared.Answered.{Answered}
 use Rattle.batch.specs.declared.rows.Said.{Said}
 use Rattle.paper.specs.Limits.{longestAnswer}

@@ -5,7 +5,7 @@ ghost use mathlib.Core.Bool.{_&&_};
 ghost use lib.Dec.{ltb, leb};
 ghost use lib.ListN.{length};
 ghost use Rattle.paper.specs.Tree.{lent};
-ghost use Rattle.nearby.specs.Checks.{tableRefusal};
+ghost use Rattle.paper.specs.Calls.{tableRefusal};
 ghost use Rattle.batch.specs.Batch.{start, step, answered, batchOf, Stands, Turning};
 ghost use Rattle.paper.specs.Limits.{longestAnswer};
 use super::rows::line_end;

@@ -21,7 +21,7 @@ use Rattle.tree.specs.Soundness.{Good, Roomy}
 use Rattle.tree.proofs.Places.{claims-length}
 use Rattle.tree.proofs.Known.{fits-fit, fit-fits, sound-good, good-sound}
 use Rattle.tree.proofs.Adding.{in-run, point-length, Kept, run-claims, run-kept}
-use Rattle.tree.proofs.Calls.{enters-gives, zero-enters}
+use Rattle.tree.proofs.RunLaws.{enters-gives, zero-enters}
 use Rattle.journey.specs.World.{entering}
 use Rattle.entering.specs.Runs.{runOf, referencesOf, placesOf, callEnters}
 

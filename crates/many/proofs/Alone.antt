@@ -14,17 +14,17 @@ use borrow.Author.Tests.{leb-true, eqb-true, eq-eqb}
 use Rattle.paper.specs.declared.orders.Order.the-variants.{Near}
 use Rattle.paper.specs.declared.orders.Place.{Place}
 use Rattle.paper.specs.Points.{point}
-use Rattle.paper.specs.Orders.{Query, Found, nothing, found, following, pageOf, snapshotHolds, markHolds}
-use Rattle.paper.specs.Outcomes.{Outcome, refused, gives, must}
+use Rattle.paper.specs.Orders.{Query, Found, nothing, found, foundShown, following, pageOf, snapshotHolds, markHolds}
+use Rattle.paper.specs.Outcomes.{Outcome, refused, gives, must, leaves}
 use Rattle.paper.specs.Tree.{Store, claimsIn, fits, sound}
 use Rattle.paper.specs.Ends.{sizeHolds}
-use Rattle.paper.specs.Calls.{tableQuery, aimed, PageOf, thePage, counted, nearestCall, farthestCall, pageCall, pageRoom}
+use Rattle.paper.specs.Calls.{tableQuery, aimed, PageOf, thePage, nearestCall, farthestCall, pageCall, pageShown, putPage}
 use Rattle.tree.proofs.Places.{before-next}
 use Rattle.orders.proofs.Rooms.{fronted-length}
 use Rattle.paper.proofs.Outcomes.{must-test, must-rest, must-go, same-given}
 use Rattle.many.specs.Rows.{row, each, foundRow, putFound}
 use Rattle.many.specs.Many.{probeAt, nearestAt, farthestAt, firstsCall, nearestEach, farthestEach, AsAlone}
-use Rattle.many.specs.Pages.{placeAt, pageAt, pageRow, putPage, putItems, Rooms, bothRooms, pagesEach, PageAlone}
+use Rattle.many.specs.Pages.{placeAt, pageAt, pageRow, putOutcome, putItems, Rooms, bothRooms, pagesEach, PageAlone}
 use Rattle.many.proofs.RowLaws.{OneRow, Rowed, each-rowed}
 
 -- ---- what is written to a row
@@ -36,30 +36,29 @@ set-rows w vs wide =
       fills = λ i l e. wide i;
     }
 
-found-wide : (x : Found) → length (foundRow x) ≡ 4
-unfolding foundRow
+found-wide : (x : Found) → length (foundRow (foundShown x)) ≡ 4
+unfolding foundRow foundShown
 found-wide nothing = refl
 found-wide (found a) = refl
 
-told-wide : (o : Outcome PageOf) → length (pageRow (counted o)) ≡ 3
-unfolding pageRow counted
+told-wide : (o : Outcome PageOf) → length (pageRow (pageShown o)) ≡ 3
+unfolding pageRow
 told-wide (refused n) = refl
 told-wide (gives p) = refl
 
 -- a page fits its row
-room-kept : (b : Bool) (n : ℕ) (x : Outcome PageOf) (l : List ℕ) → length (pageRoom x l) ≡ length l → length (pageRoom (must b n x) l) ≡ length l
-unfolding pageRoom
+room-kept : (b : Bool) (n : ℕ) (x : Outcome PageOf) (l : List ℕ) → length (leaves putPage x l) ≡ length l → length (leaves putPage (must b n x) l) ≡ length l
 room-kept true n x l h = h
 room-kept false n x l h = refl
 
 page-fits : (q : Query) (s : Store) (place : Place) (size : ℕ) (l : List ℕ) → length l ≡ size * 3
-    → length (pageRoom (gives (thePage q s place size)) l) ≡ length l
-unfolding pageRoom thePage pageOf
+    → length (leaves putPage (gives (thePage q s place size)) l) ≡ length l
+unfolding thePage pageOf
 page-fits q s place size l h =
     fronted-length (pageOf q (claimsIn s) place size) l (omega (arith, length-take size (following q (claimsIn s) place)))
 
 page-fills : (s : Store) (probe : List ℤ) (reach : ℕ) (place : Place) (size room : ℕ) (l : List ℕ) → length l ≡ size * 3
-    → length (pageRoom (pageCall s Near probe reach place size room) l) ≡ length l
+    → length (leaves putPage (pageCall s Near probe reach place size room) l) ≡ length l
 unfolding pageCall
 page-fills s probe reach place size room l h =
     room-kept (fits s) 1 _ l
@@ -94,9 +93,9 @@ module _ (s : Store) (probes : List ℤ) (n : ℕ) (answer : ℕ → Found) (out
   past-5 : must (leb (n * 4) (length out)) 12 (gives Done) ≡ gives after
   past-5 = must-rest (eqb (length probes) (s .table .d * n)) 5 _ after past-2
 
-  rowed : Rowed 4 (λ i l. foundRow (answer i)) n out Done
+  rowed : Rowed 4 (λ i l. foundRow (foundShown (answer i))) n out Done
   rowed =
-      each-rowed 4 (putFound answer) (λ i l. foundRow (answer i)) (set-rows 4 (λ i. foundRow (answer i)) (λ i. found-wide (answer i))) n out
+      each-rowed 4 (putFound answer) (λ i l. foundRow (foundShown (answer i))) (set-rows 4 (λ i. foundRow (foundShown (answer i))) (λ i. found-wide (answer i))) n out
       (leb-true (n * 4) (length out) (must-test (leb (n * 4) (length out)) 12 (gives Done) after past-5))
 
   done : Done ≡ after
@@ -147,7 +146,7 @@ module _ (s : Store) (probes : List ℤ) (reaches places : List ℕ) (size : ℕ
   page = pageAt s probes reaches places size
 
   abbrev Told : List ℕ
-  Told = each (putPage page) n (before .outcomes)
+  Told = each (putOutcome page) n (before .outcomes)
 
   abbrev Items : List ℕ
   Items = each (putItems page (size * 3)) n (before .items)
@@ -167,14 +166,14 @@ module _ (s : Store) (probes : List ℤ) (reaches places : List ℕ) (size : ℕ
   both : bothRooms Told Items ≡ after
   both = same-given (bothRooms Told Items) after (must-rest (leb (n * (size * 3)) (length (before .items))) 12 (gives (bothRooms Told Items)) after past-12)
 
-  told-rows : Rowed 3 (λ i l. pageRow (counted (page i))) n (before .outcomes) Told
+  told-rows : Rowed 3 (λ i l. pageRow (pageShown (page i))) n (before .outcomes) Told
   told-rows =
-      each-rowed 3 (putPage page) (λ i l. pageRow (counted (page i))) (set-rows 3 (λ i. pageRow (counted (page i))) (λ i. told-wide (page i))) n (before .outcomes)
+      each-rowed 3 (putOutcome page) (λ i l. pageRow (pageShown (page i))) (set-rows 3 (λ i. pageRow (pageShown (page i))) (λ i. told-wide (page i))) n (before .outcomes)
       (leb-true (n * 3) (length (before .outcomes)) (must-test (leb (n * 3) (length (before .outcomes))) 12 _ after past-6))
 
-  item-rows : Rowed (size * 3) (λ i l. pageRoom (page i) l) n (before .items) Items
+  item-rows : Rowed (size * 3) (λ i l. leaves putPage (page i) l) n (before .items) Items
   item-rows =
-      each-rowed (size * 3) (putItems page (size * 3)) (λ i l. pageRoom (page i) l)
+      each-rowed (size * 3) (putItems page (size * 3)) (λ i l. leaves putPage (page i) l)
       (record {
         writes = λ i l k. refl;
         fills = λ i l e. page-fills s (probeAt s probes i) (getD reaches i 0) (placeAt places i) size (size * 3) l e ∙ e;

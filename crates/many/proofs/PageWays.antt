@@ -10,27 +10,24 @@ use lib.IntN.{ℤ}
 use lib.ListN.{length, getD, set, take, drop}
 use lib.Seq.{sets, drop-drop}
 use borrow.Author.Tests.{leb-true, eqb-true, eq-eqb, ne-eqb, not-true, not-false}
-use Rattle.paper.specs.declared.orders.Order.the-variants.{Near}
 use Rattle.paper.specs.declared.orders.Mark.{Mark}
 use Rattle.paper.specs.declared.orders.Page as answers
 use Rattle.paper.specs.declared.orders.Paged.{Paged}
 use Rattle.paper.specs.declared.orders.Place.{Place}
 use Rattle.paper.specs.declared.orders.Place.the-variants.{Start, After}
 use Rattle.paper.specs.Points.{point}
-use Rattle.paper.specs.Orders.{markAt, snapshotOf, markHolds}
-use Rattle.paper.specs.Outcomes.{Outcome, refused, gives, must, number}
-use Rattle.paper.specs.Tree.{Store, claimsIn, fits, sound}
+use Rattle.paper.specs.Orders.{markAt}
+use Rattle.paper.specs.Outcomes.{Outcome, refused, gives, must, onto, number, leaves, Promise}
+use Rattle.paper.specs.Tree.{Store, fits, sound}
 use Rattle.paper.specs.Ends.{sizeHolds}
-use Rattle.paper.specs.Calls.{tableQuery, PageOf, pageTold, counted, pageCall, pageRoom}
+use Rattle.paper.specs.Calls.{PageOf, pageShown, putPage, tableRefusal}
 use Rattle.paper.proofs.Tests.{and-first, and-second}
 use Rattle.tree.proofs.Places.{before-next}
-use Rattle.walk.specs.Asking.{Markable}
-use Rattle.paper.proofs.Outcomes.{must-stop, must-go, number-0}
-use Rattle.nearby.specs.Checks.{tableRefusal, PagePromise}
-use Rattle.nearby.proofs.CallLaws.{page-7, page-8, page-0, page-markable}
-use Rattle.many.specs.Rows.{row, each}
+use Rattle.paper.proofs.Outcomes.{must-stop, must-go, number-0, behind, stops, promise-refused, promise-given}
+use Rattle.nearby.specs.Checks.{Askable}
+use Rattle.many.specs.Rows.{row, each, instead}
 use Rattle.many.specs.Counts.{manyRefusal}
-use Rattle.many.specs.Pages.{placeAt, pageAt, pageRow, putPage, putItems, Rooms, bothRooms, pagesRefusal, pagesEach, Pages, Askable, OnePage, AllPages}
+use Rattle.many.specs.Pages.{placeAt, pageAt, pageRow, putOutcome, putItems, Rooms, bothRooms, onPages, pagesRefusal, pagesEach, OnePage, AllPages}
 use Rattle.many.proofs.Ways.{part-point, part-length, many-refused, many-goes}
 use Rattle.paper.specs.Limits.{mostPage}
 
@@ -43,15 +40,15 @@ three l a x y z =
     rw (p, q)
 
 module _ (a : answers.Page) (before after : List ℕ) (at : ℕ) where
-  pub row-refused : (n : ℕ) → a ≡ answers.the-variants.Refused n → after ≡ sets before at (n ∷ 0 ∷ 0 ∷ []) → after ≡ sets before at (pageRow (pageTold a))
-  unfolding pageTold pageRow
-  row-refused n e w = w ∙ sym (ap (λ (x : answers.Page). sets before at (pageRow (pageTold x))) e)
+  pub row-refused : (n : ℕ) → a ≡ answers.the-variants.Refused n → after ≡ sets before at (n ∷ 0 ∷ 0 ∷ []) → after ≡ sets before at (pageRow a)
+  unfolding pageRow
+  row-refused n e w = w ∙ sym (ap (λ (x : answers.Page). sets before at (pageRow x)) e)
 
   pub row-filled : (p : Paged) (l : ℕ) → a ≡ answers.the-variants.Filled p → l ≡ cond (p .last) 1 0 → after ≡ sets before at (0 ∷ p .count ∷ l ∷ [])
-      → after ≡ sets before at (pageRow (pageTold a))
-  unfolding pageTold pageRow
+      → after ≡ sets before at (pageRow a)
+  unfolding pageRow
   row-filled p l e f w =
-      w ∙ ap (λ (x : ℕ). sets before at (0 ∷ p .count ∷ x ∷ [])) f ∙ sym (ap (λ (x : answers.Page). sets before at (pageRow (pageTold x))) e)
+      w ∙ ap (λ (x : ℕ). sets before at (0 ∷ p .count ∷ x ∷ [])) f ∙ sym (ap (λ (x : answers.Page). sets before at (pageRow x)) e)
 
 -- ---- a place as four numbers
 
@@ -64,26 +61,6 @@ module _ (places : List ℕ) (i : ℕ) where
       → After (getD places (i * 4 + 1) 0) m ≡ placeAt places i
   unfolding placeAt
   place-after h m e = rw (ne-eqb (getD places (i * 4) 0) 0 h, e)
-
--- ---- 7 and 8, where the table, the probe, the size and the room are right
-
-module _ (s : Store) (probe : List ℤ) (reach : ℕ) (place : Place) (size room : ℕ) (k : Askable s (length probe) size room) (b : Bool)
-    (be : b ≡ leb (snapshotOf place (s .table .count)) (s .table .count)) where
-  pub here-7 : not b ≡ true → _≡_ {A = ℕ} 7 (number (pageCall s Near probe reach place size room))
-  here-7 h = page-7 s probe reach place size room 0 (k .tested) refl (k .aimed) true (sym (k .size)) refl b be h
-
-  module _ (hb : not b ≡ false) where
-    pub here-markable : Markable (s .table) (s .coordinates) probe place
-    here-markable = page-markable s probe reach place size room 0 (k .tested) refl (k .aimed) true (sym (k .size)) refl b be hb
-
-    module _ (e : Bool) (ee : e ≡ markHolds (tableQuery (s .table) Near probe reach) (claimsIn s) place) where
-      pub here-8 : not e ≡ true → _≡_ {A = ℕ} 8 (number (pageCall s Near probe reach place size room))
-      here-8 h = page-8 s probe reach place size room 0 (k .tested) refl (k .aimed) true (sym (k .size)) refl b be hb e ee h
-
-      pub here-0 : not e ≡ false → _≡_ {A = ℕ} 0 (number (pageCall s Near probe reach place size room))
-      here-0 h =
-          page-0 s probe reach place size room 0 (k .tested) refl (k .aimed) true (sym (k .size)) refl b be hb e ee h
-          (let r : size * 3 ≤ room = k .room in omega arith)
 
 -- ---- the whole call: 1, 2, 5, 6, 12
 
@@ -149,16 +126,10 @@ module _ (s : Store) (probes n places size outcomes items : ℕ) where
 
 -- ---- question i
 
-pub row-askable : (s : Store) (probes : List ℤ) (items : List ℕ) (i size places outcomes : ℕ) → OnePage s (length probes) places i size outcomes (length items)
+pub row-askable : (s : Store) (probes : List ℤ) (i size places outcomes items : ℕ) → OnePage s (length probes) places i size outcomes items
     → Askable s (length (take (i * s .table .d + s .table .d - i * s .table .d) (drop (i * s .table .d) probes))) size
-    (length (take (i * (size * 3) + size * 3 - i * (size * 3)) (drop (i * (size * 3)) items)))
-row-askable s probes items i size places outcomes h =
-    record {
-      tested = h .tested;
-      aimed = part-length (s .table .d) i probes (h .aimed);
-      size = h .size;
-      room = let e = part-length (size * 3) i items (h .items) in omega (arith, e);
-    }
+row-askable s probes i size places outcomes items h =
+    record { tested = h .tested; aimed = part-length (s .table .d) i probes (h .aimed); size = h .size }
 
 module _ (f : List ℤ → Place → ℕ → Outcome PageOf) (d i w : ℕ) (probes : List ℤ) (places : List ℕ) (q : Place) (items outcomes : List ℕ)
     (qe : q ≡ placeAt places i) (long : i * w + w ≤ length items) where
@@ -174,16 +145,16 @@ module _ (f : List ℤ → Place → ℕ → Outcome PageOf) (d i w : ℕ) (prob
       ∙ ap (λ (x : Place). f (point d probes i) x (length (take (i * w + w - i * w) (drop (i * w) items)))) qe
       ∙ ap (f (point d probes i) (placeAt places i)) (part-length w i items long)
 
-  pub page-row-is : (p : answers.Page) (after ys : List ℕ) → PagePromise asked p (take (i * w + w - i * w) (drop (i * w) items)) ys
-      → after ≡ sets outcomes (i * 3) (pageRow (pageTold p))
-      → (after ≡ putPage (λ k. meant) i outcomes) × (take (i * w) items ++ (ys ++ drop (i * w + w - i * w) (drop (i * w) items)) ≡ putItems (λ k. meant) w i items)
+  pub page-row-is : (p : answers.Page) (after ys : List ℕ) → Promise pageShown putPage asked (take (i * w + w - i * w) (drop (i * w) items)) p ys
+      → after ≡ sets outcomes (i * 3) (pageRow p)
+      → (after ≡ putOutcome (λ k. meant) i outcomes) × (take (i * w) items ++ (ys ++ drop (i * w + w - i * w) (drop (i * w) items)) ≡ putItems (λ k. meant) w i items)
   page-row-is p after ys h e =
       let k : i * w + w - i * w ≡ w = omega arith in (
-        e ∙ ap (λ x. sets outcomes (i * 3) (pageRow x)) (h .answer) ∙ ap (λ x. sets outcomes (i * 3) (pageRow (counted x))) asked-is,
+        e ∙ ap (λ x. sets outcomes (i * 3) (pageRow x)) (h .result) ∙ ap (λ x. sets outcomes (i * 3) (pageRow (pageShown x))) asked-is,
         ap (λ (x : List ℕ). take (i * w) items ++ (x ++ drop (i * w + w - i * w) (drop (i * w) items)))
-            (h .room ∙ ap (λ x. pageRoom x (take (i * w + w - i * w) (drop (i * w) items))) asked-is)
-            ∙ ap (λ (n : ℕ). take (i * w) items ++ (pageRoom meant (take n (drop (i * w) items)) ++ drop n (drop (i * w) items))) k
-            ∙ ap (λ (x : List ℕ). take (i * w) items ++ (pageRoom meant (row w i items) ++ x)) (drop-drop w (i * w) items),
+            (h .memory ∙ ap (λ x. leaves putPage x (take (i * w + w - i * w) (drop (i * w) items))) asked-is)
+            ∙ ap (λ (n : ℕ). take (i * w) items ++ (leaves putPage meant (take n (drop (i * w) items)) ++ drop n (drop (i * w) items))) k
+            ∙ ap (λ (x : List ℕ). take (i * w) items ++ (leaves putPage meant (row w i items) ++ x)) (drop-drop w (i * w) items),
       )
 
 -- ---- question after question
@@ -203,10 +174,17 @@ one-page s probes n places size outcomes items i told rest m h te re =
 
 -- ---- the whole call
 
-lifted : {A B : Type 0} (b : Bool) (n : ℕ) (x : Outcome A) (y : Outcome B) → ((number y ≡ 0 → ⊥) → x ≡ refused (number y))
-    → (number (must b n y) ≡ 0 → ⊥) → must b n x ≡ refused (number (must b n y))
-lifted true n x y h no0 = h no0
-lifted false n x y h no0 = refl
+-- what any call does behind these tests
+pub then-pages : {A : Type 0} (s : Store) (probes n places size outcomes items : ℕ) (x : Outcome A)
+    → onPages s probes n places size outcomes items x ≡ onto (onPages s probes n places size outcomes items (gives n)) (λ u. x)
+then-pages s probes n places size outcomes items x =
+    behind (fits s) 1 _ x _
+    (behind (sound s) 2 _ x _
+    (behind (eqb probes (s .table .d * n)) 5 _ x _
+    (behind (eqb places (4 * n)) 5 _ x _
+    (behind (sizeHolds size) 6 _ x _
+    (behind (leb (n * 3) outcomes) 12 _ x _
+    (behind (leb (n * (size * 3)) items) 12 x x (gives n) refl))))))
 
 module _ (s : Store) (probes : List ℤ) (reaches places : List ℕ) (size : ℕ) (before : Rooms) (why : ℕ)
     (we : why ≡ pagesRefusal s (length probes) (length reaches) (length places) size (length (before .outcomes)) (length (before .items))) where
@@ -215,24 +193,20 @@ module _ (s : Store) (probes : List ℤ) (reaches places : List ℕ) (size : ℕ
 
   abbrev done : Rooms
   done =
-      bothRooms (each (putPage (pageAt s probes reaches places size)) n (before .outcomes))
+      bothRooms (each (putOutcome (pageAt s probes reaches places size)) n (before .outcomes))
       (each (putItems (pageAt s probes reaches places size) (size * 3)) n (before .items))
 
-  stopped : (why ≡ 0 → ⊥) → pagesEach s probes reaches places size before ≡ refused why
+  abbrev call : Outcome Rooms
+  call = pagesEach s probes reaches places size before
+
+  stopped : (why ≡ 0 → ⊥) → call ≡ refused why
   unfolding pagesEach pagesRefusal
   stopped h =
-      lifted (fits s) 1 _ _
-      (lifted (sound s) 2 _ _
-      (lifted (eqb (length probes) (s .table .d * n)) 5 _ _
-      (lifted (eqb (length places) (4 * n)) 5 _ _
-      (lifted (sizeHolds size) 6 _ _
-      (lifted (leb (n * 3) (length (before .outcomes))) 12 _ _
-      (lifted (leb (n * (size * 3)) (length (before .items))) 12 (gives done) (gives n) (λ no0. absurd (no0 refl))))))))
-      (λ e. h (we ∙ e))
-      ∙ ap refused (sym we)
+      stops call (gives done) (onPages s (length probes) n (length places) size (length (before .outcomes)) (length (before .items)) (gives n))
+      (then-pages s (length probes) n (length places) size (length (before .outcomes)) (length (before .items)) (gives done)) why we h
 
-  pub pages-refused : (why ≡ 0 → ⊥) → Pages (pagesEach s probes reaches places size before) before why before
-  pages-refused h = let e = stopped h in record { refusal = rw e; rooms = rw e }
+  pub pages-refused : (why ≡ 0 → ⊥) → Promise number instead call before why before
+  pages-refused h = promise-refused number instead call before why why (stopped h) refl
 
   module _ (ok : why ≡ 0) where
     passed : AllPages s (length probes) n (length places) size (length (before .outcomes)) (length (before .items))
@@ -266,8 +240,7 @@ module _ (s : Store) (probes : List ℤ) (reaches places : List ℕ) (size : ℕ
     pub pages-all : AllPages s (length probes) n (length places) size (length (before .outcomes)) (length (before .items))
     pages-all = passed .0
 
-    pub pages-done : (told rest : List ℕ) → told ≡ done .outcomes → rest ≡ done .items
-        → Pages (pagesEach s probes reaches places size before) before 0 (bothRooms told rest)
+    pub pages-done : (told rest : List ℕ) → told ≡ done .outcomes → rest ≡ done .items → Promise number instead call before 0 (bothRooms told rest)
     pages-done told rest te re =
-        let e = pages-gives in
-        record { refusal = rw e; rooms = rw e (ap (λ (x : List ℕ). bothRooms x rest) te ∙ ap (bothRooms (done .outcomes)) re) }
+        promise-given number instead call before done 0 (bothRooms told rest) pages-gives refl
+        (ap (λ (x : List ℕ). bothRooms x rest) te ∙ ap (bothRooms (done .outcomes)) re)

@@ -12,18 +12,18 @@ use lib.Seq.{sets, length-take-le}
 use borrow.Author.Tests.{le-leb, lt-leb, leb-true, eqb-true, not-true, not-false}
 use Rattle.paper.specs.Points.{point}
 use Rattle.paper.specs.declared.orders.Found as answers
-use Rattle.paper.specs.Orders.{Found, told}
-use Rattle.paper.specs.Outcomes.{Outcome, refused, gives, must, number}
+use Rattle.paper.specs.Orders.{Found, told, foundShown}
+use Rattle.paper.specs.Outcomes.{Outcome, refused, gives, onto, number, Promise}
 use Rattle.paper.specs.Tree.{Store, fits, sound}
 use Rattle.tree.proofs.Places.{before-next}
 use Rattle.walk.specs.Asking.{Answerable}
 use Rattle.walk.proofs.Answers.{good-answerable}
-use Rattle.paper.proofs.Outcomes.{must-stop, must-go}
-use Rattle.nearby.specs.Checks.{tableRefusal}
-use Rattle.nearby.proofs.CallLaws.{table-refused, table-good, table-goes}
-use Rattle.many.specs.Rows.{each, foundRow, putFound}
+use Rattle.paper.specs.Calls.{tableRefusal}
+use Rattle.paper.proofs.Outcomes.{must-stop, must-go, number-0, behind, stops, promise-refused, promise-given}
+use Rattle.nearby.proofs.CallLaws.{table-refused, table-good, table-goes, found-shown}
+use Rattle.many.specs.Rows.{each, instead, foundRow, putFound}
 use Rattle.many.specs.Counts.{onMany, manyRefusal}
-use Rattle.many.specs.Many.{firstsCall, Answers, Many, One}
+use Rattle.many.specs.Many.{firstsCall, Many, One}
 
 -- ---- rows
 
@@ -71,11 +71,11 @@ row-answerable s probes i w out h =
     good-answerable s (table-good s 0 (h .tested) refl) (take (i * s .table .d + s .table .d - i * s .table .d) (drop (i * s .table .d) probes))
     (part-length (s .table .d) i probes (h .aimed))
 
-pub row-found : (f : List ℤ → Found) (x : Found) (d i : ℕ) (probes : List ℤ) (before after : List ℕ)
-    → x ≡ f (take (i * d + d - i * d) (drop (i * d) probes)) → after ≡ sets before (i * 4) (foundRow x)
-    → after ≡ sets before (i * 4) (foundRow (f (point d probes i)))
+pub row-found : (f : List ℤ → Found) (x : answers.Found) (d i : ℕ) (probes : List ℤ) (before after : List ℕ)
+    → told x ≡ f (take (i * d + d - i * d) (drop (i * d) probes)) → after ≡ sets before (i * 4) (foundRow x)
+    → after ≡ sets before (i * 4) (foundRow (foundShown (f (point d probes i))))
 row-found f x d i probes before after e w =
-    w ∙ ap (λ (y : Found). sets before (i * 4) (foundRow y)) (e ∙ ap f (part-point d i probes))
+    w ∙ ap (λ (y : answers.Found). sets before (i * 4) (foundRow y)) (found-shown x _ e ∙ ap (λ (p : List ℤ). foundShown (f p)) (part-point d i probes))
 
 -- ---- rows one after another
 
@@ -111,36 +111,26 @@ one-of s probes n i w out m h =
 
 -- ---- n questions for an item each: 1, 2, 5, 12
 
-abbrev chain : {A : Type 0} → Bool → Bool → Bool → Outcome A → Outcome A
-chain a b c x = must a 1 (must b 2 (must c 5 x))
-
-chain-stops : {A B : Type 0} (a b c : Bool) (y : B) (x : Outcome A) → (number (chain a b c (gives y)) ≡ 0 → ⊥)
-    → chain a b c x ≡ refused (number (chain a b c (gives y)))
-chain-stops true true true y x h = absurd (h refl)
-chain-stops true true false y x h = refl
-chain-stops true false c y x h = refl
-chain-stops false b c y x h = refl
-
-chain-goes : {B : Type 0} (a b c : Bool) (y : B) → number (chain a b c (gives y)) ≡ 0 → (a ≡ true) × (b ≡ true) × (c ≡ true)
-chain-goes true true true y h = (refl, refl, refl)
-chain-goes true true false y h = absurd (omega arith)
-chain-goes true false c y h = absurd (omega arith)
-chain-goes false b c y h = absurd (omega arith)
-
 tested-by : (s : Store) → fits s ≡ true → sound s ≡ true → 0 ≡ tableRefusal s
 unfolding tableRefusal
 tested-by s f e = rw (f, e)
 
 module _ (s : Store) (probes n why : ℕ) (we : why ≡ manyRefusal s probes n) where
+  -- what any call does behind 1, 2, 5
+  then-goes : {A : Type 0} (x : Outcome A) → onMany s probes n x ≡ onto (onMany s probes n (gives n)) (λ u. x)
+  then-goes x = behind (fits s) 1 _ x _ (behind (sound s) 2 _ x _ (behind (eqb probes (s .table .d * n)) 5 x x (gives n) refl))
+
   pub many-refused : {A : Type 0} (x : Outcome A) → (why ≡ 0 → ⊥) → onMany s probes n x ≡ refused why
   unfolding manyRefusal
-  many-refused x h =
-      chain-stops (fits s) (sound s) (eqb probes (s .table .d * n)) n x (λ e. h (we ∙ e)) ∙ ap refused (sym we)
+  many-refused x h = stops (onMany s probes n x) x (onMany s probes n (gives n)) (then-goes x) why we h
 
   module _ (ok : why ≡ 0) where
     all : (fits s ≡ true) × (sound s ≡ true) × (eqb probes (s .table .d * n) ≡ true)
     unfolding manyRefusal
-    all = chain-goes (fits s) (sound s) (eqb probes (s .table .d * n)) n (sym we ∙ ok)
+    all =
+        let h1 = number-0 (fits s) 0 _ (sym we ∙ ok) in
+        let h2 = number-0 (sound s) 1 _ (h1 .1) in
+        (h1 .0, h2 .0, number-0 (eqb probes (s .table .d * n)) 4 (gives n) (h2 .1) .0)
 
     pub many-goes : {A : Type 0} (x : Outcome A) → onMany s probes n x ≡ x
     many-goes x = must-go (fits s) 1 _ (all .0) ∙ must-go (sound s) 2 _ (all .1) ∙ must-go (eqb probes (s .table .d * n)) 5 _ (all .2)
@@ -149,33 +139,35 @@ module _ (s : Store) (probes n why : ℕ) (we : why ≡ manyRefusal s probes n) 
     many-asked w out h = record { tested = tested-by s (all .0) (all .1); aimed = eqb-true probes (s .table .d * n) (all .2); room = h }
 
   module _ (answer : ℕ → Found) (out : List ℕ) where
-    pub firsts-refused : (why ≡ 0 → ⊥) → Answers (firstsCall s probes n answer out) out why out
+    abbrev call : Outcome (List ℕ)
+    call = firstsCall s probes n answer out
+
+    pub firsts-refused : (why ≡ 0 → ⊥) → Promise number instead call out why out
     unfolding firstsCall
-    firsts-refused h = let e = many-refused (must (leb (n * 4) (length out)) 12 (gives (each (putFound answer) n out))) h in record { refusal = rw e; room = rw e }
+    firsts-refused h = promise-refused number instead call out why why (many-refused _ h) refl
 
     module _ (ok : why ≡ 0) (b : Bool) (be : b ≡ leb (n * 4) (length out)) where
-      pub firsts-12 : not b ≡ true → Answers (firstsCall s probes n answer out) out 12 out
+      pub firsts-12 : not b ≡ true → Promise number instead call out 12 out
       unfolding firstsCall
       firsts-12 h =
-          let e : firstsCall s probes n answer out ≡ refused 12 = many-goes ok _ ∙ must-stop (leb (n * 4) (length out)) 12 _ (sym be ∙ not-true b h) in
-          record { refusal = rw e; room = rw e }
+          promise-refused number instead call out 12 12 (many-goes ok _ ∙ must-stop (leb (n * 4) (length out)) 12 _ (sym be ∙ not-true b h)) refl
 
       pub firsts-many : not b ≡ false → Many s probes n 4 (length out)
       firsts-many h = many-asked ok 4 (length out) (leb-true (n * 4) (length out) (sym be ∙ not-false b h))
 
-      pub firsts-answered : not b ≡ false → (after : List ℕ) → after ≡ each (putFound answer) n out → Answers (firstsCall s probes n answer out) out 0 after
+      pub firsts-answered : not b ≡ false → (after : List ℕ) → after ≡ each (putFound answer) n out → Promise number instead call out 0 after
       unfolding firstsCall
       firsts-answered h after w =
-          let e : firstsCall s probes n answer out ≡ gives (each (putFound answer) n out) = many-goes ok _ ∙ must-go (leb (n * 4) (length out)) 12 _ (sym be ∙ not-false b h) in
-          record { refusal = rw e; room = rw e w }
+          promise-given number instead call out (each (putFound answer) n out) 0 after
+          (many-goes ok _ ∙ must-go (leb (n * 4) (length out)) 12 _ (sym be ∙ not-false b h)) refl w
 
 -- ---- the cases of what was found
 
 module _ (a : answers.Found) (before after : List ℕ) (at : ℕ) where
-  pub row-nothing : a ≡ answers.the-variants.Nothing → after ≡ sets before at (0 ∷ 0 ∷ 0 ∷ 0 ∷ []) → after ≡ sets before at (foundRow (told a))
-  unfolding told foundRow
-  row-nothing e w = w ∙ sym (ap (λ (x : answers.Found). sets before at (foundRow (told x))) e)
+  pub row-nothing : a ≡ answers.the-variants.Nothing → after ≡ sets before at (0 ∷ 0 ∷ 0 ∷ 0 ∷ []) → after ≡ sets before at (foundRow a)
+  unfolding foundRow
+  row-nothing e w = w ∙ sym (ap (λ (x : answers.Found). sets before at (foundRow x)) e)
 
-  pub row-item : (k y x : ℕ) → a ≡ answers.the-variants.Item k y x → after ≡ sets before at (1 ∷ k ∷ y ∷ x ∷ []) → after ≡ sets before at (foundRow (told a))
-  unfolding told foundRow
-  row-item k y x e w = w ∙ sym (ap (λ (z : answers.Found). sets before at (foundRow (told z))) e)
+  pub row-item : (k y x : ℕ) → a ≡ answers.the-variants.Item k y x → after ≡ sets before at (1 ∷ k ∷ y ∷ x ∷ []) → after ≡ sets before at (foundRow a)
+  unfolding foundRow
+  row-item k y x e w = w ∙ sym (ap (λ (z : answers.Found). sets before at (foundRow z)) e)

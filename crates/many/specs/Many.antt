@@ -7,11 +7,10 @@ use lib.IntN.{ℤ}
 use lib.ListN.{length, getD}
 use Rattle.paper.specs.declared.orders.Order.the-variants.{Near}
 use Rattle.paper.specs.Points.{point}
-use Rattle.paper.specs.Orders.{Found, nearestOf, farthestOf}
-use Rattle.paper.specs.Outcomes.{Outcome, refused, gives, must, number}
+use Rattle.paper.specs.Orders.{Found, foundShown, nearestOf, farthestOf}
+use Rattle.paper.specs.Outcomes.{Outcome, gives, must}
 use Rattle.paper.specs.Tree.{Store, claimsIn}
-use Rattle.paper.specs.Calls.{tableQuery}
-use Rattle.nearby.specs.Checks.{tableRefusal}
+use Rattle.paper.specs.Calls.{tableQuery, tableRefusal}
 use Rattle.many.specs.Counts.{onMany}
 use Rattle.many.specs.Rows.{each, foundRow, putFound}
 
@@ -36,20 +35,11 @@ nearestEach s probes reaches out = firstsCall s (length probes) (length reaches)
 abbrev pub farthestEach : Store → List ℤ → ℕ → List ℕ → Outcome (List ℕ)
 farthestEach s probes n out = firstsCall s (length probes) n (farthestAt s probes) out
 
--- what a call gives and leaves in its room; a refusal leaves the room as it was
-abbrev pub left : Outcome (List ℕ) → List ℕ → List ℕ
-left (refused n) before = before
-left (gives after) before = after
-
-pub record Answers (o : Outcome (List ℕ)) (before : List ℕ) (r : ℕ) (after : List ℕ) : Type 0 where
-  pub refusal : r ≡ number o
-  pub room : after ≡ left o before
-
 -- a row beside the single call for its question: the call gives an answer, and the row tells it
 pub record AsAlone (single : Outcome Found) (r : List ℕ) : Type 0 where
   pub answer : Found
   pub given : single ≡ gives answer
-  pub told : r ≡ foundRow answer
+  pub told : r ≡ foundRow (foundShown answer)
 
 -- ---- what the layers below ask
 

@@ -8,14 +8,14 @@ use lib.IntN.{ℤ}
 use lib.ListN.{length, getD, take, drop}
 use lib.Seq.{sets}
 use Rattle.paper.specs.declared.orders.Order.the-variants.{Near}
+use Rattle.paper.specs.declared.orders.Page as answers
 use Rattle.paper.specs.declared.orders.Place.{Place}
 use Rattle.paper.specs.declared.orders.Place.the-variants.{Start, After}
 use Rattle.paper.specs.Orders.{markAt}
-use Rattle.paper.specs.Outcomes.{Outcome, refused, gives, must, number}
+use Rattle.paper.specs.Outcomes.{Outcome, gives, must, number, leaves}
 use Rattle.paper.specs.Tree.{Store}
 use Rattle.paper.specs.Ends.{sizeHolds}
-use Rattle.paper.specs.Calls.{PageOf, Counted, counted, pageCall, pageRoom}
-use Rattle.nearby.specs.Checks.{tableRefusal}
+use Rattle.paper.specs.Calls.{PageOf, pageCall, pageShown, putPage, tableRefusal}
 use Rattle.many.specs.Counts.{onMany}
 use Rattle.many.specs.Rows.{row, each}
 use Rattle.many.specs.Many.{probeAt}
@@ -32,16 +32,16 @@ pageAt s probes reaches places size i =
     pageCall s Near (probeAt s probes i) (getD reaches i 0) (placeAt places i) size (size * 3)
 
 -- its outcome as three numbers: the refusal, how many items, and 1 where they are the last
-unfoldable pub pageRow : Outcome Counted → List ℕ
-pageRow (refused n) = n ∷ 0 ∷ 0 ∷ []
-pageRow (gives p) = 0 ∷ p .count ∷ cond (p .last) 1 0 ∷ []
+unfoldable pub pageRow : answers.Page → List ℕ
+pageRow (answers.the-variants.Refused n) = n ∷ 0 ∷ 0 ∷ []
+pageRow (answers.the-variants.Filled p) = 0 ∷ p .count ∷ cond (p .last) 1 0 ∷ []
 
-abbrev pub putPage : (ℕ → Outcome PageOf) → ℕ → List ℕ → List ℕ
-putPage page i l = sets l (i * 3) (pageRow (counted (page i)))
+abbrev pub putOutcome : (ℕ → Outcome PageOf) → ℕ → List ℕ → List ℕ
+putOutcome page i l = sets l (i * 3) (pageRow (pageShown (page i)))
 
 -- its items at the front of row i, whose rest keeps its contents
 abbrev pub putItems : (ℕ → Outcome PageOf) → ℕ → ℕ → List ℕ → List ℕ
-putItems page w i l = take (i * w) l ++ (pageRoom (page i) (row w i l) ++ drop (i * w + w) l)
+putItems page w i l = take (i * w) l ++ (leaves putPage (page i) (row w i l) ++ drop (i * w + w) l)
 
 -- the two rooms of the call
 pub record Rooms : Type 0 where
@@ -69,30 +69,15 @@ pagesEach s probes reaches places size before =
     onPages s (length probes) (length reaches) (length places) size (length (before .outcomes)) (length (before .items))
     (gives
     (bothRooms
-    (each (putPage (pageAt s probes reaches places size)) (length reaches) (before .outcomes))
+    (each (putOutcome (pageAt s probes reaches places size)) (length reaches) (before .outcomes))
     (each (putItems (pageAt s probes reaches places size) (size * 3)) (length reaches) (before .items))))
-
-abbrev pub leftRooms : Outcome Rooms → Rooms → Rooms
-leftRooms (refused n) before = before
-leftRooms (gives after) before = after
-
-pub record Pages (o : Outcome Rooms) (before : Rooms) (r : ℕ) (after : Rooms) : Type 0 where
-  pub refusal : r ≡ number o
-  pub rooms : after ≡ leftRooms o before
 
 -- a row beside the single call for its question, in a room for one page: what it tells, and the row of items before and after
 pub record PageAlone (single : Outcome PageOf) (told before after : List ℕ) : Type 0 where
-  pub outcome : told ≡ pageRow (counted single)
-  pub items : after ≡ pageRoom single before
+  pub outcome : told ≡ pageRow (pageShown single)
+  pub items : after ≡ leaves putPage single before
 
 -- ---- what the layers below ask
-
--- a page may be asked for, but for its place
-pub record Askable (s : Store) (probe n rest : ℕ) : Type 0 where
-  pub tested : 0 ≡ tableRefusal s
-  pub aimed : probe ≡ s .table .d
-  pub size : sizeHolds n ≡ true
-  pub room : n * 3 ≤ rest
 
 -- question i of n
 pub record OnePage (s : Store) (probes places i n outcomes rest : ℕ) : Type 0 where

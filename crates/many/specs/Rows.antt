@@ -3,7 +3,8 @@ use Prim.Native.Nat.{ℕ, zero, suc, _*_}
 use mathlib.Core.List.{List, [], _∷_}
 use lib.ListN.{take, drop}
 use lib.Seq.{sets}
-use Rattle.paper.specs.Orders.{Found, nothing, found}
+use Rattle.paper.specs.declared.orders.Found as answers
+use Rattle.paper.specs.Orders.{Found, foundShown}
 
 -- row i of a room with w numbers to a row
 abbrev pub row : ℕ → ℕ → List ℕ → List ℕ
@@ -14,10 +15,14 @@ unfoldable pub each : (ℕ → List ℕ → List ℕ) → ℕ → List ℕ → L
 each f zero l = l
 each f (suc i) l = f i (each f i l)
 
+-- what these calls give is what their rooms then hold
+abbrev pub instead : {M : Type 0} → M → M → M
+instead after before = after
+
 -- what nearest and farthest found, as four numbers: whether there is an item, its number, reference and distance
-unfoldable pub foundRow : Found → List ℕ
-foundRow nothing = 0 ∷ 0 ∷ 0 ∷ 0 ∷ []
-foundRow (found a) = 1 ∷ a .number ∷ a .reference ∷ a .distance ∷ []
+unfoldable pub foundRow : answers.Found → List ℕ
+foundRow answers.the-variants.Nothing = 0 ∷ 0 ∷ 0 ∷ 0 ∷ []
+foundRow (answers.the-variants.Item k y x) = 1 ∷ k ∷ y ∷ x ∷ []
 
 abbrev pub putFound : (ℕ → Found) → ℕ → List ℕ → List ℕ
-putFound answer i l = sets l (i * 4) (foundRow (answer i))
+putFound answer i l = sets l (i * 4) (foundRow (foundShown (answer i)))

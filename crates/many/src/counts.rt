@@ -4,6 +4,7 @@ ghost use Prim.Native.Nat.{_*_, _≤_};
 ghost use lib.Dec.{leb};
 ghost use Rattle.paper.specs.Tree.{lent};
 ghost use Rattle.many.specs.Counts.{manyRefusal};
+use paper::counts::is_whole;
 use paper::tables::Table;
 
 // Whether a room has w numbers for each of n rows.
@@ -32,7 +33,7 @@ pub fn many_refusal(
     if why != 0 {
         return why;
     }
-    if !tree::runs::is_whole(t.d, n, probes) {
+    if !is_whole(t.d, n, probes) {
         return 5;
     }
     0

@@ -5,11 +5,12 @@ ghost use lib.Seq.{sets};
 ghost use Prim.Native.Nat.{_*_};
 ghost use Rattle.paper.specs.declared.orders.Order.the-variants.{Near};
 ghost use Rattle.paper.specs.Points.{point};
-ghost use Rattle.paper.specs.Orders.{nearestOf, farthestOf};
+ghost use Rattle.paper.specs.Orders.{foundShown, nearestOf};
+ghost use Rattle.paper.specs.Outcomes.{Promise, number};
 ghost use Rattle.paper.specs.Tree.{lent, claimsIn};
 ghost use Rattle.paper.specs.Calls.{tableQuery};
-ghost use Rattle.many.specs.Rows.{each, putFound, foundRow};
-ghost use Rattle.many.specs.Many.{nearestAt, farthestAt, nearestEach, farthestEach, Answers, Many, One};
+ghost use Rattle.many.specs.Rows.{each, putFound, foundRow, instead};
+ghost use Rattle.many.specs.Many.{nearestAt, farthestAt, nearestEach, farthestEach, Many, One};
 use crate::counts::has_rows;
 use crate::counts::many_refusal;
 use crate::rows::put_found;
@@ -27,7 +28,7 @@ fn nearest_row(
     out: &mut [u64],
 )
     requires { ⌜ One (lent t references coordinates rooms) (length (now probes)) i 4 (length (now out)) ⌝ }
-    ensures { λ _. ⌜ now (out .exit) ≡ sets (now (out .entry)) (i * 4) (foundRow (nearestOf (tableQuery t Near (point (t .d) (now (probes .entry)) i) reach) (claimsIn (lent t (references .entry) (coordinates .entry) (rooms .entry))))) ⌝ }
+    ensures { λ _. ⌜ now (out .exit) ≡ sets (now (out .entry)) (i * 4) (foundRow (foundShown (nearestOf (tableQuery t Near (point (t .d) (now (probes .entry)) i) reach) (claimsIn (lent t (references .entry) (coordinates .entry) (rooms .entry)))))) ⌝ }
 {
     let d = t.d;
     let a = i * d;
@@ -113,7 +114,7 @@ pub fn nearest_each(
     reaches: &[u64],
     out: &mut [u64],
 ) -> u8
-    ensures { λ r. ⌜ Answers (nearestEach (lent t (references .entry) (coordinates .entry) (rooms .entry)) (now (probes .entry)) (now (reaches .entry)) (now (out .entry))) (now (out .entry)) r (now (out .exit)) ⌝ }
+    ensures { λ r. ⌜ Promise number instead (nearestEach (lent t (references .entry) (coordinates .entry) (rooms .entry)) (now (probes .entry)) (now (reaches .entry)) (now (out .entry))) (now (out .entry)) r (now (out .exit)) ⌝ }
 {
     let why = many_refusal(
         t,
@@ -143,7 +144,7 @@ pub fn farthest_each(
     n: usize,
     out: &mut [u64],
 ) -> u8
-    ensures { λ r. ⌜ Answers (farthestEach (lent t (references .entry) (coordinates .entry) (rooms .entry)) (now (probes .entry)) n (now (out .entry))) (now (out .entry)) r (now (out .exit)) ⌝ }
+    ensures { λ r. ⌜ Promise number instead (farthestEach (lent t (references .entry) (coordinates .entry) (rooms .entry)) (now (probes .entry)) n (now (out .entry))) (now (out .entry)) r (now (out .exit)) ⌝ }
 {
     let why = many_refusal(t, references, coordinates, rooms, probes.len(), n);
     if why != 0 {

@@ -2,7 +2,7 @@
 mod counts;
 mod firsts;
 mod pages;
-mod paging;
+mod places;
 mod rows;
 
 pub use firsts::farthest_each;

@@ -4,15 +4,18 @@ ghost use Prim.Native.Nat.{_*_};
 ghost use lib.ListN.{length};
 ghost use Rattle.paper.specs.declared.orders.Order.the-variants.{Near};
 ghost use Rattle.paper.specs.Points.{point};
+ghost use Rattle.paper.specs.Outcomes.{Promise, number};
 ghost use Rattle.paper.specs.Tree.{lent};
 ghost use Rattle.paper.specs.Calls.{pageCall};
-ghost use Rattle.many.specs.Rows.{each};
-ghost use Rattle.many.specs.Pages.{placeAt, pageAt, putPage, putItems, bothRooms, pagesRefusal, pagesEach, Pages, OnePage, AllPages};
+ghost use Rattle.many.specs.Rows.{each, instead};
+ghost use Rattle.many.specs.Pages.{placeAt, pageAt, putOutcome, putItems, bothRooms, pagesRefusal, pagesEach, OnePage, AllPages};
 use crate::counts::has_rows;
 use crate::counts::many_refusal;
-use crate::paging::page_here;
-use crate::paging::place_at;
+use crate::places::place_at;
 use crate::rows::put_page;
+use nearby::page_here;
+use paper::counts::is_whole;
+use paper::orders::size_holds;
 use paper::tables::Table;
 
 // Question i: its page in row i of the items, and its outcome in row i of the outcomes.
@@ -30,7 +33,7 @@ fn page_row(
     items: &mut [u64],
 )
     requires { ⌜ OnePage (lent t references coordinates rooms) (length (now probes)) (length (now places)) i size (length (now outcomes)) (length (now items)) ⌝ }
-    ensures told { λ _. ⌜ now (outcomes .exit) ≡ putPage (λ k. pageCall (lent t (references .entry) (coordinates .entry) (rooms .entry)) Near (point (t .d) (now (probes .entry)) i) reach (placeAt (now (places .entry)) i) size (size * 3)) i (now (outcomes .entry)) ⌝ }
+    ensures told { λ _. ⌜ now (outcomes .exit) ≡ putOutcome (λ k. pageCall (lent t (references .entry) (coordinates .entry) (rooms .entry)) Near (point (t .d) (now (probes .entry)) i) reach (placeAt (now (places .entry)) i) size (size * 3)) i (now (outcomes .entry)) ⌝ }
     ensures filled { λ _. ⌜ now (items .exit) ≡ putItems (λ k. pageCall (lent t (references .entry) (coordinates .entry) (rooms .entry)) Near (point (t .d) (now (probes .entry)) i) reach (placeAt (now (places .entry)) i) size (size * 3)) (size * 3) i (now (items .entry)) ⌝ }
 {
     let d = t.d;
@@ -67,7 +70,7 @@ fn page_rows(
     items: &mut [u64],
 )
     requires { ⌜ AllPages (lent t references coordinates rooms) (length (now probes)) (length (now reaches)) (length (now places)) size (length (now outcomes)) (length (now items)) ⌝ }
-    ensures told { λ _. ⌜ now (outcomes .exit) ≡ each (putPage (pageAt (lent t (references .entry) (coordinates .entry) (rooms .entry)) (now (probes .entry)) (now (reaches .entry)) (now (places .entry)) size)) (length (now (reaches .entry))) (now (outcomes .entry)) ⌝ }
+    ensures told { λ _. ⌜ now (outcomes .exit) ≡ each (putOutcome (pageAt (lent t (references .entry) (coordinates .entry) (rooms .entry)) (now (probes .entry)) (now (reaches .entry)) (now (places .entry)) size)) (length (now (reaches .entry))) (now (outcomes .entry)) ⌝ }
     ensures filled { λ _. ⌜ now (items .exit) ≡ each (putItems (pageAt (lent t (references .entry) (coordinates .entry) (rooms .entry)) (now (probes .entry)) (now (reaches .entry)) (now (places .entry)) size) (size * 3)) (length (now (reaches .entry))) (now (items .entry)) ⌝ }
 {
     let mut i = 0;
@@ -108,10 +111,10 @@ fn pages_refusal(
     if why != 0 {
         return why;
     }
-    if !tree::runs::is_whole(4, n, places) {
+    if !is_whole(4, n, places) {
         return 5;
     }
-    if !nearby::size_holds(size) {
+    if !size_holds(size) {
         return 6;
     }
     if !has_rows(n, 3, outcomes) {
@@ -137,7 +140,7 @@ pub fn pages_each(
     outcomes: &mut [u64],
     items: &mut [u64],
 ) -> u8
-    ensures { λ r. ⌜ Pages (pagesEach (lent t (references .entry) (coordinates .entry) (rooms .entry)) (now (probes .entry)) (now (reaches .entry)) (now (places .entry)) size (bothRooms (now (outcomes .entry)) (now (items .entry)))) (bothRooms (now (outcomes .entry)) (now (items .entry))) r (bothRooms (now (outcomes .exit)) (now (items .exit))) ⌝ }
+    ensures { λ r. ⌜ Promise number instead (pagesEach (lent t (references .entry) (coordinates .entry) (rooms .entry)) (now (probes .entry)) (now (reaches .entry)) (now (places .entry)) size (bothRooms (now (outcomes .entry)) (now (items .entry)))) (bothRooms (now (outcomes .entry)) (now (items .entry))) r (bothRooms (now (outcomes .exit)) (now (items .exit))) ⌝ }
 {
     let why = pages_refusal(
         t,

@@ -5,8 +5,6 @@ ghost use mathlib.Core.Bool.{cond};
 ghost use mathlib.Core.List.{[], _∷_};
 ghost use lib.ListN.{length};
 ghost use lib.Seq.{sets};
-ghost use Rattle.paper.specs.Orders.{told};
-ghost use Rattle.paper.specs.Calls.{pageTold};
 ghost use Rattle.many.specs.Rows.{foundRow};
 ghost use Rattle.many.specs.Pages.{pageRow};
 use paper::orders::Found;
@@ -34,7 +32,7 @@ fn put_four(out: &mut [u64], a: usize, w: u64, x: u64, y: u64, z: u64)
 // Row i: whether an item was found, and the item.
 pub fn put_found(out: &mut [u64], i: usize, f: Found)
     requires { ⌜ i * 4 + 4 ≤ length (now out) ⌝ }
-    ensures { λ _. ⌜ now (out .exit) ≡ sets (now (out .entry)) (i * 4) (foundRow (told f)) ⌝ }
+    ensures { λ _. ⌜ now (out .exit) ≡ sets (now (out .entry)) (i * 4) (foundRow f) ⌝ }
 {
     match f {
         Found::Nothing => put_four(out, i * 4, 0, 0, 0, 0),
@@ -53,7 +51,7 @@ fn flag(b: bool) -> u64
 // Row i: the refusal, how many items, and whether they are the last.
 pub fn put_page(outcomes: &mut [u64], i: usize, p: Page)
     requires { ⌜ i * 3 + 3 ≤ length (now outcomes) ⌝ }
-    ensures { λ _. ⌜ now (outcomes .exit) ≡ sets (now (outcomes .entry)) (i * 3) (pageRow (pageTold p)) ⌝ }
+    ensures { λ _. ⌜ now (outcomes .exit) ≡ sets (now (outcomes .entry)) (i * 3) (pageRow p) ⌝ }
 {
     match p {
         Page::Refused(n) => put_three(outcomes, i * 3, n as u64, 0, 0),

@@ -1,13 +1,13 @@
 -- One law for each way through a public call on a table. Assumes nothing.
 use Prim.Native.Nat.{ℕ, _*_, _/_, _<_, _≤_}
 use mathlib.Core.Path.{_≡_, refl, sym, ap, _∙_}
-use mathlib.Core.Bool.{Bool, true, false, not, cond, _&&_}
+use mathlib.Core.Bool.{Bool, true, false, not, _&&_}
 use mathlib.Core.List.{List}
 use native.Mathlib.Omega.{arith}
 use lib.Dec.{leb, eqb}
 use lib.IntN.{ℤ}
 use lib.ListN.{length}
-use borrow.Author.Tests.{le-leb, lt-leb, leb-true, eqb-true, eq-eqb, ne-eqb, not-true, not-false}
+use borrow.Author.Tests.{le-leb, lt-leb, leb-true, eq-eqb, ne-eqb, not-true, not-false}
 use Rattle.paper.specs.declared.lines.Wrote.{Wrote}
 use Rattle.paper.specs.declared.lines.Wrote.the-variants.{Refused}
 use Rattle.paper.specs.declared.orders.Order.the-variants.{Near}
@@ -16,14 +16,14 @@ use Rattle.paper.specs.declared.orders.Nearest as Answers
 use Rattle.paper.specs.declared.orders.Page as Pages
 use Rattle.paper.specs.declared.orders.Paged.{Paged}
 use Rattle.paper.specs.declared.orders.Place.{Place}
-use Rattle.paper.specs.Orders.{Found, told, snapshotOf, snapshotHolds, markHolds}
-use Rattle.paper.specs.Outcomes.{Outcome, refused, gives, must, number}
+use Rattle.paper.specs.Orders.{Found, told, foundShown, snapshotOf, snapshotHolds, markHolds}
+use Rattle.paper.specs.Outcomes.{Outcome, refused, gives, must, onto, number, Promise}
 use Rattle.paper.specs.Tree.{Store, claimsIn, fits, sound}
 use Rattle.paper.specs.Ends.{sizeHolds, tableOf, served, soundIn, asking, taking}
 use Rattle.paper.specs.Lists.{Takes, Held, listing, roomFor, unusedZero, soundHeld, askingHeld, takingHeld}
 use Rattle.paper.specs.Codec.{lines}
-use Rattle.paper.specs.Calls.{tableQuery, onTable, aimed, nearestTold, PageOf, thePage, pageCall, pageTold, counted, pageRoom, officeCall}
-use Rattle.paper.proofs.Tests.{and-first}
+use Rattle.paper.specs.Calls.{tableQuery, onTable, tableRefusal, aimed, nearestShown, PageOf, thePage, pageCall, pageShown, putPage, officeCall}
+use Rattle.paper.proofs.Tests.{and-first, and-second}
 use Rattle.tree.specs.Soundness.{Good, Lent}
 use Rattle.tree.proofs.Known.{fits-fit, sound-good}
 use Rattle.tree.proofs.Places.{claims-length}
@@ -32,50 +32,50 @@ use Rattle.walk.proofs.Answers.{good-measurable, good-answerable}
 use Rattle.paper.specs.Lines.{Writes}
 use Rattle.desk.specs.Desk.{Open}
 use Rattle.lines.proofs.Ways.{writes-refused}
-use Rattle.paper.proofs.Outcomes.{must-stop, must-go, number-0}
+use Rattle.paper.proofs.Outcomes.{must-stop, must-go, number-0, number-is, behind, stops, promise-refused, promise-given}
 use Rattle.tablet.proofs.TakeLaws.{takes-refused}
-use Rattle.nearby.specs.Checks.{tableRefusal, PagePromise}
+use Rattle.nearby.specs.Checks.{Askable}
 use Rattle.paper.specs.Limits.{longestAnswer, mostPage}
 
 -- ---- 1 and 2
 
-pub table-1 : (s : Store) (a : Bool) → a ≡ fits s → not a ≡ true → _≡_ {A = ℕ} 1 (tableRefusal s)
-unfolding tableRefusal
-table-1 s a ae h = rw (← ae, not-true a h)
+module _ (s : Store) (a : Bool) (ae : a ≡ fits s) where
+  -- 1 is the first test of every call on a table
+  pub fit-stops : {A : Type 0} (x : Outcome A) → not a ≡ true → must (fits s) 1 x ≡ refused 1
+  fit-stops x h = must-stop (fits s) 1 x (sym ae ∙ not-true a h)
 
-pub table-2 : (s : Store) (a b : Bool) → a ≡ fits s → not a ≡ false → b ≡ sound s → not b ≡ true → _≡_ {A = ℕ} 2 (tableRefusal s)
-unfolding tableRefusal
-table-2 s a b ae ha be h = rw (← ae, not-false a ha, ← be, not-true b h)
+  pub fit-goes : {A : Type 0} (x : Outcome A) → not a ≡ false → must (fits s) 1 x ≡ x
+  fit-goes x h = must-go (fits s) 1 x (sym ae ∙ not-false a h)
 
-pub table-0 : (s : Store) (a b : Bool) → a ≡ fits s → not a ≡ false → b ≡ sound s → not b ≡ false → _≡_ {A = ℕ} 0 (tableRefusal s)
-unfolding tableRefusal
-table-0 s a b ae ha be h = rw (← ae, not-false a ha, ← be, not-false b h)
+  pub fit-lent : not a ≡ false → Lent (s .table) (length (s .coordinates)) (length (s .rooms))
+  fit-lent h = fits-fit s (sym ae ∙ not-false a h) .lent
 
-pub fit-lent : (s : Store) (a : Bool) → a ≡ fits s → not a ≡ false → Lent (s .table) (length (s .coordinates)) (length (s .rooms))
-fit-lent s a ae h = fits-fit s (sym ae ∙ not-false a h) .lent
+  pub table-1 : not a ≡ true → 1 ≡ tableRefusal s
+  unfolding tableRefusal
+  table-1 h = sym (ap number (fit-stops _ h))
 
-abbrev why : Bool → Bool → ℕ
-why a b = cond a (cond b 0 2) 1
+  module _ (ha : not a ≡ false) (b : Bool) (be : b ≡ sound s) where
+    pub table-2 : not b ≡ true → 2 ≡ tableRefusal s
+    unfolding tableRefusal
+    table-2 h = sym (ap number (fit-goes _ ha ∙ must-stop (sound s) 2 _ (sym be ∙ not-true b h)))
 
-refused-by : {A : Type 0} (a b : Bool) (x : Outcome A) → (why a b ≡ 0 → ⊥) → must a 1 (must b 2 x) ≡ refused (why a b)
-refused-by true true x h = absurd (h refl)
-refused-by true false x h = refl
-refused-by false b x h = refl
-
-passed-by : (a b : Bool) → why a b ≡ 0 → (a ≡ true) × (b ≡ true)
-passed-by true true h = (refl, refl)
-passed-by true false h = absurd (omega arith)
-passed-by false b h = absurd (omega arith)
+    pub table-0 : not b ≡ false → 0 ≡ tableRefusal s
+    unfolding tableRefusal
+    table-0 h = sym (ap number (fit-goes _ ha ∙ must-go (sound s) 2 (gives s) (sym be ∙ not-false b h)))
 
 module _ (s : Store) (n : ℕ) (we : n ≡ tableRefusal s) where
+  -- what any call does behind the two
+  then-goes : {A : Type 0} (x : Outcome A) → onTable s x ≡ onto (onTable s (gives s)) (λ u. x)
+  then-goes x = behind (fits s) 1 (must (sound s) 2 x) x (must (sound s) 2 (gives s)) (behind (sound s) 2 x x (gives s) refl)
+
   pub table-refused : {A : Type 0} (x : Outcome A) → (n ≡ 0 → ⊥) → onTable s x ≡ refused n
   unfolding tableRefusal
-  table-refused x h = refused-by (fits s) (sound s) x (λ e. h (we ∙ e)) ∙ ap refused (sym we)
+  table-refused x h = stops (onTable s x) x (onTable s (gives s)) (then-goes x) n we h
 
   module _ (ok : n ≡ 0) where
     both : (fits s ≡ true) × (sound s ≡ true)
     unfolding tableRefusal
-    both = passed-by (fits s) (sound s) (sym we ∙ ok)
+    both = let h1 = number-0 (fits s) 0 (must (sound s) 2 (gives s)) (sym we ∙ ok) in (h1 .0, number-0 (sound s) 1 (gives s) (h1 .1) .0)
 
     pub table-good : Good s
     table-good = sound-good s (fits-fit s (both .0)) (both .1)
@@ -85,135 +85,163 @@ module _ (s : Store) (n : ℕ) (we : n ≡ tableRefusal s) where
 
 -- ---- nearest and farthest: 1, 2, 5
 
-module _ (s : Store) (probe : List ℤ) (x : Outcome Found) (n : ℕ) (we : n ≡ tableRefusal s) where
-  pub ask-refused : (n ≡ 0 → ⊥) → nearestTold (Answers.the-variants.Refused n) ≡ aimed s probe x
-  unfolding nearestTold
-  ask-refused h = sym (table-refused s n we _ h)
+-- what the walk found, as the call shows it
+pub found-shown : (f : answers.Found) (x : Found) → told f ≡ x → f ≡ foundShown x
+unfolding told foundShown
+found-shown answers.the-variants.Nothing x e = ap foundShown e
+found-shown (answers.the-variants.Item k y d) x e = ap foundShown e
 
+module _ (s : Store) (probe : List ℤ) (n : ℕ) (we : n ≡ tableRefusal s) where
   module _ (ok : n ≡ 0) where
-    pub ask-5 : (length probe ≡ s .table .d → ⊥) → nearestTold (Answers.the-variants.Refused 5) ≡ aimed s probe x
-    unfolding nearestTold
-    ask-5 h = sym (table-goes s n we ok _ ∙ must-stop (eqb (length probe) (s .table .d)) 5 _ (ne-eqb (length probe) (s .table .d) h))
+    -- 5 is the next test of every call with a probe
+    pub aim-stops : {A : Type 0} (x : Outcome A) → (length probe ≡ s .table .d → ⊥) → aimed s probe x ≡ refused 5
+    aim-stops x h = table-goes s n we ok _ ∙ must-stop (eqb (length probe) (s .table .d)) 5 x (ne-eqb (length probe) (s .table .d) h)
 
-    pub ask-answered : length probe ≡ s .table .d → (f : answers.Found) → gives (told f) ≡ x → nearestTold (Answers.the-variants.Answer f) ≡ aimed s probe x
-    unfolding nearestTold
-    ask-answered h f e = e ∙ sym (table-goes s n we ok _ ∙ must-go (eqb (length probe) (s .table .d)) 5 _ (eq-eqb (length probe) (s .table .d) h))
+    pub aim-goes : {A : Type 0} (x : Outcome A) → length probe ≡ s .table .d → aimed s probe x ≡ x
+    aim-goes x h = table-goes s n we ok _ ∙ must-go (eqb (length probe) (s .table .d)) 5 x (eq-eqb (length probe) (s .table .d) h)
+
+  module _ (x : Found) where
+    pub ask-refused : (n ≡ 0 → ⊥) → Answers.the-variants.Refused n ≡ nearestShown (aimed s probe (gives x))
+    ask-refused h = sym (ap nearestShown (table-refused s n we _ h))
+
+    module _ (ok : n ≡ 0) where
+      pub ask-5 : (length probe ≡ s .table .d → ⊥) → Answers.the-variants.Refused 5 ≡ nearestShown (aimed s probe (gives x))
+      ask-5 h = sym (ap nearestShown (aim-stops ok (gives x) h))
+
+      pub ask-answered : length probe ≡ s .table .d → (f : answers.Found) → told f ≡ x
+          → Answers.the-variants.Answer f ≡ nearestShown (aimed s probe (gives x))
+      ask-answered h f e = ap Answers.the-variants.Answer (found-shown f x e) ∙ sym (ap nearestShown (aim-goes ok (gives x) h))
 
 -- ---- the page: 1, 2, 5, 6, 7, 8, 12
 
-module _ (s : Store) (probe : List ℤ) (reach : ℕ) (place : Place) (size room : ℕ) (n : ℕ) (we : n ≡ tableRefusal s) where
+module _ (s : Store) (probe : List ℤ) (reach : ℕ) (place : Place) (size room : ℕ) where
   abbrev page : Outcome PageOf
   page = pageCall s Near probe reach place size room
 
-  pub page-refused : (n ≡ 0 → ⊥) → n ≡ number page
-  unfolding pageCall
-  page-refused h = sym (ap number (table-refused s n we _ h))
+  -- the call from each of its tests on
+  abbrev from-12 : Outcome PageOf
+  from-12 = must (leb (size * 3) room) 12 (gives (thePage (tableQuery (s .table) Near probe reach) s place size))
 
-  module _ (ok : n ≡ 0) where
-    abbrev after-5 : Outcome PageOf
-    after-5 =
-        must (sizeHolds size) 6
-        (must (snapshotHolds (claimsIn s) place) 7
-        (must (markHolds (tableQuery (s .table) Near probe reach) (claimsIn s) place) 8
-        (must (leb (size * 3) room) 12 (gives (thePage (tableQuery (s .table) Near probe reach) s place size)))))
+  abbrev from-8 : Outcome PageOf
+  from-8 = must (markHolds (tableQuery (s .table) Near probe reach) (claimsIn s) place) 8 from-12
 
-    pub page-5 : (length probe ≡ s .table .d → ⊥) → _≡_ {A = ℕ} 5 (number page)
+  abbrev from-7 : Outcome PageOf
+  from-7 = must (snapshotHolds (claimsIn s) place) 7 from-8
+
+  abbrev from-6 : Outcome PageOf
+  from-6 = must (sizeHolds size) 6 from-7
+
+  module _ (n : ℕ) (we : n ≡ tableRefusal s) where
+    pub page-refused : (n ≡ 0 → ⊥) → page ≡ refused n
     unfolding pageCall
-    page-5 h =
-        sym (ap number (table-goes s n we ok _ ∙ must-stop (eqb (length probe) (s .table .d)) 5 _ (ne-eqb (length probe) (s .table .d) h)))
+    page-refused h = table-refused s n we _ h
 
-    module _ (h5 : length probe ≡ s .table .d) (a : Bool) (ae : a ≡ sizeHolds size) where
-      past-5 : page ≡ after-5
+    module _ (ok : n ≡ 0) where
+      pub page-5 : (length probe ≡ s .table .d → ⊥) → page ≡ refused 5
       unfolding pageCall
-      past-5 = table-goes s n we ok _ ∙ must-go (eqb (length probe) (s .table .d)) 5 _ (eq-eqb (length probe) (s .table .d) h5)
+      page-5 h = aim-stops s probe n we ok from-6 h
 
-      pub page-6 : not a ≡ true → _≡_ {A = ℕ} 6 (number page)
-      page-6 h = sym (ap number (past-5 ∙ must-stop (sizeHolds size) 6 _ (sym ae ∙ not-true a h)))
+      module _ (h5 : length probe ≡ s .table .d) (a : Bool) (ae : a ≡ sizeHolds size) where
+        pub page-6 : not a ≡ true → page ≡ refused 6
+        unfolding pageCall
+        page-6 h = aim-goes s probe n we ok from-6 h5 ∙ must-stop (sizeHolds size) 6 from-7 (sym ae ∙ not-true a h)
 
-      module _ (ha : not a ≡ false) (b : Bool) (be : b ≡ leb (snapshotOf place (s .table .count)) (s .table .count)) where
-        snapshot-is : snapshotHolds (claimsIn s) place ≡ b
-        unfolding snapshotHolds
-        snapshot-is = rw (claims-length (s .table .d) (s .table .count) (s .references) (s .coordinates)) (sym be)
+        pub page-askable : not a ≡ false → Askable s (length probe) size
+        page-askable h = record { tested = sym ok ∙ we; aimed = h5; size = sym ae ∙ not-false a h }
 
-        past-6 : page ≡ must (snapshotHolds (claimsIn s) place) 7 (must (markHolds (tableQuery (s .table) Near probe reach) (claimsIn s) place) 8 (must (leb (size * 3) room) 12 (gives (thePage (tableQuery (s .table) Near probe reach) s place size))))
-        past-6 = past-5 ∙ must-go (sizeHolds size) 6 _ (sym ae ∙ not-false a ha)
+  module _ (k : Askable s (length probe) size) where
+    past-6 : page ≡ from-7
+    unfolding pageCall
+    past-6 = aim-goes s probe 0 (k .tested) refl from-6 (k .aimed) ∙ must-go (sizeHolds size) 6 from-7 (k .size)
 
-        pub page-7 : not b ≡ true → _≡_ {A = ℕ} 7 (number page)
-        page-7 h = sym (ap number (past-6 ∙ must-stop (snapshotHolds (claimsIn s) place) 7 _ (snapshot-is ∙ not-true b h)))
+    module _ (b : Bool) (be : b ≡ leb (snapshotOf place (s .table .count)) (s .table .count)) where
+      snapshot-is : snapshotHolds (claimsIn s) place ≡ b
+      unfolding snapshotHolds
+      snapshot-is = rw (claims-length (s .table .d) (s .table .count) (s .references) (s .coordinates)) (sym be)
 
-        module _ (hb : not b ≡ false) where
-          pub page-markable : Markable (s .table) (s .coordinates) probe place
-          page-markable =
-              record {
-                measurable = good-measurable s (table-good s n we ok) probe h5;
-                stored = leb-true (snapshotOf place (s .table .count)) (s .table .count) (sym be ∙ not-false b hb);
-              }
+      pub page-7 : not b ≡ true → 7 ≡ number page
+      page-7 h = sym (ap number (past-6 ∙ must-stop (snapshotHolds (claimsIn s) place) 7 from-8 (snapshot-is ∙ not-true b h)))
 
-          module _ (e : Bool) (ee : e ≡ markHolds (tableQuery (s .table) Near probe reach) (claimsIn s) place) where
-            past-7 : page ≡ must (markHolds (tableQuery (s .table) Near probe reach) (claimsIn s) place) 8 (must (leb (size * 3) room) 12 (gives (thePage (tableQuery (s .table) Near probe reach) s place size)))
-            past-7 = past-6 ∙ must-go (snapshotHolds (claimsIn s) place) 7 _ (snapshot-is ∙ not-false b hb)
+      module _ (hb : not b ≡ false) where
+        past-7 : page ≡ from-8
+        past-7 = past-6 ∙ must-go (snapshotHolds (claimsIn s) place) 7 from-8 (snapshot-is ∙ not-false b hb)
 
-            pub page-8 : not e ≡ true → _≡_ {A = ℕ} 8 (number page)
-            page-8 h = sym (ap number (past-7 ∙ must-stop (markHolds (tableQuery (s .table) Near probe reach) (claimsIn s) place) 8 _ (sym ee ∙ not-true e h)))
+        pub page-markable : Markable (s .table) (s .coordinates) probe place
+        page-markable =
+            record {
+              measurable = good-measurable s (table-good s 0 (k .tested) refl) probe (k .aimed);
+              stored = leb-true (snapshotOf place (s .table .count)) (s .table .count) (sym be ∙ not-false b hb);
+            }
 
-            module _ (he : not e ≡ false) where
-              past-8 : page ≡ must (leb (size * 3) room) 12 (gives (thePage (tableQuery (s .table) Near probe reach) s place size))
-              past-8 = past-7 ∙ must-go (markHolds (tableQuery (s .table) Near probe reach) (claimsIn s) place) 8 _ (sym ee ∙ not-false e he)
+        module _ (e : Bool) (ee : e ≡ markHolds (tableQuery (s .table) Near probe reach) (claimsIn s) place) where
+          pub page-8 : not e ≡ true → 8 ≡ number page
+          page-8 h = sym (ap number (past-7 ∙ must-stop (markHolds (tableQuery (s .table) Near probe reach) (claimsIn s) place) 8 from-12 (sym ee ∙ not-true e h)))
 
-              pub page-12 : room / 3 < size → _≡_ {A = ℕ} 12 (number page)
-              page-12 h = sym (ap number (past-8 ∙ must-stop (leb (size * 3) room) 12 _ (lt-leb (size * 3) room (omega arith))))
+          module _ (he : not e ≡ false) where
+            past-8 : page ≡ from-12
+            past-8 = past-7 ∙ must-go (markHolds (tableQuery (s .table) Near probe reach) (claimsIn s) place) 8 from-12 (sym ee ∙ not-false e he)
 
-              pub page-0 : size ≤ room / 3 → _≡_ {A = ℕ} 0 (number page)
-              page-0 h = sym (ap number (past-8 ∙ must-go (leb (size * 3) room) 12 _ (le-leb (size * 3) room (omega arith))))
+            pub page-12 : room / 3 < size → 12 ≡ number page
+            page-12 h = sym (ap number (past-8 ∙ must-stop (leb (size * 3) room) 12 _ (lt-leb (size * 3) room (omega arith))))
 
--- a call whose number is 0 gives its page, and everything was in range
-pub number-is : {A : Type 0} (x : Outcome A) (n : ℕ) → n ≡ number x → (n ≡ 0 → ⊥) → x ≡ refused n
-number-is (refused m) n e h = ap refused (sym e)
-number-is (gives a) n e h = absurd (h e)
+            pub page-0 : size ≤ room / 3 → 0 ≡ number page
+            page-0 h = sym (ap number (past-8 ∙ must-go (leb (size * 3) room) 12 _ (le-leb (size * 3) room (omega arith))))
 
-module _ (s : Store) (probe : List ℤ) (reach : ℕ) (place : Place) (size : ℕ) (room : List ℕ) (n : ℕ)
-    (ne : n ≡ number (pageCall s Near probe reach place size (length room))) where
-  pub page-refuses : (n ≡ 0 → ⊥) → PagePromise (pageCall s Near probe reach place size (length room)) (Pages.the-variants.Refused n) room room
-  unfolding pageTold counted pageRoom
-  page-refuses h =
-      let e : pageCall s Near probe reach place size (length room) ≡ refused n = number-is _ n ne h in
-      record { answer = rw e; room = rw e }
+-- the page itself, where the number says that nothing refuses it
+module _ (s : Store) (probe : List ℤ) (reach : ℕ) (place : Place) (size : ℕ) (room : List ℕ) where
+  abbrev there : Outcome PageOf
+  there = pageCall s Near probe reach place size (length room)
 
-  module _ (z : n ≡ 0) where
-    parts : (fits s ≡ true) × (sound s ≡ true) × (length probe ≡ s .table .d) × (1 ≤ size)
-        × (snapshotOf place (s .table .count) ≤ s .table .count) × (size * 3 ≤ length room)
-        × (pageCall s Near probe reach place size (length room) ≡ gives (thePage (tableQuery (s .table) Near probe reach) s place size))
-    unfolding pageCall snapshotHolds
-    parts =
-        let p₁ = number-0 (fits s) 0 _ (sym ne ∙ z) in
-        let p₂ = number-0 (sound s) 1 _ (p₁ .1) in
-        let p₅ = number-0 (eqb (length probe) (s .table .d)) 4 _ (p₂ .1) in
-        let p₆ = number-0 (sizeHolds size) 5 _ (p₅ .1) in
-        let p₇ = number-0 (leb (snapshotOf place (length (claimsIn s))) (length (claimsIn s))) 6 _ (p₆ .1) in
-        let p₈ = number-0 (markHolds (tableQuery (s .table) Near probe reach) (claimsIn s) place) 7 _ (p₇ .1) in
-        let p₁₂ = number-0 (leb (size * 3) (length room)) 11 _ (p₈ .1) in
-        let cl = claims-length (s .table .d) (s .table .count) (s .references) (s .coordinates) in (
-          p₁ .0,
-          p₂ .0,
-          eqb-true (length probe) (s .table .d) (p₅ .0),
-          leb-true 1 size (and-first (leb 1 size) (leb size mostPage) (p₆ .0)),
-          (rw cl at (leb-true (snapshotOf place (length (claimsIn s))) (length (claimsIn s)) (p₇ .0))),
-          leb-true (size * 3) (length room) (p₁₂ .0),
-          must-go (fits s) 1 _ (p₁ .0) ∙ must-go (sound s) 2 _ (p₂ .0) ∙ must-go (eqb (length probe) (s .table .d)) 5 _ (p₅ .0)
-              ∙ must-go (sizeHolds size) 6 _ (p₆ .0) ∙ must-go (leb (snapshotOf place (length (claimsIn s))) (length (claimsIn s))) 7 _ (p₇ .0)
-              ∙ must-go (markHolds (tableQuery (s .table) Near probe reach) (claimsIn s) place) 8 _ (p₈ .0) ∙ must-go (leb (size * 3) (length room)) 12 _ (p₁₂ .0),
-        )
+  -- a refusal as the call tells it
+  pub page-tells : (n : ℕ) → there ≡ refused n → Promise pageShown putPage there room (Pages.the-variants.Refused n) room
+  page-tells n e = promise-refused pageShown putPage there room n (Pages.the-variants.Refused n) e refl
 
-    pub page-answerable : Answerable s probe
-    page-answerable = good-answerable s (sound-good s (fits-fit s (parts .0)) (parts .1)) probe (parts .2)
+  module _ (k : Askable s (length probe) size) (n : ℕ) (ne : n ≡ number there) where
+    pub page-refuses : (n ≡ 0 → ⊥) → Promise pageShown putPage there room (Pages.the-variants.Refused n) room
+    page-refuses h = page-tells n (number-is there n ne h)
 
-    pub page-pageable : Pageable (s .table) place size room
-    page-pageable = record { stored = parts .4; some = parts .3; long = parts .5 }
+    module _ (z : n ≡ 0) where
+      told-0 : number (from-7 s probe reach place size (length room)) ≡ 0
+      told-0 = sym (ap number (past-6 s probe reach place size (length room) k)) ∙ sym ne ∙ z
 
-    pub page-filled : (p : Paged) (after : List ℕ) → PageIs (tableQuery (s .table) Near probe reach) (claimsIn s) place size room after p
-        → PagePromise (pageCall s Near probe reach place size (length room)) (Pages.the-variants.Filled p) room after
-    unfolding pageTold counted pageRoom thePage
-    page-filled p after w = record { answer = rw (parts .6, w .count, w .last); room = rw (parts .6) (w .room) }
+      stored : snapshotHolds (claimsIn s) place ≡ true
+      stored = number-0 (snapshotHolds (claimsIn s) place) 6 (from-8 s probe reach place size (length room)) told-0 .0
+
+      told-8 : number (from-8 s probe reach place size (length room)) ≡ 0
+      told-8 = number-0 (snapshotHolds (claimsIn s) place) 6 (from-8 s probe reach place size (length room)) told-0 .1
+
+      marked : (markHolds (tableQuery (s .table) Near probe reach) (claimsIn s) place ≡ true) × (number (from-12 s probe reach place size (length room)) ≡ 0)
+      marked = number-0 (markHolds (tableQuery (s .table) Near probe reach) (claimsIn s) place) 7 (from-12 s probe reach place size (length room)) told-8
+
+      long : leb (size * 3) (length room) ≡ true
+      long = number-0 (leb (size * 3) (length room)) 11 (gives (thePage (tableQuery (s .table) Near probe reach) s place size)) (marked .1) .0
+
+      page-gives : there ≡ gives (thePage (tableQuery (s .table) Near probe reach) s place size)
+      page-gives =
+          past-6 s probe reach place size (length room) k
+          ∙ must-go (snapshotHolds (claimsIn s) place) 7 _ stored
+          ∙ must-go (markHolds (tableQuery (s .table) Near probe reach) (claimsIn s) place) 8 _ (marked .0)
+          ∙ must-go (leb (size * 3) (length room)) 12 _ long
+
+      pub page-answerable : Answerable s probe
+      page-answerable = good-answerable s (table-good s 0 (k .tested) refl) probe (k .aimed)
+
+      pub page-pageable : Pageable (s .table) place size room
+      unfolding snapshotHolds
+      page-pageable =
+          record {
+            stored = leb-true (snapshotOf place (s .table .count)) (s .table .count) (rw (claims-length (s .table .d) (s .table .count) (s .references) (s .coordinates)) at stored);
+            some = leb-true 1 size (and-first (leb 1 size) (leb size mostPage) (k .size));
+            long = leb-true (size * 3) (length room) long;
+          }
+
+      pub page-filled : (p : Paged) (after : List ℕ) → PageIs (tableQuery (s .table) Near probe reach) (claimsIn s) place size room after p
+          → Promise pageShown putPage there room (Pages.the-variants.Filled p) after
+      unfolding thePage
+      page-filled p after w =
+          promise-given pageShown putPage there room (thePage (tableQuery (s .table) Near probe reach) s place size) (Pages.the-variants.Filled p) after page-gives
+          (ap Pages.the-variants.Filled (λ i. record { count = w .count i; last = w .last i }))
+          (w .room)
 
 -- ---- calls that write a line
 

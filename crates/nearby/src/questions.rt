@@ -2,20 +2,17 @@
 ghost use mathlib.Core.Path.{_≡_};
 ghost use Prim.Native.Nat.{_*_};
 ghost use lib.ListN.{length, take};
-ghost use lib.Dec.{leb};
 ghost use Rattle.paper.specs.declared.orders.Order.the-variants.{Near};
-ghost use Rattle.paper.specs.Orders.{snapshotOf};
-ghost use Rattle.paper.specs.Outcomes.{number};
+ghost use Rattle.paper.specs.Outcomes.{Promise, Shows, number};
 ghost use Rattle.paper.specs.Tree.{lent};
-ghost use Rattle.paper.specs.Ends.{sizeHolds};
-ghost use Rattle.paper.specs.Calls.{nearestCall, farthestCall, nearestTold, pageCall};
-ghost use Rattle.nearby.specs.Checks.{PagePromise};
+ghost use Rattle.paper.specs.Calls.{nearestCall, farthestCall, nearestShown, pageCall, pageShown, putPage};
+ghost use Rattle.nearby.specs.Checks.{Askable};
 use crate::tables::table_refusal;
-use paper::limits::MOST_PAGE;
 use paper::orders::Nearest;
 use paper::orders::Order;
 use paper::orders::Page;
 use paper::orders::Place;
+use paper::orders::size_holds;
 use paper::tables::Table;
 
 // Refusals 1, 2, 5.
@@ -27,7 +24,7 @@ pub fn nearest(
     probe: &[i32],
     reach: u64,
 ) -> Nearest
-    ensures { λ r. ⌜ nearestTold r ≡ nearestCall (lent t (references .entry) (coordinates .entry) (rooms .entry)) (now (probe .entry)) reach ⌝ }
+    ensures { λ r. ⌜ Shows nearestShown (nearestCall (lent t (references .entry) (coordinates .entry) (rooms .entry)) (now (probe .entry)) reach) r ⌝ }
 {
     let why = table_refusal(t, references, coordinates, rooms);
     if why != 0 {
@@ -48,7 +45,7 @@ pub fn farthest(
     rooms: &[u64],
     probe: &[i32],
 ) -> Nearest
-    ensures { λ r. ⌜ nearestTold r ≡ farthestCall (lent t (references .entry) (coordinates .entry) (rooms .entry)) (now (probe .entry)) ⌝ }
+    ensures { λ r. ⌜ Shows nearestShown (farthestCall (lent t (references .entry) (coordinates .entry) (rooms .entry)) (now (probe .entry))) r ⌝ }
 {
     let why = table_refusal(t, references, coordinates, rooms);
     if why != 0 {
@@ -61,26 +58,8 @@ pub fn farthest(
     Nearest::Answer(found)
 }
 
-pub fn size_holds(size: usize) -> bool
-    ensures { λ r. ⌜ r ≡ sizeHolds size ⌝ }
-{
-    if size < 1 {
-        return false;
-    }
-    size <= MOST_PAGE
-}
-
-pub fn snapshot_holds(count: usize, place: Place) -> bool
-    ensures { λ r. ⌜ r ≡ leb (snapshotOf place count) count ⌝ }
-{
-    match place {
-        Place::Start => true,
-        Place::After(snapshot, _) => snapshot <= count as u64,
-    }
-}
-
-// Why a page is not given, by its number, or 0 where it is. Nothing is written.
-fn page_refusal(
+// Why a page of a table that was tested is not given, by its number, or 0 where it is: 7, 8, 12. Nothing is written.
+fn place_refusal(
     t: Table,
     references: &[u32],
     coordinates: &[i32],
@@ -91,19 +70,10 @@ fn page_refusal(
     size: usize,
     room: usize,
 ) -> u8
+    requires { ⌜ Askable (lent t references coordinates rooms) (length (now probe)) size ⌝ }
     ensures { λ r. ⌜ r ≡ number (pageCall (lent t (references .entry) (coordinates .entry) (rooms .entry)) Near (now (probe .entry)) reach place size room) ⌝ }
 {
-    let why = table_refusal(t, references, coordinates, rooms);
-    if why != 0 {
-        return why;
-    }
-    if probe.len() != t.d {
-        return 5;
-    }
-    if !size_holds(size) {
-        return 6;
-    }
-    if !snapshot_holds(t.count, place) {
+    if !place.snapshot_holds(t.count) {
         return 7;
     }
     if !walk::questions::mark_holds(t, coordinates, probe, reach, place) {
@@ -115,8 +85,8 @@ fn page_refusal(
     0
 }
 
-// Refusals 1, 2, 5, 6, 7, 8, 12.
-pub fn page(
+// Refusals 7, 8, 12: the page of a table that was tested, where 1, 2, 5 and 6 refuse nothing. Many pages ask for each of theirs here.
+pub fn page_here(
     t: Table,
     references: &[u32],
     coordinates: &[i32],
@@ -127,9 +97,10 @@ pub fn page(
     size: usize,
     room: &mut [u64],
 ) -> Page
-    ensures { λ r. ⌜ PagePromise (pageCall (lent t (references .entry) (coordinates .entry) (rooms .entry)) Near (now (probe .entry)) reach place size (length (now (room .entry)))) r (now (room .entry)) (now (room .exit)) ⌝ }
+    requires { ⌜ Askable (lent t references coordinates rooms) (length (now probe)) size ⌝ }
+    ensures { λ r. ⌜ Promise pageShown putPage (pageCall (lent t (references .entry) (coordinates .entry) (rooms .entry)) Near (now (probe .entry)) reach place size (length (now (room .entry)))) (now (room .entry)) r (now (room .exit)) ⌝ }
 {
-    let why = page_refusal(
+    let why = place_refusal(
         t,
         references,
         coordinates,
@@ -157,6 +128,43 @@ pub fn page(
         room,
     );
     Page::Filled(paged)
+}
+
+// Refusals 1, 2, 5, 6, 7, 8, 12.
+pub fn page(
+    t: Table,
+    references: &[u32],
+    coordinates: &[i32],
+    rooms: &[u64],
+    probe: &[i32],
+    reach: u64,
+    place: Place,
+    size: usize,
+    room: &mut [u64],
+) -> Page
+    ensures { λ r. ⌜ Promise pageShown putPage (pageCall (lent t (references .entry) (coordinates .entry) (rooms .entry)) Near (now (probe .entry)) reach place size (length (now (room .entry)))) (now (room .entry)) r (now (room .exit)) ⌝ }
+{
+    let why = table_refusal(t, references, coordinates, rooms);
+    if why != 0 {
+        return Page::Refused(why);
+    }
+    if probe.len() != t.d {
+        return Page::Refused(5);
+    }
+    if !size_holds(size) {
+        return Page::Refused(6);
+    }
+    page_here(
+        t,
+        references,
+        coordinates,
+        rooms,
+        probe,
+        reach,
+        place,
+        size,
+        room,
+    )
 }
 
 // The filled front of a room that holds `count` items: a part of the lent room. It refuses nothing.

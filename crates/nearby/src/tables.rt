@@ -1,13 +1,18 @@
-// Making an empty table, and entering claims.
+// Making an empty table, testing a table, and entering claims.
 ghost use mathlib.Core.Path.{_≡_};
-ghost use Rattle.paper.specs.Tree.{lent};
-ghost use Rattle.paper.specs.Runs.{emptyTable, makeCall, madeTold, enterCall, enteredTold, ending, endingOf};
-ghost use Rattle.nearby.specs.Checks.{tableRefusal};
+ghost use Rattle.paper.specs.Outcomes.{Promise, Shows, number as Outcomes·number};
+ghost use Rattle.paper.specs.Tree.{lent, lentMemory};
+ghost use Rattle.paper.specs.Runs.{emptyTable, makeCall, madeShown, enterCall, enteredShown, putStore};
+ghost use Rattle.paper.specs.Calls.{tableRefusal};
+use paper::counts::is_whole;
 use paper::tables::Entered;
 use paper::tables::Made;
 use paper::tables::Table;
+use tree::runs::add_run;
+use tree::soundness::is_fit;
+use tree::soundness::is_sound;
 
-// Refusal 1.
+// Refusal 1. The header alone is made: the lent memory keeps what it holds.
 pub fn make_table(
     number: u32,
     measure: u8,
@@ -17,12 +22,63 @@ pub fn make_table(
     coordinates: &[i32],
     rooms: &[u64],
 ) -> Made
-    ensures { λ r. ⌜ madeTold r ≡ makeCall (lent (emptyTable number measure d capacity) (references .entry) (coordinates .entry) (rooms .entry)) ⌝ }
+    ensures { λ r. ⌜ Shows madeShown (makeCall (lent (emptyTable number measure d capacity) (references .entry) (coordinates .entry) (rooms .entry))) r ⌝ }
 {
-    tree::runs::make_table(number, measure, d, capacity, references, coordinates, rooms)
+    let t = Table {
+        number: number,
+        measure: measure,
+        d: d,
+        capacity: capacity,
+        count: 0,
+        used: 0,
+    };
+    if !is_fit(t, references, coordinates, rooms) {
+        return Made::Refused(1);
+    }
+    Made::Table(t)
 }
 
-// Refusals 1, 2, 5, 3, 4.
+// Why a table may not be asked: 1 or 2, or 0 where it may.
+pub fn table_refusal(t: Table, references: &[u32], coordinates: &[i32], rooms: &[u64]) -> u8
+    ensures { λ r. ⌜ r ≡ tableRefusal (lent t (references .entry) (coordinates .entry) (rooms .entry)) ⌝ }
+{
+    if !is_fit(t, references, coordinates, rooms) {
+        return 1;
+    }
+    if !is_sound(t, coordinates, rooms) {
+        return 2;
+    }
+    0
+}
+
+// Why a run is not entered, by its number, or 0 where it may be. Nothing is written.
+fn run_refusal(
+    t: Table,
+    references: &[u32],
+    coordinates: &[i32],
+    rooms: &[u64],
+    given: &[u32],
+    places: &[i32],
+) -> u8
+    ensures { λ r. ⌜ r ≡ Outcomes·number (enterCall (lent t (references .entry) (coordinates .entry) (rooms .entry)) (now (given .entry)) (now (places .entry))) ⌝ }
+{
+    let why = table_refusal(t, references, coordinates, rooms);
+    if why != 0 {
+        return why;
+    }
+    if !is_whole(t.d, given.len(), places.len()) {
+        return 5;
+    }
+    if t.capacity - t.count < given.len() {
+        return 3;
+    }
+    if t.capacity - t.used < given.len() {
+        return 4;
+    }
+    0
+}
+
+// Refusals 1, 2, 5, 3, 4. The run goes in whole, or not at all.
 pub fn enter(
     t: Table,
     references: &mut [u32],
@@ -31,22 +87,14 @@ pub fn enter(
     given: &[u32],
     places: &[i32],
 ) -> Entered
-    ensures { λ r. ⌜ ending (enteredTold r) (now (references .exit)) (now (coordinates .exit)) (now (rooms .exit))
-        ≡ endingOf (lent t (references .entry) (coordinates .entry) (rooms .entry))
-        (enterCall (lent t (references .entry) (coordinates .entry) (rooms .entry)) (now (given .entry)) (now (places .entry))) ⌝ }
+    ensures { λ r. ⌜ Promise enteredShown putStore
+        (enterCall (lent t (references .entry) (coordinates .entry) (rooms .entry)) (now (given .entry)) (now (places .entry)))
+        (lentMemory (references .entry) (coordinates .entry) (rooms .entry)) r (lentMemory (references .exit) (coordinates .exit) (rooms .exit)) ⌝ }
 {
-    tree::runs::enter_run(t, references, coordinates, rooms, given, places)
-}
-
-// Why a table may not be asked: 1 or 2, or 0 where it may.
-pub fn table_refusal(t: Table, references: &[u32], coordinates: &[i32], rooms: &[u64]) -> u8
-    ensures { λ r. ⌜ r ≡ tableRefusal (lent t (references .entry) (coordinates .entry) (rooms .entry)) ⌝ }
-{
-    if !tree::soundness::is_fit(t, references, coordinates, rooms) {
-        return 1;
+    let why = run_refusal(t, references, coordinates, rooms, given, places);
+    if why != 0 {
+        return Entered::Refused(why);
     }
-    if !tree::soundness::is_sound(t, coordinates, rooms) {
-        return 2;
-    }
-    0
+    let after = add_run(t, references, coordinates, rooms, given, places);
+    Entered::Table(after)
 }

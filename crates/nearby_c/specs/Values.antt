@@ -2,25 +2,26 @@
 use Prim.Native.Nat.{ℕ}
 use mathlib.Core.Bool.{Bool, cond, not}
 use mathlib.Core.List.{List}
-use mathlib.Core.Path.{_≡_}
 use lib.Dec.{eqb}
-use lib.IntN.{ℤ}
 use Rattle.paper.specs.declared.lines.Wrote.{Wrote}
 use Rattle.paper.specs.declared.lines.Wrote.the-variants.{Line, Refused}
 use Rattle.paper.specs.declared.lists.List as lists
 use Rattle.paper.specs.declared.lists.Opened.{Opened}
+use Rattle.paper.specs.declared.lists.Taken.{Taken}
+use Rattle.paper.specs.declared.orders.Found.the-variants.{Nothing, Item as AnItem}
+use Rattle.paper.specs.declared.orders.Nearest as Answers
+use Rattle.paper.specs.declared.orders.Page as Pages
 use Rattle.paper.specs.declared.orders.Place.{Place}
 use Rattle.paper.specs.declared.orders.Place as Places
-use Rattle.paper.specs.declared.tables.Table.{Table}
-use Rattle.paper.specs.Orders.{Found, nothing, found, markAt}
-use Rattle.paper.specs.Outcomes.{Outcome, refused, gives, number}
-use Rattle.paper.specs.Tree.{Store}
-use Rattle.paper.specs.Runs.{emptyTable, endingOf}
-use Rattle.paper.specs.Lines.{wrote, room}
-use Rattle.paper.specs.Lists.{Held, put}
+use Rattle.paper.specs.declared.tables.Made.{Made}
+use Rattle.paper.specs.declared.tables.Entered.{Entered}
+use Rattle.paper.specs.Orders.{markAt}
+use Rattle.paper.specs.Outcomes.{Outcome, Promise}
+use Rattle.paper.specs.Runs.{emptyTable}
+use Rattle.paper.specs.Fields.{flagOf}
+use Rattle.paper.specs.Lines.{wroteOf, putLine}
+use Rattle.paper.specs.Lists.{takenAs, putItems}
 use Rattle.paper.specs.Ends as Ends
-use Rattle.paper.specs.Codec.{wroteOf, roomAfter}
-use Rattle.paper.specs.Calls.{Counted, PageOf, counted, pageRoom}
 use Rattle.nearby_c.specs.declared.values.Tabled.{Tabled}
 use Rattle.nearby_c.specs.declared.values.Item.{Item}
 use Rattle.nearby_c.specs.declared.values.Start.{Start}
@@ -32,22 +33,29 @@ use Rattle.nearby_c.specs.declared.values.Listed.{Listed}
 abbrev pub flagIn : ℕ → Bool
 flagIn n = not (eqb n 0)
 
-abbrev pub tabled : Outcome Table → Tabled
-tabled (refused n) = record { refusal = n; table = emptyTable 0 0 0 0 }
-tabled (gives t) = record { refusal = 0; table = t }
+-- a refusal beside a table of zeros, or the table
+abbrev pub noTable : ℕ → Tabled
+noTable n = record { refusal = n; table = emptyTable 0 0 0 0 }
 
-abbrev pub foundOf : Outcome Found → Item
-foundOf (refused n) = record { refusal = n; found = 0; number = 0; reference = 0; distance = 0 }
-foundOf (gives nothing) = record { refusal = 0; found = 0; number = 0; reference = 0; distance = 0 }
-foundOf (gives (found a)) =
-    record { refusal = 0; found = 1; number = a .number; reference = a .reference; distance = a .distance }
+abbrev pub madeOut : Made → Tabled
+madeOut (Made.Refused n) = noTable n
+madeOut (Made.Table t) = record { refusal = 0; table = t }
+
+abbrev pub enteredOut : Entered → Tabled
+enteredOut (Entered.Refused n) = noTable n
+enteredOut (Entered.Table t) = record { refusal = 0; table = t }
+
+abbrev pub itemOut : Answers.Nearest → Item
+itemOut (Answers.the-variants.Refused n) = record { refusal = n; found = 0; number = 0; reference = 0; distance = 0 }
+itemOut (Answers.the-variants.Answer Nothing) = record { refusal = 0; found = 0; number = 0; reference = 0; distance = 0 }
+itemOut (Answers.the-variants.Answer (AnItem k y x)) = record { refusal = 0; found = 1; number = k; reference = y; distance = x }
 
 abbrev pub placeOf : Start → Place
 placeOf s = cond (eqb (s .from) 0) Places.the-variants.Start (Places.the-variants.After (s .snapshot) (markAt (s .distance) (s .number)))
 
-abbrev pub filledOf : Outcome Counted → Filled
-filledOf (refused n) = record { refusal = n; last = 0; count = 0 }
-filledOf (gives p) = record { refusal = 0; last = flagOf (p .last); count = p .count }
+abbrev pub filledOut : Pages.Page → Filled
+filledOut (Pages.the-variants.Refused n) = record { refusal = n; last = 0; count = 0 }
+filledOut (Pages.the-variants.Filled p) = record { refusal = 0; last = flagOf (p .last); count = p .count }
 
 abbrev pub writtenOf : Wrote → Written
 writtenOf (Line n) = record { refusal = 0; length = n }
@@ -81,32 +89,16 @@ listOut l =
       count = l .count;
     }
 
-abbrev pub listed : ℕ → lists.List → Listed
-listed n l = record { refusal = n; list = listOut l }
+abbrev pub openedOut : Opened → Listed
+openedOut o = record { refusal = o .refusal; list = listOut (o .list) }
 
-abbrev pub listedBy : Opened → Listed
-listedBy o = listed (o .refusal) (o .list)
+abbrev pub takenOut : Taken → Listed
+takenOut t = record { refusal = t .refusal; list = listOut (t .list) }
 
--- ---- what a call that changes lent memory promises: its answer, and what the memory then holds
+-- ---- what a call promises whose result is shown as numbers
 
-pub record Enters (s : Store) (o : Outcome Store) (r : Tabled) (ys : List ℕ) (xs : List ℤ) (ms : List ℕ) : Type 0 where
-  pub answer : r ≡ tabled (endingOf s o .answer)
-  pub references : ys ≡ endingOf s o .references
-  pub coordinates : xs ≡ endingOf s o .coordinates
-  pub rooms : ms ≡ endingOf s o .rooms
+abbrev pub WritesOut : Outcome (List ℕ) → List ℕ → Written → List ℕ → Type 0
+WritesOut o before r after = Promise (λ u. writtenOf (wroteOf u)) putLine o before r after
 
-pub record Fills (o : Outcome PageOf) (before : List ℕ) (r : Filled) (after : List ℕ) : Type 0 where
-  pub answer : r ≡ filledOf (counted o)
-  pub room : after ≡ pageRoom o before
-
-pub record Tells (o : Outcome (List ℕ)) (before : List ℕ) (r : Written) (after : List ℕ) : Type 0 where
-  pub answer : r ≡ writtenOf (wroteOf o)
-  pub room : after ≡ roomAfter o before
-
-pub record Takes (s : Held) (o : Outcome Ends.Listing) (r : Listed) (after : List ℕ) : Type 0 where
-  pub answer : r ≡ listed (number o) (put s o .list)
-  pub room : after ≡ put s o .room
-
-pub record Prints (fits : Bool) (need : ℕ) (f before : List ℕ) (r : Written) (after : List ℕ) : Type 0 where
-  pub answer : r ≡ writtenOf (wrote fits need f before)
-  pub room : after ≡ room fits need f before
+abbrev pub TakesOut : lists.List → Outcome Ends.Listing → List ℕ → Listed → List ℕ → Type 0
+TakesOut l o before r after = Promise (λ u. takenOut (takenAs l u)) putItems o before r after

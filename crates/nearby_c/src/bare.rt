@@ -1,7 +1,8 @@
 // The bare writers and readers of the three kinds of line.
 ghost use mathlib.Core.Path.{_≡_};
-ghost use Rattle.paper.specs.Lines.{askFits, askFrame, askOf, answerFits, answerFrame, answerOf, claimFits, claimFrame, claimOf};
-ghost use Rattle.nearby_c.specs.Values.{Prints};
+ghost use lib.ListN.{length};
+ghost use Rattle.paper.specs.Lines.{bareLine, askFits, askFrame, askOf, answerFits, answerFrame, answerOf, claimFits, claimFrame, claimOf};
+ghost use Rattle.nearby_c.specs.Values.{WritesOut};
 ghost use Rattle.paper.specs.Limits.{longestAnswer, longestAsk, longestClaim};
 use crate::values::Written;
 use crate::values::line_of;
@@ -21,7 +22,7 @@ pub extern "C" fn nearby_write_ask_line(
     size: u8,
     out: &mut [u8],
 ) -> Written
-    ensures { λ r. ⌜ Prints (askFits measure d (now (probe .entry)) p size) longestAsk (askFrame 1 table measure d (now (probe .entry)) p size) (now (out .entry)) r (now (out .exit)) ⌝ }
+    ensures { λ r. ⌜ WritesOut (bareLine (askFits measure d (now (probe .entry)) p size) longestAsk (askFrame 1 table measure d (now (probe .entry)) p size) (length (now (out .entry)))) (now (out .entry)) r (now (out .exit)) ⌝ }
 {
     let wrote = nearby::write_ask_line(table, measure, d, probe, p, size, out);
     line_of(wrote)
@@ -40,7 +41,7 @@ pub extern "C" fn nearby_write_answer_line(
     items: &[u64],
     out: &mut [u8],
 ) -> Written
-    ensures { λ r. ⌜ Prints (answerFits measure d (now (probe .entry)) p last count (now (items .entry))) longestAnswer (answerFrame 2 table measure d (now (probe .entry)) p last count (now (items .entry))) (now (out .entry)) r (now (out .exit)) ⌝ }
+    ensures { λ r. ⌜ WritesOut (bareLine (answerFits measure d (now (probe .entry)) p last count (now (items .entry))) longestAnswer (answerFrame 2 table measure d (now (probe .entry)) p last count (now (items .entry))) (length (now (out .entry)))) (now (out .entry)) r (now (out .exit)) ⌝ }
 {
     let wrote = nearby::write_answer_line(table, measure, d, probe, p, last, count, items, out);
     line_of(wrote)
@@ -56,7 +57,7 @@ pub extern "C" fn nearby_write_claim_line(
     coordinates: &[i32],
     out: &mut [u8],
 ) -> Written
-    ensures { λ r. ⌜ Prints (claimFits measure d (now (coordinates .entry))) longestClaim (claimFrame table measure d reference (now (coordinates .entry))) (now (out .entry)) r (now (out .exit)) ⌝ }
+    ensures { λ r. ⌜ WritesOut (bareLine (claimFits measure d (now (coordinates .entry))) longestClaim (claimFrame table measure d reference (now (coordinates .entry))) (length (now (out .entry)))) (now (out .entry)) r (now (out .exit)) ⌝ }
 {
     let wrote = nearby::write_claim_line(table, measure, d, reference, coordinates, out);
     line_of(wrote)

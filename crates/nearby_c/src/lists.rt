@@ -5,7 +5,7 @@ ghost use Rattle.paper.specs.declared.orders.Order.the-variants.{Near};
 ghost use Rattle.paper.specs.Lists.{held, openingHeld, openedTold, askingHeld, takingHeld};
 ghost use Rattle.paper.specs.Codec.{lines};
 ghost use Rattle.tablet.specs.Holding.{asNear};
-ghost use Rattle.nearby_c.specs.Values.{listIn, listedBy, Tells, Takes};
+ghost use Rattle.nearby_c.specs.Values.{listIn, openedOut, WritesOut, TakesOut};
 use crate::values::Listed;
 use crate::values::Listing;
 use crate::values::Written;
@@ -22,7 +22,7 @@ pub extern "C" fn nearby_open_list(
     probe: &[i32],
     reach: u64,
 ) -> Listed
-    ensures { λ r. ⌜ r ≡ listedBy (openedTold (openingHeld (asNear table measure d (now (probe .entry)) reach))) ⌝ }
+    ensures { λ r. ⌜ r ≡ openedOut (openedTold (openingHeld (asNear table measure d (now (probe .entry)) reach))) ⌝ }
 {
     let opened = nearby::open_list(table, measure, d, probe, reach);
     let list = opened.list;
@@ -35,7 +35,7 @@ pub extern "C" fn nearby_open_list(
 // Refusals 2, 16, 6, 12.
 #[no_mangle]
 pub extern "C" fn nearby_write_ask(l: Listing, room: &[u64], size: usize, out: &mut [u8]) -> Written
-    ensures { λ r. ⌜ Tells (askingHeld lines Near (held (listIn l) (now (room .entry))) size (length (now (out .entry)))) (now (out .entry)) r (now (out .exit)) ⌝ }
+    ensures { λ r. ⌜ WritesOut (askingHeld lines Near (held (listIn l) (now (room .entry))) size (length (now (out .entry)))) (now (out .entry)) r (now (out .exit)) ⌝ }
 {
     let list = list_in(l);
     let wrote = nearby::write_ask(list, room, size, out);
@@ -45,7 +45,7 @@ pub extern "C" fn nearby_write_ask(l: Listing, room: &[u64], size: usize, out: &
 // Refusals 2, 9, 10, 16, 13, 14, 15.
 #[no_mangle]
 pub extern "C" fn nearby_take(l: Listing, room: &mut [u64], line: &[u8]) -> Listed
-    ensures { λ r. ⌜ Takes (held (listIn l) (now (room .entry))) (takingHeld lines Near (held (listIn l) (now (room .entry))) (now (line .entry))) r (now (room .exit)) ⌝ }
+    ensures { λ r. ⌜ TakesOut (listIn l) (takingHeld lines Near (held (listIn l) (now (room .entry))) (now (line .entry))) (now (room .entry)) r (now (room .exit)) ⌝ }
 {
     let list = list_in(l);
     let taken = nearby::take(list, room, line);

@@ -3,7 +3,7 @@ ghost use mathlib.Core.Path.{_≡_};
 ghost use lib.ListN.{length};
 ghost use Rattle.paper.specs.Tree.{lent};
 ghost use Rattle.paper.specs.Calls.{officeCall};
-ghost use Rattle.nearby_c.specs.Values.{Tells};
+ghost use Rattle.nearby_c.specs.Values.{WritesOut};
 use crate::values::Written;
 use crate::values::line_of;
 use paper::tables::Table;
@@ -18,7 +18,7 @@ pub extern "C" fn nearby_answer(
     line: &[u8],
     out: &mut [u8],
 ) -> Written
-    ensures { λ r. ⌜ Tells (officeCall (lent t (references .entry) (coordinates .entry) (rooms .entry)) (length (now (out .entry))) (now (line .entry))) (now (out .entry)) r (now (out .exit)) ⌝ }
+    ensures { λ r. ⌜ WritesOut (officeCall (lent t (references .entry) (coordinates .entry) (rooms .entry)) (length (now (out .entry))) (now (line .entry))) (now (out .entry)) r (now (out .exit)) ⌝ }
 {
     let wrote = nearby::answer(t, references, coordinates, rooms, line, out);
     line_of(wrote)

@@ -3,8 +3,9 @@ ghost use mathlib.Core.Path.{_≡_};
 ghost use lib.ListN.{length};
 ghost use Rattle.paper.specs.declared.orders.Order.the-variants.{Near};
 ghost use Rattle.paper.specs.Tree.{lent};
-ghost use Rattle.paper.specs.Calls.{nearestCall, farthestCall, pageCall};
-ghost use Rattle.nearby_c.specs.Values.{foundOf, placeOf, Fills};
+ghost use Rattle.paper.specs.Outcomes.{Promise};
+ghost use Rattle.paper.specs.Calls.{nearestCall, farthestCall, nearestShown, pageCall, pageShown, putPage};
+ghost use Rattle.nearby_c.specs.Values.{itemOut, filledOut, placeOf};
 use crate::values::Filled;
 use crate::values::Item;
 use crate::values::Start;
@@ -23,7 +24,7 @@ pub extern "C" fn nearby_nearest(
     probe: &[i32],
     reach: u64,
 ) -> Item
-    ensures { λ r. ⌜ r ≡ foundOf (nearestCall (lent t (references .entry) (coordinates .entry) (rooms .entry)) (now (probe .entry)) reach) ⌝ }
+    ensures { λ r. ⌜ r ≡ itemOut (nearestShown (nearestCall (lent t (references .entry) (coordinates .entry) (rooms .entry)) (now (probe .entry)) reach)) ⌝ }
 {
     item_of(nearby::nearest(t, references, coordinates, rooms, probe, reach))
 }
@@ -37,7 +38,7 @@ pub extern "C" fn nearby_farthest(
     rooms: &[u64],
     probe: &[i32],
 ) -> Item
-    ensures { λ r. ⌜ r ≡ foundOf (farthestCall (lent t (references .entry) (coordinates .entry) (rooms .entry)) (now (probe .entry))) ⌝ }
+    ensures { λ r. ⌜ r ≡ itemOut (nearestShown (farthestCall (lent t (references .entry) (coordinates .entry) (rooms .entry)) (now (probe .entry)))) ⌝ }
 {
     item_of(nearby::farthest(t, references, coordinates, rooms, probe))
 }
@@ -55,7 +56,7 @@ pub extern "C" fn nearby_page(
     size: usize,
     room: &mut [u64],
 ) -> Filled
-    ensures { λ r. ⌜ Fills (pageCall (lent t (references .entry) (coordinates .entry) (rooms .entry)) Near (now (probe .entry)) reach (placeOf start) size (length (now (room .entry)))) (now (room .entry)) r (now (room .exit)) ⌝ }
+    ensures { λ r. ⌜ Promise (λ o. filledOut (pageShown o)) putPage (pageCall (lent t (references .entry) (coordinates .entry) (rooms .entry)) Near (now (probe .entry)) reach (placeOf start) size (length (now (room .entry)))) (now (room .entry)) r (now (room .exit)) ⌝ }
 {
     let place = place_of(start);
     let page = nearby::page(

@@ -1,8 +1,11 @@
 // Many questions and many lines, for which the table is tested once.
 ghost use mathlib.Core.Path.{_≡_};
+ghost use Rattle.paper.specs.Outcomes.{number};
+ghost use Rattle.paper.specs.Outcomes as Outcomes;
 ghost use Rattle.paper.specs.Tree.{lent};
-ghost use Rattle.many.specs.Many.{nearestEach, farthestEach, Answers};
-ghost use Rattle.many.specs.Pages.{bothRooms, pagesEach, Pages};
+ghost use Rattle.many.specs.Rows.{instead};
+ghost use Rattle.many.specs.Many.{nearestEach, farthestEach};
+ghost use Rattle.many.specs.Pages.{bothRooms, pagesEach};
 ghost use Rattle.batch.specs.Batch.{batchCall, twoRooms, AnswersAll};
 use batch::Answered;
 use paper::tables::Table;
@@ -18,7 +21,7 @@ pub extern "C" fn nearby_many_nearest(
     reaches: &[u64],
     out: &mut [u64],
 ) -> u8
-    ensures { λ r. ⌜ Answers (nearestEach (lent t (references .entry) (coordinates .entry) (rooms .entry)) (now (probes .entry)) (now (reaches .entry)) (now (out .entry))) (now (out .entry)) r (now (out .exit)) ⌝ }
+    ensures { λ r. ⌜ Outcomes.Promise number instead (nearestEach (lent t (references .entry) (coordinates .entry) (rooms .entry)) (now (probes .entry)) (now (reaches .entry)) (now (out .entry))) (now (out .entry)) r (now (out .exit)) ⌝ }
 {
     many::nearest_each(t, references, coordinates, rooms, probes, reaches, out)
 }
@@ -34,7 +37,7 @@ pub extern "C" fn nearby_many_farthest(
     n: usize,
     out: &mut [u64],
 ) -> u8
-    ensures { λ r. ⌜ Answers (farthestEach (lent t (references .entry) (coordinates .entry) (rooms .entry)) (now (probes .entry)) n (now (out .entry))) (now (out .entry)) r (now (out .exit)) ⌝ }
+    ensures { λ r. ⌜ Outcomes.Promise number instead (farthestEach (lent t (references .entry) (coordinates .entry) (rooms .entry)) (now (probes .entry)) n (now (out .entry))) (now (out .entry)) r (now (out .exit)) ⌝ }
 {
     many::farthest_each(t, references, coordinates, rooms, probes, n, out)
 }
@@ -53,7 +56,7 @@ pub extern "C" fn nearby_many_pages(
     outcomes: &mut [u64],
     items: &mut [u64],
 ) -> u8
-    ensures { λ r. ⌜ Pages (pagesEach (lent t (references .entry) (coordinates .entry) (rooms .entry)) (now (probes .entry)) (now (reaches .entry)) (now (places .entry)) size (bothRooms (now (outcomes .entry)) (now (items .entry)))) (bothRooms (now (outcomes .entry)) (now (items .entry))) r (bothRooms (now (outcomes .exit)) (now (items .exit))) ⌝ }
+    ensures { λ r. ⌜ Outcomes.Promise number instead (pagesEach (lent t (references .entry) (coordinates .entry) (rooms .entry)) (now (probes .entry)) (now (reaches .entry)) (now (places .entry)) size (bothRooms (now (outcomes .entry)) (now (items .entry)))) (bothRooms (now (outcomes .entry)) (now (items .entry))) r (bothRooms (now (outcomes .exit)) (now (items .exit))) ⌝ }
 {
     many::pages_each(
         t,

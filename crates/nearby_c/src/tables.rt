@@ -1,9 +1,10 @@
 // Making a table, testing it, and entering claims.
 ghost use mathlib.Core.Path.{_≡_};
-ghost use Rattle.paper.specs.Tree.{lent};
-ghost use Rattle.paper.specs.Runs.{emptyTable, makeCall, enterCall};
-ghost use Rattle.nearby.specs.Checks.{tableRefusal};
-ghost use Rattle.nearby_c.specs.Values.{tabled, Enters};
+ghost use Rattle.paper.specs.Outcomes.{Promise};
+ghost use Rattle.paper.specs.Tree.{lent, lentMemory};
+ghost use Rattle.paper.specs.Runs.{emptyTable, makeCall, madeShown, enterCall, enteredShown, putStore};
+ghost use Rattle.paper.specs.Calls.{tableRefusal};
+ghost use Rattle.nearby_c.specs.Values.{madeOut, enteredOut};
 use crate::values::Tabled;
 use crate::values::table_entered;
 use crate::values::table_made;
@@ -20,7 +21,7 @@ pub extern "C" fn nearby_make_table(
     coordinates: &[i32],
     rooms: &[u64],
 ) -> Tabled
-    ensures { λ r. ⌜ r ≡ tabled (makeCall (lent (emptyTable number measure d capacity) (references .entry) (coordinates .entry) (rooms .entry))) ⌝ }
+    ensures { λ r. ⌜ r ≡ madeOut (madeShown (makeCall (lent (emptyTable number measure d capacity) (references .entry) (coordinates .entry) (rooms .entry)))) ⌝ }
 {
     table_made(nearby::make_table(number, measure, d, capacity, references, coordinates, rooms))
 }
@@ -48,7 +49,9 @@ pub extern "C" fn nearby_enter(
     given: &[u32],
     places: &[i32],
 ) -> Tabled
-    ensures { λ r. ⌜ Enters (lent t (references .entry) (coordinates .entry) (rooms .entry)) (enterCall (lent t (references .entry) (coordinates .entry) (rooms .entry)) (now (given .entry)) (now (places .entry))) r (now (references .exit)) (now (coordinates .exit)) (now (rooms .exit)) ⌝ }
+    ensures { λ r. ⌜ Promise (λ o. enteredOut (enteredShown o)) putStore
+        (enterCall (lent t (references .entry) (coordinates .entry) (rooms .entry)) (now (given .entry)) (now (places .entry)))
+        (lentMemory (references .entry) (coordinates .entry) (rooms .entry)) r (lentMemory (references .exit) (coordinates .exit) (rooms .exit)) ⌝ }
 {
     let e = nearby::enter(t, references, coordinates, rooms, given, places);
     table_entered(e)

@@ -1,10 +1,7 @@
 // What goes to C and comes back: numbers, and structs of numbers. A refusal's number stands beside the values, 0 where nothing was
 // refused; where a case is not given its values are 0. A flag from C is off when it is 0 and on otherwise; a flag to C is 0 or 1.
 ghost use mathlib.Core.Path.{_≡_};
-ghost use Rattle.paper.specs.Outcomes.{refused};
-ghost use Rattle.paper.specs.Runs.{madeTold, enteredTold};
-ghost use Rattle.paper.specs.Calls.{nearestTold, pageTold};
-ghost use Rattle.nearby_c.specs.Values.{tabled, foundOf, filledOf, writtenOf, placeOf, listIn, listOut};
+ghost use Rattle.nearby_c.specs.Values.{noTable, madeOut, enteredOut, itemOut, filledOut, writtenOf, placeOf, listIn, listOut};
 use paper::limits::MOST_PLACES;
 use paper::lines::Wrote;
 use paper::lines::flag;
@@ -82,7 +79,7 @@ pub struct Listed {
 
 // A table of zeros stands beside a refusal.
 fn no_table(n: u8) -> Tabled
-    ensures { λ r. ⌜ r ≡ tabled (refused n) ⌝ }
+    ensures { λ r. ⌜ r ≡ noTable n ⌝ }
 {
     Tabled {
         refusal: n,
@@ -98,7 +95,7 @@ fn no_table(n: u8) -> Tabled
 }
 
 pub fn table_made(m: Made) -> Tabled
-    ensures { λ r. ⌜ r ≡ tabled (madeTold m) ⌝ }
+    ensures { λ r. ⌜ r ≡ madeOut m ⌝ }
 {
     match m {
         Made::Table(t) => Tabled {
@@ -110,7 +107,7 @@ pub fn table_made(m: Made) -> Tabled
 }
 
 pub fn table_entered(e: Entered) -> Tabled
-    ensures { λ r. ⌜ r ≡ tabled (enteredTold e) ⌝ }
+    ensures { λ r. ⌜ r ≡ enteredOut e ⌝ }
 {
     match e {
         Entered::Table(t) => Tabled {
@@ -122,7 +119,7 @@ pub fn table_entered(e: Entered) -> Tabled
 }
 
 pub fn item_of(a: Nearest) -> Item
-    ensures { λ r. ⌜ r ≡ foundOf (nearestTold a) ⌝ }
+    ensures { λ r. ⌜ r ≡ itemOut a ⌝ }
 {
     match a {
         Nearest::Refused(n) => Item {
@@ -161,7 +158,7 @@ pub fn place_of(s: Start) -> Place
 }
 
 pub fn page_of(p: Page) -> Filled
-    ensures { λ r. ⌜ r ≡ filledOf (pageTold p) ⌝ }
+    ensures { λ r. ⌜ r ≡ filledOut p ⌝ }
 {
     match p {
         Page::Refused(n) => Filled {

@@ -3,6 +3,7 @@ pub mod EndExamples
 pub mod ProgramExample
 pub mod Tests
 pub mod Ranges
+pub mod Groups
 pub mod Outcomes
 pub mod Places
 pub mod Reading

@@ -23,15 +23,33 @@ pub must-rest : {A : Type 0} (b : Bool) (n : ℕ) (x : Outcome A) (a : A) → mu
 must-rest true n x a p = p
 must-rest false n x a p = absurd (let y : _≡_ {A = ℕ} 0 1 = cc in omega arith)
 
+-- a call that is refused under another number passed the test
+pub must-other : {A : Type 0} (b : Bool) (n : ℕ) (x : Outcome A) (m : ℕ) → must b n x ≡ refused m → (n ≡ m → ⊥) → (b ≡ true) × (x ≡ refused m)
+must-other true n x m e h = (refl, e)
+must-other false n x m e h = absurd (h (ap number e))
+
 -- a call that tells 0 passed the test
 pub number-0 : {A : Type 0} (b : Bool) (n : ℕ) (x : Outcome A) → number (must b (suc n) x) ≡ 0 → (b ≡ true) × (number x ≡ 0)
 number-0 true n x h = (refl, h)
 number-0 false n x h = absurd (omega arith)
 
--- the number does not depend on what is given
-pub same-number : {A B : Type 0} (b : Bool) (n : ℕ) (x : Outcome A) (y : Outcome B) → number x ≡ number y → number (must b n x) ≡ number (must b n y)
-same-number true n x y h = h
-same-number false n x y h = refl
+-- a call is refused by its number
+pub number-is : {A : Type 0} (x : Outcome A) (n : ℕ) → n ≡ number x → (n ≡ 0 → ⊥) → x ≡ refused n
+number-is (refused m) n e h = ap refused (sym e)
+number-is (gives a) n e h = absurd (h e)
+
+-- Two calls that begin with the same tests: y ends behind them, and x goes on with z. One `behind` for each test gives the premise of
+-- `stops` and `goes-on`: x is refused where y is, and otherwise is z.
+pub behind : {A B : Type 0} (b : Bool) (n : ℕ) (x z : Outcome A) (y : Outcome B) → x ≡ onto y (λ u. z) → must b n x ≡ onto (must b n y) (λ u. z)
+behind true n x z y p = p
+behind false n x z y p = refl
+
+module _ {A B : Type 0} (x z : Outcome A) (y : Outcome B) (p : x ≡ onto y (λ u. z)) where
+  pub stops : (n : ℕ) → n ≡ number y → (n ≡ 0 → ⊥) → x ≡ refused n
+  stops n e h = p ∙ ap (λ (v : Outcome B). onto v (λ u. z)) (number-is y n e h)
+
+  pub goes-on : (b : B) → y ≡ gives b → x ≡ z
+  goes-on b e = p ∙ ap (λ (v : Outcome B). onto v (λ u. z)) e
 
 -- what went through the first of two steps
 pub record Through (A B : Type 0) (x : Outcome A) (f : A → Outcome B) (b : B) : Type 0 where

@@ -12,8 +12,8 @@ use Rattle.paper.specs.declared.orders.Order.the-variants.{Near}
 use Rattle.paper.specs.declared.orders.Page as Pages
 use Rattle.paper.specs.declared.orders.Place.{Place}
 use Rattle.paper.specs.declared.tables.Table.{Table}
-use Rattle.paper.specs.Orders.{Item, Query, Found, told, following, pageOf, lastOf, nearestOf, farthestOf, snapshotHolds, markHolds, fronted}
-use Rattle.paper.specs.Outcomes.{Outcome, refused, gives, must}
+use Rattle.paper.specs.Orders.{Item, Query, Found, foundShown, following, pageOf, lastOf, nearestOf, farthestOf, snapshotHolds, markHolds, fronted}
+use Rattle.paper.specs.Outcomes.{Outcome, refused, gives, must, number}
 use Rattle.paper.specs.Tree.{Store, claimsIn, fits, sound}
 use Rattle.paper.specs.Ends.{tableOf, served, answerRoom, sizeHolds}
 use Rattle.paper.specs.Codec.{lines}
@@ -27,6 +27,10 @@ tableQuery t order probe reach =
 abbrev pub onTable : {A : Type 0} → Store → Outcome A → Outcome A
 onTable s x = must (fits s) 1 (must (sound s) 2 x)
 
+-- why a table may not be asked: 1 or 2, or 0 where it may
+unfoldable pub tableRefusal : Store → ℕ
+tableRefusal s = number (onTable s (gives s))
+
 -- 5: "probe length not d"
 abbrev pub aimed : {A : Type 0} → Store → List ℤ → Outcome A → Outcome A
 aimed s probe x = onTable s (must (eqb (length probe) (s .table .d)) 5 x)
@@ -38,10 +42,10 @@ nearestCall s probe reach = aimed s probe (gives (nearestOf (tableQuery (s .tabl
 unfoldable pub farthestCall : Store → List ℤ → Outcome Found
 farthestCall s probe = aimed s probe (gives (farthestOf (tableQuery (s .table) Near probe 0) (claimsIn s)))
 
--- the number and the values of each case
-unfoldable pub nearestTold : Answers.Nearest → Outcome Found
-nearestTold (Answers.the-variants.Refused n) = refused n
-nearestTold (Answers.the-variants.Answer a) = gives (told a)
+-- how their outcome is shown
+abbrev pub nearestShown : Outcome Found → Answers.Nearest
+nearestShown (refused n) = Answers.the-variants.Refused n
+nearestShown (gives f) = Answers.the-variants.Answer (foundShown f)
 
 -- a page: its items, and whether it is the last
 pub record PageOf : Type 0 where
@@ -62,23 +66,13 @@ pageCall s order probe reach place size room =
     (must (leb (size * 3) room) 12
     (gives (thePage (tableQuery (s .table) order probe reach) s place size))))))
 
--- the number and the values of each case: how many items, and whether they are the last
-pub record Counted : Type 0 where
-  pub count : ℕ
-  pub last : Bool
+-- how its outcome is shown, and what it makes of the room: the items stand at its front, and what lies behind them is kept
+abbrev pub pageShown : Outcome PageOf → Pages.Page
+pageShown (refused n) = Pages.the-variants.Refused n
+pageShown (gives p) = Pages.the-variants.Filled (record { count = length (p .items); last = p .last })
 
-unfoldable pub pageTold : Pages.Page → Outcome Counted
-pageTold (Pages.the-variants.Refused n) = refused n
-pageTold (Pages.the-variants.Filled p) = gives (record { count = p .count; last = p .last })
-
-unfoldable pub counted : Outcome PageOf → Outcome Counted
-counted (refused n) = refused n
-counted (gives p) = gives (record { count = length (p .items); last = p .last })
-
--- "The page comes back as the filled front of the caller's room; rooms behind it keep their contents."
-unfoldable pub pageRoom : Outcome PageOf → List ℕ → List ℕ
-pageRoom (refused n) room = room
-pageRoom (gives p) room = fronted (p .items) room
+abbrev pub putPage : PageOf → List ℕ → List ℕ
+putPage p room = fronted (p .items) room
 
 -- "Office: 12, 1, 2, 9, 10, 11, 7, 8."
 unfoldable pub officeCall : Store → ℕ → List ℕ → Outcome (List ℕ)

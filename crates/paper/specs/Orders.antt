@@ -112,6 +112,11 @@ unfoldable pub told : Answer → Found
 told Nothing = nothing
 told (AnItem k y x) = found (record { number = k; reference = y; distance = x })
 
+-- how it is shown by the declared answer
+unfoldable pub foundShown : Found → Answer
+foundShown nothing = Nothing
+foundShown (found a) = AnItem (a .number) (a .reference) (a .distance)
+
 unfoldable pub firstOf : List Item → Found
 firstOf [] = nothing
 firstOf (a ∷ l) = found a

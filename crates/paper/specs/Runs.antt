@@ -3,13 +3,13 @@ use Prim.Native.Nat.{ℕ, zero, suc, _+_, _*_}
 use mathlib.Core.List.{List}
 use lib.Dec.{leb, eqb}
 use lib.IntN.{ℤ}
-use lib.ListN.{length, getD, set}
+use lib.ListN.{length}
 use lib.Seq.{paste}
 use Rattle.paper.specs.declared.tables.Table.{Table}
 use Rattle.paper.specs.declared.tables.Made.{Made}
 use Rattle.paper.specs.declared.tables.Entered.{Entered}
 use Rattle.paper.specs.Points.{point}
-use Rattle.paper.specs.Tree.{Grown, entered, Store, store, apart, fits, sound}
+use Rattle.paper.specs.Tree.{Grown, entered, Store, store, Memory, memory, apart, referenceAt, withReference, fits, sound}
 use Rattle.paper.specs.Outcomes.{Outcome, refused, gives, must}
 
 -- a table before any claim: nothing is entered, and no node room is in use
@@ -21,10 +21,10 @@ emptyTable number measure d capacity =
 unfoldable pub makeCall : Store → Outcome Table
 makeCall s = must (fits s) 1 (gives (s .table))
 
--- the number and the values of each case
-abbrev pub madeTold : Made → Outcome Table
-madeTold (Made.Table t) = gives t
-madeTold (Made.Refused n) = refused n
+-- how its outcome is shown
+abbrev pub madeShown : Outcome Table → Made
+madeShown (refused n) = Made.Refused n
+madeShown (gives t) = Made.Table t
 
 -- the header with one claim more, and so many rooms in use
 abbrev pub counted : Table → ℕ → Table
@@ -43,12 +43,12 @@ withNext s references coordinates =
 -- one claim more, with reference r and place p, which are put behind the claims that stand there; what lies behind them is kept
 unfoldable pub added : Store → ℕ → List ℤ → Store
 added s r p =
-    withNext s (set (s .references) (s .table .count) r) (paste (s .coordinates) (s .table .count * s .table .d) p (s .table .d))
+    withNext s (withReference (s .references) (s .table .count) r) (paste (s .coordinates) (s .table .count * s .table .d) p (s .table .d))
 
 -- the first i claims of a run, one by one
 unfoldable pub addedRun : List ℕ → List ℤ → ℕ → Store → Store
 addedRun given places zero s = s
-addedRun given places (suc i) s = added (addedRun given places i s) (getD given i 0) (point (s .table .d) places i)
+addedRun given places (suc i) s = added (addedRun given places i s) (referenceAt given i) (point (s .table .d) places i)
 
 -- "Claims are entered in runs: a run goes in whole or not at all; an empty run is accepted." "Entering: 1, 2, 5, 3, 4."
 -- 5: "a run's coordinates not d for each reference"; 3: "count plus run over capacity"; 4: "no node room free", where each claim may need one
@@ -61,23 +61,10 @@ enterCall s given places =
     (must (leb (s .table .used + length given) (s .table .capacity)) 4
     (gives (addedRun given places (length given) s))))))
 
--- the number and the values of each case
-abbrev pub enteredTold : Entered → Outcome Table
-enteredTold (Entered.Table t) = gives t
-enteredTold (Entered.Refused n) = refused n
+-- how its outcome is shown, the header that comes back, and what it makes of lent memory
+abbrev pub enteredShown : Outcome Store → Entered
+enteredShown (refused n) = Entered.Refused n
+enteredShown (gives s) = Entered.Table (s .table)
 
--- what a call leaves: its answer, and the lent memory
-pub record Ending : Type 0 where
-  pub answer : Outcome Table
-  pub references : List ℕ
-  pub coordinates : List ℤ
-  pub rooms : List ℕ
-
-abbrev pub ending : Outcome Table → List ℕ → List ℤ → List ℕ → Ending
-ending answer references coordinates rooms =
-    record { answer = answer; references = references; coordinates = coordinates; rooms = rooms }
-
--- "A refusal returns its number only, and every table, list and room holds what it held before."
-abbrev pub endingOf : Store → Outcome Store → Ending
-endingOf s (refused n) = ending (refused n) (s .references) (s .coordinates) (s .rooms)
-endingOf s (gives x) = ending (gives (x .table)) (x .references) (x .coordinates) (x .rooms)
+abbrev pub putStore : Store → Memory → Memory
+putStore s before = memory (s .references) (s .coordinates) (s .rooms)

@@ -82,6 +82,18 @@ store t references coordinates rooms = record { table = t; references = referenc
 abbrev pub lent : Table → RefT (List ℕ) → RefT (List ℤ) → RefT (List ℕ) → Store
 lent t references coordinates rooms = store t (now references) (now coordinates) (now rooms)
 
+-- the lent memory alone
+pub record Memory : Type 0 where
+  pub references : List ℕ
+  pub coordinates : List ℤ
+  pub rooms : List ℕ
+
+abbrev pub memory : List ℕ → List ℤ → List ℕ → Memory
+memory references coordinates rooms = record { references = references; coordinates = coordinates; rooms = rooms }
+
+abbrev pub lentMemory : RefT (List ℕ) → RefT (List ℤ) → RefT (List ℕ) → Memory
+lentMemory references coordinates rooms = memory (now references) (now coordinates) (now rooms)
+
 -- how far claims j and k are apart, by measure and d, where the coordinates stand one after another
 unfoldable pub apart : ℕ → ℕ → List ℤ → ℕ → ℕ → ℕ
 apart measure d coordinates j k = distance (measureOf measure) d (drop (j * d) coordinates) (drop (k * d) coordinates)
@@ -89,12 +101,19 @@ apart measure d coordinates j k = distance (measureOf measure) d (drop (j * d) c
 abbrev pub apartIn : Store → ℕ → ℕ → ℕ
 apartIn s = apart (s .table .measure) (s .table .d) (s .coordinates)
 
+-- what a claim's row holds beside its place: its reference
+abbrev pub referenceAt : List ℕ → ℕ → ℕ
+referenceAt references k = getD references k 0
+
+abbrev pub withReference : List ℕ → ℕ → ℕ → List ℕ
+withReference references k reference = set references k reference
+
 -- the first n claims of the lent memory
 unfoldable pub claimsFrom : ℕ → ℕ → List ℕ → List ℤ → List Claim
 claimsFrom d zero references coordinates = []
 claimsFrom d (suc n) references coordinates =
     claimsFrom d n references coordinates
-    ++ (record { reference = getD references n 0; place = point d coordinates n } ∷ [])
+    ++ (record { reference = referenceAt references n; place = point d coordinates n } ∷ [])
 
 abbrev pub claimsIn : Store → List Claim
 claimsIn s = claimsFrom (s .table .d) (s .table .count) (s .references) (s .coordinates)

@@ -3,7 +3,6 @@
 ghost use Prim.Native.Nat.{_+_, _*_, _<_, _≤_};
 use paper::tables::Entered;
 use paper::tables::Table;
-use tree::runs::enter_run;
 
 const VALUES: [i32; 16] = [
     0,
@@ -154,7 +153,7 @@ fn enter(
     if places.len() < w {
         return t;
     }
-    match enter_run(
+    match nearby::enter(
         t,
         references,
         coordinates,

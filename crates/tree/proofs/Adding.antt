@@ -11,7 +11,7 @@ use lib.Seq.{length-take-le, take-append-le, drop-append-le, take-at, drop-at, t
 use Rattle.paper.specs.declared.points.Measure.{Measure}
 use Rattle.paper.specs.declared.tables.Table.{Table}
 use Rattle.paper.specs.Points.{measureOf, distance, Claim, point}
-use Rattle.paper.specs.Tree.{grown, built, Store, store, apart, apartIn, claimsFrom, claimsIn}
+use Rattle.paper.specs.Tree.{grown, built, Store, store, apart, apartIn, referenceAt, withReference, claimsFrom, claimsIn}
 use Rattle.paper.specs.Runs.{counted, nextGrown, added, addedRun}
 use Rattle.tree.specs.Rooms.{Enterable, IsBuilt}
 use Rattle.tree.specs.Soundness.{Good, Roomy}
@@ -82,7 +82,7 @@ unfolding point
 point-new l n p d inside h = place-new l (n * d) p d inside h
 
 claims-more : (d n : ℕ) (references : List ℕ) (coordinates : List ℤ)
-    → claimsFrom d (suc n) references coordinates ≡ claimsFrom d n references coordinates ++ (record { reference = getD references n 0; place = point d coordinates n } ∷ [])
+    → claimsFrom d (suc n) references coordinates ≡ claimsFrom d n references coordinates ++ (record { reference = referenceAt references n; place = point d coordinates n } ∷ [])
 unfolding claimsFrom
 claims-more d n references coordinates = refl
 
@@ -183,18 +183,19 @@ unfolding added
 added-kept s r p = record { number = refl; measure = refl; d = refl; capacity = refl; count = refl }
 
 -- the stores of `add` are `added`
-pub add-way : (s : Store) (r u : ℕ) (places l : List ℤ) (i : ℕ) (rooms : List ℕ)
+pub add-way : (s : Store) (r u : ℕ) (places l : List ℤ) (i : ℕ) (references rooms : List ℕ)
+    → references ≡ withReference (s .references) (s .table .count) r
     → l ≡ paste (s .coordinates) (s .table .count * s .table .d) (drop (i * s .table .d) places) (s .table .d)
     → rooms ≡ nextGrown s l .rooms → u ≡ nextGrown s l .used
-    → store (counted (s .table) u) (set (s .references) (s .table .count) r) l rooms ≡ added s r (point (s .table .d) places i)
+    → store (counted (s .table) u) references l rooms ≡ added s r (point (s .table .d) places i)
 unfolding added point
-add-way s r u places l i rooms e f h =
+add-way s r u places l i references rooms g e f h =
     let n : ℕ = s .table .count in
     let d : ℕ = s .table .d in
     let q : List ℤ = drop (i * d) places in
     let e' : l ≡ paste (s .coordinates) (n * d) (take d q) d =
     e ∙ ap (λ (x : List ℤ). take (n * d) (s .coordinates) ++ x ++ drop (n * d + d) (s .coordinates)) (sym (take-take d d q (le-refl d))) in
-    rw (f, h, ← e')
+    rw (g, f, h, ← e')
 
 -- a run
 
@@ -207,7 +208,7 @@ unfolding addedRun
 run-start given places s = refl
 
 pub run-next : (given : List ℕ) (places : List ℤ) (i : ℕ) (s now next : Store) → now ≡ addedRun given places i s → now .table .d ≡ s .table .d
-    → next ≡ added now (getD given i 0) (point (now .table .d) places i) → next ≡ addedRun given places (i + 1) s
+    → next ≡ added now (referenceAt given i) (point (now .table .d) places i) → next ≡ addedRun given places (i + 1) s
 unfolding addedRun
 run-next given places i s now next e q f = rw (add-one i, ← e, ← q) f
 

@@ -8,4 +8,4 @@ pub mod Places
 pub mod Front
 pub mod Known
 pub mod Adding
-pub mod Calls
+pub mod RunLaws

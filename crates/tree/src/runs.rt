@@ -1,19 +1,14 @@
-// Making an empty table, and entering claims in runs: whole, or not at all.
+// Entering claims in runs, where a table has room for them. What may be entered is tested above.
 ghost use mathlib.Core.Path.{_≡_};
-ghost use Prim.Native.Nat.{_+_, _*_, _<_, _≤_};
-ghost use lib.Dec.{eqb};
+ghost use Prim.Native.Nat.{_+_, _*_, _≤_};
 ghost use lib.ListN.{length, drop};
 ghost use lib.Seq.{paste};
-ghost use Rattle.paper.specs.Outcomes.{number as Outcomes·number};
 ghost use Rattle.paper.specs.Points.{point};
 ghost use Rattle.paper.specs.Tree.{lent};
-ghost use Rattle.paper.specs.Runs.{emptyTable, makeCall, madeTold, added, addedRun, enterCall, enteredTold, ending, endingOf};
+ghost use Rattle.paper.specs.Runs.{added, addedRun};
 ghost use Rattle.tree.specs.Soundness.{Roomy};
 use super::entering::enter;
-use super::soundness::is_fit;
-use super::soundness::is_sound;
-use paper::tables::Entered;
-use paper::tables::Made;
+use super::rows::put_reference;
 use paper::tables::Table;
 
 // Copies n coordinates from `from` of the given places to `at` of the lent memory.
@@ -44,7 +39,7 @@ pub fn add(
 {
     let k = t.count;
     let d = t.d;
-    references[k] = reference;
+    put_reference(references, k, reference);
     copy(coordinates, k * d, places, i * d, d);
     let used = enter(rooms, t.measure, d, coordinates, t.used, k as u64);
     Table {
@@ -77,94 +72,4 @@ pub fn add_run(
         i += 1;
     }
     held
-}
-
-// Whether there are d coordinates for each reference.
-pub fn is_whole(d: usize, given: usize, places: usize) -> bool
-    requires { ⌜ 1 ≤ d ⌝ }
-    ensures { λ r. ⌜ r ≡ eqb places (d * given) ⌝ }
-{
-    if places % d != 0 {
-        return false;
-    }
-    if places / d != given {
-        return false;
-    }
-    true
-}
-
-// Why a run is not entered, by its number, or 0 where it may be. Nothing is written.
-fn run_refusal(
-    t: Table,
-    references: &[u32],
-    coordinates: &[i32],
-    rooms: &[u64],
-    given: &[u32],
-    places: &[i32],
-) -> u8
-    ensures { λ r. ⌜ r ≡ Outcomes·number (enterCall (lent t (references .entry) (coordinates .entry) (rooms .entry)) (now (given .entry)) (now (places .entry))) ⌝ }
-{
-    if !is_fit(t, references, coordinates, rooms) {
-        return 1;
-    }
-    if !is_sound(t, coordinates, rooms) {
-        return 2;
-    }
-    if !is_whole(t.d, given.len(), places.len()) {
-        return 5;
-    }
-    if t.capacity - t.count < given.len() {
-        return 3;
-    }
-    if t.capacity - t.used < given.len() {
-        return 4;
-    }
-    0
-}
-
-// Enters a run of claims whole, or not at all.
-pub fn enter_run(
-    t: Table,
-    references: &mut [u32],
-    coordinates: &mut [i32],
-    rooms: &mut [u64],
-    given: &[u32],
-    places: &[i32],
-) -> Entered
-    ensures { λ r. ⌜ ending (enteredTold r) (now (references .exit)) (now (coordinates .exit)) (now (rooms .exit))
-        ≡ endingOf (lent t (references .entry) (coordinates .entry) (rooms .entry))
-        (enterCall (lent t (references .entry) (coordinates .entry) (rooms .entry)) (now (given .entry)) (now (places .entry))) ⌝ }
-{
-    let why = run_refusal(t, references, coordinates, rooms, given, places);
-    if why != 0 {
-        return Entered::Refused(why);
-    }
-    let after = add_run(t, references, coordinates, rooms, given, places);
-    Entered::Table(after)
-}
-
-// Makes an empty table: its header alone. The lent memory keeps what it holds.
-pub fn make_table(
-    number: u32,
-    measure: u8,
-    d: usize,
-    capacity: usize,
-    references: &[u32],
-    coordinates: &[i32],
-    rooms: &[u64],
-) -> Made
-    ensures { λ r. ⌜ madeTold r ≡ makeCall (lent (emptyTable number measure d capacity) (references .entry) (coordinates .entry) (rooms .entry)) ⌝ }
-{
-    let t = Table {
-        number: number,
-        measure: measure,
-        d: d,
-        capacity: capacity,
-        count: 0,
-        used: 0,
-    };
-    if !is_fit(t, references, coordinates, rooms) {
-        return Made::Refused(1);
-    }
-    Made::Table(t)
 }

@@ -16,7 +16,7 @@ use Rattle.paper.specs.Limits.{mostPlaces}
 
 -- the reference of claim k
 abbrev pub refOf : List ℕ → ℕ → ℕ
-refOf references k = getD references k 0
+refOf references k = referenceAt references k
 
 -- how far claim k is from the probe
 unfoldable pub distOf : ℕ → ℕ → List ℤ → List ℤ → ℕ → ℕ

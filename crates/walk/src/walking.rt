@@ -4,12 +4,7 @@ ghost use Rattle.tree.specs.Rooms.{Holds};
 ghost use Rattle.walk.specs.Walking.{distOf, distBy, InSight, apartBy, wayDown, WayAsk, Reached, AskWalked, Stepped, StepAsk, NodeAsk, SideAsk, PageAsk, AskFilled};
 use keep::Asked;
 use tree::rooms::field;
-
-fn wide(x: u32) -> u64
-    ensures { λ r. ⌜ r ≡ x ⌝ }
-{
-    x as u64
-}
+use tree::rows::reference;
 
 // How far claim k is from the probe.
 pub fn from_probe(measure: u8, d: usize, coordinates: &[i32], probe: &[i32], k: u64) -> u64
@@ -26,15 +21,8 @@ fn consider(references: &[u32], ask: Asked, k: u64, x: u64, room: &mut [u64], co
 {
     if keep::admits(ask, x, k) {
         let order = ask.order;
-        return keep::keep(
-            order,
-            ask.size,
-            room,
-            count,
-            k,
-            wide(references[k as usize]),
-            x,
-        );
+        let y = reference(references, k as usize);
+        return keep::keep(order, ask.size, room, count, k, y, x);
     }
     count
 }

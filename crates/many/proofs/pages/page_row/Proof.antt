@@ -56,7 +56,7 @@ part-page-here-end-2 c = search needs
 page-here-requires : tie.Need-page-here-requires
 page-here-requires c κs =
     let a = c .before .before .before .before .before .before .before .before .args in
-    row-askable (store (a .t) (a .references .now) (a .coordinates .now) (a .rooms .now)) (a .probes .now) (a .items .now) (a .i) (a .size) _ _ (c .before .before .before .before .before .before .before .before .pre)
+    row-askable (store (a .t) (a .references .now) (a .coordinates .now) (a .rooms .now)) (a .probes .now) (a .i) (a .size) _ _ _ (c .before .before .before .before .before .before .before .before .pre)
 
 put-page-requires : tie.Need-put-page-requires
 put-page-requires c κs = search needs

@@ -1,7 +1,5 @@
 -- `nearby::questions::nearest` meets its contract: 1, 2, 5, and then what the walk gives. Assumes nothing.
-use mathlib.Core.Path.{ap}
 use Rattle.paper.specs.declared.orders.Order.the-variants.{Near}
-use Rattle.paper.specs.Outcomes.{gives}
 use Rattle.paper.specs.Orders.{nearestOf}
 use Rattle.paper.specs.Tree.{store, claimsIn}
 use Rattle.paper.specs.Calls.{tableQuery, nearestCall}
@@ -18,13 +16,13 @@ returns : tie.Need-returns
 unfolding nearestCall
 returns c =
     let s = store (c .before .before .before .before .args .t) (c .before .before .before .before .args .references .now) (c .before .before .before .before .args .coordinates .now) (c .before .before .before .before .args .rooms .now) in
-    ask-refused s (c .before .before .before .before .args .probe .now) (gives (nearestOf (tableQuery (s .table) Near (c .before .before .before .before .args .probe .now) (c .before .before .before .before .args .reach)) (claimsIn s))) _ (c .before .table-refusal .ensures) (c .if1 .taken)
+    ask-refused s (c .before .before .before .before .args .probe .now) _ (c .before .table-refusal .ensures) (nearestOf (tableQuery (s .table) Near (c .before .before .before .before .args .probe .now) (c .before .before .before .before .args .reach)) (claimsIn s)) (c .if1 .taken)
 
 returns-2 : tie.Need-returns-2
 unfolding nearestCall
 returns-2 c =
     let s = store (c .before .before .before .before .before .before .args .t) (c .before .before .before .before .before .before .args .references .now) (c .before .before .before .before .before .before .args .coordinates .now) (c .before .before .before .before .before .before .args .rooms .now) in
-    ask-5 s (c .before .before .before .before .before .before .args .probe .now) (gives (nearestOf (tableQuery (s .table) Near (c .before .before .before .before .before .before .args .probe .now) (c .before .before .before .before .before .before .args .reach)) (claimsIn s))) _ (c .before .before .before .table-refusal .ensures) (c .before .before .if1 .left) (c .if2 .taken)
+    ask-5 s (c .before .before .before .before .before .before .args .probe .now) _ (c .before .before .before .table-refusal .ensures) (nearestOf (tableQuery (s .table) Near (c .before .before .before .before .before .before .args .probe .now) (c .before .before .before .before .before .before .args .reach)) (claimsIn s)) (c .before .before .if1 .left) (c .if2 .taken)
 
 nearest-requires : tie.Need-nearest-requires
 nearest-requires c κs = good-answerable (store (c .before .before .before .before .before .before .args .t) (c .before .before .before .before .before .before .args .references .now) (c .before .before .before .before .before .before .args .coordinates .now) (c .before .before .before .before .before .before .args .rooms .now)) (table-good _ _ (c .before .before .before .table-refusal .ensures) (c .before .before .if1 .left)) _ (c .if2 .left)
@@ -33,7 +31,7 @@ returns-3 : tie.Need-returns-3
 unfolding nearestCall
 returns-3 c =
     let s = store (c .before .before .before .before .before .before .before .args .t) (c .before .before .before .before .before .before .before .args .references .now) (c .before .before .before .before .before .before .before .args .coordinates .now) (c .before .before .before .before .before .before .before .args .rooms .now) in
-    ask-answered s (c .before .before .before .before .before .before .before .args .probe .now) (gives (nearestOf (tableQuery (s .table) Near (c .before .before .before .before .before .before .before .args .probe .now) (c .before .before .before .before .before .before .before .args .reach)) (claimsIn s))) _ (c .before .before .before .before .table-refusal .ensures) (c .before .before .before .if1 .left) (c .before .if2 .left) _ (ap gives (c .nearest .ensures))
+    ask-answered s (c .before .before .before .before .before .before .before .args .probe .now) _ (c .before .before .before .before .table-refusal .ensures) (nearestOf (tableQuery (s .table) Near (c .before .before .before .before .before .before .before .args .probe .now) (c .before .before .before .before .before .before .before .args .reach)) (claimsIn s)) (c .before .before .before .if1 .left) (c .before .if2 .left) _ (c .nearest .ensures)
 
 pub nearest-spec : {M : Type 1} → statement M
 nearest-spec =

@@ -1,25 +1,55 @@
--- `nearby::questions::page` meets its contract: refused before anything is written, or the walk's page. Assumes nothing.
+-- `nearby::questions::page` meets its contract: 1, 2, 5, 6, and then what a tested table gives. Assumes nothing.
+use lib.ListN.{length}
 use Rattle.paper.specs.Tree.{store}
-use Rattle.nearby.proofs.CallLaws.{page-refuses, page-answerable, page-pageable, page-filled}
+use Rattle.nearby.proofs.CallLaws.{page-refused, page-5, page-6, page-askable, page-tells}
 use borrow.Author.Needs.{needs}
 use Rattle.nearby.proofs.questions.page.Statement.{statement}
 use Rattle.nearby.proofs.questions.page.Tie as tie
 
-page-refusal-requires : tie.Need-page-refusal-requires
-page-refusal-requires c κs = search needs
+table-refusal-requires : tie.Need-table-refusal-requires
+table-refusal-requires c κs = search needs
 
 returns : tie.Need-returns
-returns c = page-refuses (store (c .before .before .before .before .before .args .t) (c .before .before .before .before .before .args .references .now) (c .before .before .before .before .before .args .coordinates .now) (c .before .before .before .before .before .args .rooms .now)) (c .before .before .before .before .before .args .probe .now) (c .before .before .before .before .before .args .reach) (c .before .before .before .before .before .args .place) (c .before .before .before .before .before .args .size) (c .before .before .before .before .before .args .room .now) _ (c .before .page-refusal .ensures) (c .if1 .taken)
+returns c =
+    let a = c .before .before .before .before .before .args in
+    let s = store (a .t) (a .references .now) (a .coordinates .now) (a .rooms .now) in
+    page-tells s (a .probe .now) (a .reach) (a .place) (a .size) (a .room .now) _ (page-refused s (a .probe .now) (a .reach) (a .place) (a .size) (length (a .room .now)) _ (c .before .table-refusal .ensures) (c .if1 .taken))
 
-page-of-requires : tie.Need-page-of-requires
-page-of-requires c κs = (page-answerable (store (c .before .before .before .before .before .before .args .t) (c .before .before .before .before .before .before .args .references .now) (c .before .before .before .before .before .before .args .coordinates .now) (c .before .before .before .before .before .before .args .rooms .now)) (c .before .before .before .before .before .before .args .probe .now) (c .before .before .before .before .before .before .args .reach) (c .before .before .before .before .before .before .args .place) (c .before .before .before .before .before .before .args .size) (c .before .before .before .before .before .before .args .room .now) _ (c .before .before .page-refusal .ensures) (c .before .if1 .left), page-pageable (store (c .before .before .before .before .before .before .args .t) (c .before .before .before .before .before .before .args .references .now) (c .before .before .before .before .before .before .args .coordinates .now) (c .before .before .before .before .before .before .args .rooms .now)) (c .before .before .before .before .before .before .args .probe .now) (c .before .before .before .before .before .before .args .reach) _ _ _ _ (c .before .before .page-refusal .ensures) (c .before .if1 .left))
+returns-2 : tie.Need-returns-2
+returns-2 c =
+    let a = c .before .before .before .before .before .before .before .args in
+    let s = store (a .t) (a .references .now) (a .coordinates .now) (a .rooms .now) in
+    page-tells s (a .probe .now) (a .reach) (a .place) (a .size) (a .room .now) _ (page-5 s (a .probe .now) (a .reach) (a .place) (a .size) (length (a .room .now)) _ (c .before .before .before .table-refusal .ensures) (c .before .before .if1 .left) (c .if2 .taken))
+
+size-holds-requires : tie.Need-size-holds-requires
+size-holds-requires c κs = search needs
+
+returns-3 : tie.Need-returns-3
+returns-3 c =
+    let a = c .before .before .before .before .before .before .before .before .before .args in
+    let s = store (a .t) (a .references .now) (a .coordinates .now) (a .rooms .now) in
+    page-tells s (a .probe .now) (a .reach) (a .place) (a .size) (a .room .now) _ (page-6 s (a .probe .now) (a .reach) (a .place) (a .size) (length (a .room .now)) _ (c .before .before .before .before .before .table-refusal .ensures) (c .before .before .before .before .if1 .left) (c .before .before .if2 .left) _ (c .before .size-holds .ensures) (c .if3 .taken))
+
+page-here-requires : tie.Need-page-here-requires
+page-here-requires c κs =
+    let a = c .before .before .before .before .before .before .before .before .before .before .args in
+    page-askable (store (a .t) (a .references .now) (a .coordinates .now) (a .rooms .now)) (a .probe .now) (a .reach) (a .place) (a .size) (length (a .room .now)) _ (c .before .before .before .before .before .before .table-refusal .ensures) (c .before .before .before .before .before .if1 .left) (c .before .before .before .if2 .left) _ (c .before .before .size-holds .ensures) (c .before .if3 .left)
 
 same-length : tie.Need-same-length
 same-length c = search needs
 
-returns-2 : tie.Need-returns-2
-returns-2 c = page-filled (store (c .before .before .before .before .before .before .before .before .before .args .t) (c .before .before .before .before .before .before .before .before .before .args .references .now) (c .before .before .before .before .before .before .before .before .before .args .coordinates .now) (c .before .before .before .before .before .before .before .before .before .args .rooms .now)) (c .before .before .before .before .before .before .before .before .before .args .probe .now) (c .before .before .before .before .before .before .before .before .before .args .reach) (c .before .before .before .before .before .before .before .before .before .args .place) (c .before .before .before .before .before .before .before .before .before .args .size) (c .before .before .before .before .before .before .before .before .before .args .room .now) _ (c .before .before .before .before .before .page-refusal .ensures) (c .before .before .before .before .if1 .left) _ _ (c .before .before .page-of .ensures)
+returns-4 : tie.Need-returns-4
+returns-4 c = c .before .before .page-here .ensures
 
 pub page-spec : {M : Type 1} → statement M
 page-spec =
-    tie.close (tie.spec page-refusal-requires returns page-of-requires same-length returns-2)
+    tie.close
+    (tie.spec
+    table-refusal-requires
+    returns
+    returns-2
+    size-holds-requires
+    returns-3
+    page-here-requires
+    same-length
+    returns-4)

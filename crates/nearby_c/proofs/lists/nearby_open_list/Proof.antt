@@ -1,6 +1,6 @@
 -- `nearby_c::lists::nearby_open_list` meets its contract: what `nearby::open_list` gives. Assumes nothing.
 use mathlib.Core.Path.{ap, _∙_}
-use Rattle.nearby_c.specs.Values.{listedBy}
+use Rattle.nearby_c.specs.Values.{openedOut}
 use borrow.Author.Needs.{needs}
 use Rattle.nearby_c.proofs.lists.nearby_open_list.Statement.{statement}
 use Rattle.nearby_c.proofs.lists.nearby_open_list.Tie as tie
@@ -12,7 +12,7 @@ list-out-requires : tie.Need-list-out-requires
 list-out-requires c κs = search needs
 
 returns : tie.Need-returns
-returns c = rw (c .list-out .ensures) (ap listedBy (c .before .before .open-list .ensures))
+returns c = rw (c .list-out .ensures) (ap openedOut (c .before .before .open-list .ensures))
 
 pub nearby-open-list-spec : {M : Type 1} → statement M
 nearby-open-list-spec = tie.close (tie.spec open-list-requires list-out-requires returns)

@@ -3,7 +3,9 @@ use lib.ListN.{length}
 use Rattle.paper.specs.declared.orders.Order.the-variants.{Near}
 use Rattle.paper.specs.Lists.{held, askingHeld}
 use Rattle.paper.specs.Codec.{lines}
-use Rattle.nearby_c.proofs.Exports.{telling-of}
+use Rattle.paper.specs.Lines.{wroteOf, putLine}
+use Rattle.nearby_c.specs.Values.{writtenOf}
+use Rattle.nearby_c.proofs.Exports.{shown-from}
 use borrow.Author.Needs.{needs}
 use Rattle.nearby_c.proofs.lists.nearby_write_ask.Statement.{statement}
 use Rattle.nearby_c.proofs.lists.nearby_write_ask.Tie as tie
@@ -21,7 +23,7 @@ same-length : tie.Need-same-length
 same-length c = search needs
 
 returns : tie.Need-returns
-returns c = telling-of (λ x. askingHeld lines Near (held x (c .before .before .before .before .before .before .before .before .args .room .now)) (c .before .before .before .before .before .before .before .before .args .size) (length (c .before .before .before .before .before .before .before .before .args .out .now))) _ _ _ _ _ _ (c .before .before .before .before .before .list-in .ensures) (c .before .before .before .write-ask .ensures) (c .line-of .ensures)
+returns c = shown-from writtenOf wroteOf putLine (λ x. askingHeld lines Near (held x (c .before .before .before .before .before .before .before .before .args .room .now)) (c .before .before .before .before .before .before .before .before .args .size) (length (c .before .before .before .before .before .before .before .before .args .out .now))) _ _ _ _ _ _ (c .before .before .before .before .before .list-in .ensures) (c .before .before .before .write-ask .ensures) (c .line-of .ensures)
 
 pub nearby-write-ask-spec : {M : Type 1} → statement M
 nearby-write-ask-spec =

@@ -1,6 +1,6 @@
 -- `nearby_c::questions::nearby_farthest` meets its contract: what `nearby::farthest` gives. Assumes nothing.
 use mathlib.Core.Path.{ap, _∙_}
-use Rattle.nearby_c.specs.Values.{foundOf}
+use Rattle.nearby_c.specs.Values.{itemOut}
 use borrow.Author.Needs.{needs}
 use Rattle.nearby_c.proofs.questions.nearby_farthest.Statement.{statement}
 use Rattle.nearby_c.proofs.questions.nearby_farthest.Tie as tie
@@ -12,7 +12,7 @@ item-of-requires : tie.Need-item-of-requires
 item-of-requires c κs = search needs
 
 returns : tie.Need-returns
-returns c = c .item-of .ensures ∙ ap foundOf (c .before .farthest .ensures)
+returns c = c .item-of .ensures ∙ ap itemOut (c .before .farthest .ensures)
 
 pub nearby-farthest-spec : {M : Type 1} → statement M
 nearby-farthest-spec = tie.close (tie.spec farthest-requires item-of-requires returns)

@@ -1,5 +1,7 @@
 -- `nearby_c::tables::nearby_enter` meets its contract: what `nearby::enter` gives. Assumes nothing.
-use Rattle.nearby_c.proofs.Exports.{entering}
+use Rattle.paper.specs.Runs.{enteredShown, putStore}
+use Rattle.nearby_c.specs.Values.{enteredOut}
+use Rattle.nearby_c.proofs.Exports.{shown-as}
 use borrow.Author.Needs.{needs}
 use Rattle.nearby_c.proofs.tables.nearby_enter.Statement.{statement}
 use Rattle.nearby_c.proofs.tables.nearby_enter.Tie as tie
@@ -20,7 +22,7 @@ same-length-3 : tie.Need-same-length-3
 same-length-3 c = search needs
 
 returns : tie.Need-returns
-returns c = entering _ _ (c .before .before .before .before .before .before .enter .result) _ _ _ _ (c .before .before .before .before .before .before .enter .ensures) (c .table-entered .ensures)
+returns c = shown-as enteredOut enteredShown putStore _ _ _ _ _ (c .before .before .before .before .before .before .enter .ensures) (c .table-entered .ensures)
 
 pub nearby-enter-spec : {M : Type 1} → statement M
 nearby-enter-spec =

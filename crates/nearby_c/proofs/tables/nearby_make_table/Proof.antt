@@ -1,6 +1,6 @@
 -- `nearby_c::tables::nearby_make_table` meets its contract: what `nearby::make_table` gives. Assumes nothing.
 use mathlib.Core.Path.{ap, _∙_}
-use Rattle.nearby_c.specs.Values.{tabled}
+use Rattle.nearby_c.specs.Values.{madeOut}
 use borrow.Author.Needs.{needs}
 use Rattle.nearby_c.proofs.tables.nearby_make_table.Statement.{statement}
 use Rattle.nearby_c.proofs.tables.nearby_make_table.Tie as tie
@@ -12,7 +12,7 @@ table-made-requires : tie.Need-table-made-requires
 table-made-requires c κs = search needs
 
 returns : tie.Need-returns
-returns c = c .table-made .ensures ∙ ap tabled (c .before .make-table .ensures)
+returns c = c .table-made .ensures ∙ ap madeOut (c .before .make-table .ensures)
 
 pub nearby-make-table-spec : {M : Type 1} → statement M
 nearby-make-table-spec = tie.close (tie.spec make-table-requires table-made-requires returns)

@@ -1,7 +1,6 @@
 -- `nearby_c::values::table_entered` meets its contract: the table, or a refusal beside zeros. Assumes nothing.
 use mathlib.Core.Path.{sym, ap, _∙_}
-use Rattle.paper.specs.Runs.{enteredTold}
-use Rattle.nearby_c.specs.Values.{tabled}
+use Rattle.nearby_c.specs.Values.{enteredOut}
 use borrow.Author.Needs.{needs}
 use Rattle.nearby_c.proofs.values.table_entered.Statement.{statement}
 use Rattle.nearby_c.proofs.values.table_entered.Tie as tie
@@ -16,10 +15,10 @@ no-table-requires : tie.Need-no-table-requires
 no-table-requires c κs = search needs
 
 returns : tie.Need-returns
-returns c = sym (ap (λ x. tabled (enteredTold x)) (c .before .e .given .1))
+returns c = sym (ap enteredOut (c .before .e .given .1))
 
 returns-2 : tie.Need-returns-2
-returns-2 c = c .no-table .ensures ∙ sym (ap (λ x. tabled (enteredTold x)) (c .before .before .e2 .given .1))
+returns-2 c = c .no-table .ensures ∙ sym (ap enteredOut (c .before .before .e2 .given .1))
 
 pub table-entered-spec : {M : Type 1} → statement M
 table-entered-spec =

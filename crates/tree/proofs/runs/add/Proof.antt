@@ -13,26 +13,23 @@ use Rattle.tree.proofs.runs.add.Tie as tie
 inside : (s : Store) → Roomy s 1 → s .table .count * s .table .d + s .table .d ≤ length (s .coordinates)
 inside s p = good-end s (p .good) (omega (arith, p .free))
 
-mul-references : tie.Need-mul-references
-mul-references c = search needs
-
-slice-write-references : tie.Need-slice-write-references
-slice-write-references c = search needs
+put-reference-requires : tie.Need-put-reference-requires
+put-reference-requires c κs = search needs
 
 mul-copy : tie.Need-mul-copy
-mul-copy c = let a = c .before .before .before .args in record { fits = omega (arith, inside (store (a .t) (a .references .now) (a .coordinates .now) (a .rooms .now)) (c .before .before .before .pre .0)) }
+mul-copy c = let a = c .before .before .before .before .before .before .before .args in record { fits = omega (arith, inside (store (a .t) (a .references .now) (a .coordinates .now) (a .rooms .now)) (c .before .before .before .before .before .before .before .pre .0)) }
 
 mul-copy-2 : tie.Need-mul-copy-2
 mul-copy-2 c = search needs
 
 copy-requires : tie.Need-copy-requires
-copy-requires c κs = (inside _ (c .before .before .before .pre .0), c .before .before .before .pre .1)
+copy-requires c κs = (inside _ (c .before .before .before .before .before .before .before .pre .0), c .before .before .before .before .before .before .before .pre .1)
 
 enter-requires : tie.Need-enter-requires
-enter-requires c κs = let p = c .before .before .before .before .before .before .before .pre .0 in good-ready _ (p .good) (omega (arith, p .free)) _ (c .before .before .before .copy .kept .0)
+enter-requires c κs = let p = c .before .before .before .before .before .before .before .before .before .before .before .pre .0 in good-ready _ (p .good) (omega (arith, p .free)) _ (c .before .before .before .copy .kept .0)
 
-add-t11 : tie.Need-add-t11
-add-t11 c = search needs
+add-t16 : tie.Need-add-t16
+add-t16 c = search needs
 
 same-length : tie.Need-same-length
 same-length c = search needs
@@ -45,20 +42,19 @@ same-length-3 c = search needs
 
 returns : tie.Need-returns
 returns c =
-    let a = c .before .before .before .before .before .before .before .before .before .before .args in
-    add-way (store (a .t) (a .references .now) (a .coordinates .now) (a .rooms .now)) _ _ _ _ _ _ (c .before .before .before .before .before .before .copy .ensures) (c .before .before .enter .ensures .0) (c .before .before .enter .ensures .1)
+    let a = c .before .before .before .before .before .before .before .before .before .before .before .before .before .before .args in
+    add-way (store (a .t) (a .references .now) (a .coordinates .now) (a .rooms .now)) _ _ _ _ _ _ _ (c .before .before .before .before .before .before .before .before .before .before .put-reference .ensures) (c .before .before .before .before .before .before .copy .ensures) (c .before .before .enter .ensures .0) (c .before .before .enter .ensures .1)
 
 pub add-spec : {M : Type 1} → statement M
 add-spec =
     tie.close
     (tie.spec
-    mul-references
-    slice-write-references
+    put-reference-requires
     mul-copy
     mul-copy-2
     copy-requires
     enter-requires
-    add-t11
+    add-t16
     same-length
     same-length-2
     same-length-3

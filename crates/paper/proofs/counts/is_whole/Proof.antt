@@ -1,8 +1,8 @@
--- `tree::runs::is_whole` meets its contract. Assumes nothing.
+-- `paper::counts::is_whole` meets its contract. Assumes nothing.
 use borrow.Author.Needs.{needs}
-use Rattle.tree.proofs.Calls.{whole-part, whole-other, whole-is}
-use Rattle.tree.proofs.runs.is_whole.Statement.{statement}
-use Rattle.tree.proofs.runs.is_whole.Tie as tie
+use Rattle.paper.proofs.Groups.{whole-part, whole-other, whole-is}
+use Rattle.paper.proofs.counts.is_whole.Statement.{statement}
+use Rattle.paper.proofs.counts.is_whole.Tie as tie
 
 rem-if1 : tie.Need-rem-if1
 rem-if1 c = search needs

@@ -1,7 +1,7 @@
--- `nearby::questions::size_holds` meets its contract: its tests are the definition's. Assumes nothing.
+-- `paper::orders::size_holds` meets its contract: its tests are the definition's. Assumes nothing.
 use borrow.Author.Tests.{le-leb, lt-leb}
-use Rattle.nearby.proofs.questions.size_holds.Statement.{statement}
-use Rattle.nearby.proofs.questions.size_holds.Tie as tie
+use Rattle.paper.proofs.orders.size_holds.Statement.{statement}
+use Rattle.paper.proofs.orders.size_holds.Tie as tie
 
 returns : tie.Need-returns
 returns c = rw (lt-leb 1 (c .before .args .size) (c .if1 .taken))

@@ -1,8 +1,8 @@
--- `tree::runs::make_table` meets its contract. Assumes nothing.
+-- `nearby::tables::make_table` meets its contract. Assumes nothing.
+use Rattle.nearby.proofs.RunWays.{made-1, made-table}
 use borrow.Author.Needs.{needs}
-use Rattle.tree.proofs.Calls.{made-1, made-table}
-use Rattle.tree.proofs.runs.make_table.Statement.{statement}
-use Rattle.tree.proofs.runs.make_table.Tie as tie
+use Rattle.nearby.proofs.tables.make_table.Statement.{statement}
+use Rattle.nearby.proofs.tables.make_table.Tie as tie
 
 is-fit-requires : tie.Need-is-fit-requires
 is-fit-requires c κs = search needs
@@ -14,4 +14,9 @@ returns-2 : tie.Need-returns-2
 returns-2 c = made-table _ _ (c .before .is-fit .ensures) (c .if1 .left)
 
 pub make-table-spec : {M : Type 1} → statement M
-make-table-spec = tie.close (tie.spec is-fit-requires returns returns-2)
+make-table-spec =
+    tie.close
+    (tie.spec
+    is-fit-requires
+    returns
+    returns-2)

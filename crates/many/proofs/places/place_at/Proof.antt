@@ -1,8 +1,8 @@
--- `many::paging::place_at` meets its contract. Assumes nothing.
+-- `many::places::place_at` meets its contract. Assumes nothing.
 use Rattle.many.proofs.PageWays.{place-start, place-after}
 use borrow.Author.Needs.{needs}
-use Rattle.many.proofs.paging.place_at.Statement.{statement}
-use Rattle.many.proofs.paging.place_at.Tie as tie
+use Rattle.many.proofs.places.place_at.Statement.{statement}
+use Rattle.many.proofs.places.place_at.Tie as tie
 
 mul-at : tie.Need-mul-at
 mul-at c = search needs

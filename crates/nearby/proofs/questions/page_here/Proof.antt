@@ -1,0 +1,38 @@
+-- `nearby::questions::page_here` meets its contract: refused before anything is written, or the walk's page. Assumes nothing.
+use Rattle.paper.specs.Tree.{store}
+use Rattle.nearby.proofs.CallLaws.{page-refuses, page-answerable, page-pageable, page-filled}
+use borrow.Author.Needs.{needs}
+use Rattle.nearby.proofs.questions.page_here.Statement.{statement}
+use Rattle.nearby.proofs.questions.page_here.Tie as tie
+
+place-refusal-requires : tie.Need-place-refusal-requires
+place-refusal-requires c κs = search needs
+
+returns : tie.Need-returns
+returns c =
+    let a = c .before .before .before .before .before .args in
+    page-refuses (store (a .t) (a .references .now) (a .coordinates .now) (a .rooms .now)) (a .probe .now) (a .reach) (a .place) (a .size) (a .room .now) (c .before .before .before .before .before .pre) _ (c .before .place-refusal .ensures) (c .if1 .taken)
+
+page-of-requires : tie.Need-page-of-requires
+page-of-requires c κs =
+    let a = c .before .before .before .before .before .before .args in
+    let s = store (a .t) (a .references .now) (a .coordinates .now) (a .rooms .now) in
+    (page-answerable s (a .probe .now) (a .reach) (a .place) (a .size) (a .room .now) (c .before .before .before .before .before .before .pre) _ (c .before .before .place-refusal .ensures) (c .before .if1 .left), page-pageable s (a .probe .now) (a .reach) (a .place) (a .size) (a .room .now) (c .before .before .before .before .before .before .pre) _ (c .before .before .place-refusal .ensures) (c .before .if1 .left))
+
+same-length : tie.Need-same-length
+same-length c = search needs
+
+returns-2 : tie.Need-returns-2
+returns-2 c =
+    let a = c .before .before .before .before .before .before .before .before .before .args in
+    page-filled (store (a .t) (a .references .now) (a .coordinates .now) (a .rooms .now)) (a .probe .now) (a .reach) (a .place) (a .size) (a .room .now) (c .before .before .before .before .before .before .before .before .before .pre) _ (c .before .before .before .before .before .place-refusal .ensures) (c .before .before .before .before .if1 .left) _ _ (c .before .before .page-of .ensures)
+
+pub page-here-spec : {M : Type 1} → statement M
+page-here-spec =
+    tie.close
+    (tie.spec
+    place-refusal-requires
+    returns
+    page-of-requires
+    same-length
+    returns-2)

@@ -1,0 +1,18 @@
+// Numbers that stand in groups of d: a run's coordinates, the probes of many questions.
+ghost use mathlib.Core.Path.{_≡_};
+ghost use Prim.Native.Nat.{_*_, _≤_};
+ghost use lib.Dec.{eqb};
+
+// Whether there are d of them for each of so many: refusal 5.
+pub fn is_whole(d: usize, given: usize, places: usize) -> bool
+    requires { ⌜ 1 ≤ d ⌝ }
+    ensures { λ r. ⌜ r ≡ eqb places (d * given) ⌝ }
+{
+    if places % d != 0 {
+        return false;
+    }
+    if places / d != given {
+        return false;
+    }
+    true
+}
