@@ -1,5 +1,5 @@
 -- What the program's tables and questions keep to, so that its arrays hold them. Definitions only.
-use Prim.Native.Nat.{ℕ, _<_, _≤_}
+use Prim.Native.Nat.{_<_, _≤_}
 use Rattle.paper.specs.declared.tables.Table.{Table}
 use Rattle.scan_beside.specs.declared.scan.Asking.{Asking}
 

@@ -136,6 +136,14 @@ fn name_all(given: &mut [u32; 48]) {
     }
 }
 
+// The table that entering gave, or the one that was there.
+fn given_back(r: Entered, t: Table) -> Table {
+    match r {
+        Entered::Table(full) => full,
+        Entered::Refused(_) => t,
+    }
+}
+
 // The first n references and w coordinates entered in one run.
 fn enter(
     t: Table,
@@ -153,17 +161,15 @@ fn enter(
     if places.len() < w {
         return t;
     }
-    match nearby::enter(
+    let run = nearby::enter(
         t,
         references,
         coordinates,
         rooms,
         &given[0..n],
         &places[0..w],
-    ) {
-        Entered::Table(full) => full,
-        Entered::Refused(_) => t,
-    }
+    );
+    given_back(run, t)
 }
 
 fn entered(

@@ -18,14 +18,14 @@ use Rattle.paper.specs.declared.tables.Table.{Table}
 use Rattle.paper.specs.Points.{measureOf, distance, Claim, noClaim, point}
 use Rattle.paper.specs.Orders.{Item, Query, rank, earlier, itemOf, listed, follows, rest, snapshotOf, following, pageOf, flat, fronted}
 use Rattle.paper.specs.Orders.{insert as put}
-use Rattle.paper.specs.Tree.{claimsFrom}
+use Rattle.paper.specs.Tree.{claimsFrom, referenceAt}
 use Rattle.paper.specs.Calls.{tableQuery}
 use Rattle.tree.proofs.Places.{claims-length}
 use Rattle.keep.specs.Page.{ranks, sooner, insert, sortedOf, firstSorted, items, Filled}
 use Rattle.keep.specs.Kept.{key, Rising, none, more}
 use Rattle.keep.proofs.Keeping.{sooner-true, sooner-false, key-sooner, key-differs, scan-rising}
 use Rattle.keep.proofs.Placing.{before-ranks}
-use Rattle.walk.specs.Walking.{refOf, distOf}
+use Rattle.walk.specs.Walking.{distOf}
 use Rattle.walk.specs.Asking.{Fills}
 use Rattle.orders.proofs.Sorted.{rest-insert}
 
@@ -135,7 +135,7 @@ distance-front m (suc d) e p q h = rw (distance-front m d e p q (omega arith), g
 module _ (t : Table) (order : Order) (reach : ℕ) (references : List ℕ) (coordinates probe : List ℤ) where
   -- claim k, measured
   pub item-is : (k : ℕ) → k < t .count
-      → itemOf (tableQuery t order probe reach) (claimsFrom (t .d) (t .count) references coordinates) k ≡ itemAt (refOf references) (distOf (t .measure) (t .d) coordinates probe) k
+      → itemOf (tableQuery t order probe reach) (claimsFrom (t .d) (t .count) references coordinates) k ≡ itemAt (referenceAt references) (distOf (t .measure) (t .d) coordinates probe) k
   unfolding itemOf distOf point
   item-is k h =
       ap
@@ -146,7 +146,7 @@ module _ (t : Table) (order : Order) (reach : ℕ) (references : List ℕ) (coor
       (distance-front (measureOf (t .measure)) (t .d) (t .d) (drop (k * t .d) coordinates) probe (le-refl (t .d)))
 
   module _ (place : Place) (small : t .count < 2 ^ 64) (stored : snapshotOf place (t .count) ≤ t .count) (ok : ℕ → Bool)
-      (oks : (k : ℕ) → ok k ≡ (ltb k (snapshotOf place (t .count)) && okIn (tableQuery t order probe reach) place (refOf references) (distOf (t .measure) (t .d) coordinates probe) k)) where
+      (oks : (k : ℕ) → ok k ≡ (ltb k (snapshotOf place (t .count)) && okIn (tableQuery t order probe reach) place (referenceAt references) (distOf (t .measure) (t .d) coordinates probe) k)) where
     abbrev Q : Query
     Q = tableQuery t order probe reach
 
@@ -154,7 +154,7 @@ module _ (t : Table) (order : Order) (reach : ℕ) (references : List ℕ) (coor
     Cs = claimsFrom (t .d) (t .count) references coordinates
 
     abbrev Ref : ℕ → ℕ
-    Ref = refOf references
+    Ref = referenceAt references
 
     abbrev Dist : ℕ → ℕ
     Dist = distOf (t .measure) (t .d) coordinates probe

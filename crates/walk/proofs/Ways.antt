@@ -10,7 +10,7 @@ use lib.IntN.{ℤ}
 use lib.ListN.{length, take}
 use lib.Seq.{take-nil}
 use Rattle.paper.specs.Orders.{rank}
-use Rattle.paper.specs.Tree.{fieldAt}
+use Rattle.paper.specs.Tree.{fieldAt, referenceAt}
 use Rattle.tree.proofs.Places.{located-at}
 use Rattle.tree.specs.Rooms.{Linked, Under, here, deeper, Holds, Searchable}
 use Rattle.keep.specs.declared.Asked.{Asked}
@@ -19,18 +19,18 @@ use Rattle.keep.specs.Kept.{none, Roomy, KeepIs}
 use Rattle.keep.specs.Skips.{admitted, capOf, boundOf, beyondOf, passedOf}
 use Rattle.keep.proofs.Keeping.{all-are-first}
 use Rattle.keep.proofs.Walks.{walked-still, walked-then, walked-fewer, step-taken, step-passed, beyond-wanted}
-use Rattle.walk.specs.Walking.{refOf, distBy, InSight, apartBy, okBy, rankBy, Metric, Below, Reached, wayDown, AskWalked, Stepped, Lent, WayAsk, NodeAsk, SideAsk, PageAsk, AskFilled}
+use Rattle.walk.specs.Walking.{distBy, InSight, apartBy, okBy, rankBy, Metric, Below, Reached, wayDown, AskWalked, Stepped, Lent, WayAsk, NodeAsk, SideAsk, PageAsk, AskFilled}
 use Rattle.walk.proofs.Skipping.{metric, rank-there, rank-back, rank-between, beyond-skips, passed-skips, ask-capped}
 
 -- the step of a claim that was measured
 module _ (ask : Asked) (references : List ℕ) (k x : ℕ) (o : List ℕ) (count : ℕ) where
-  pub consider-kept : (t : Bool) (y : ℕ) (o' : List ℕ) (r : ℕ) → k < ask .claims → t ≡ admitted ask x k → t ≡ true → y ≡ refOf references k
+  pub consider-kept : (t : Bool) (y : ℕ) (o' : List ℕ) (r : ℕ) → k < ask .claims → t ≡ admitted ask x k → t ≡ true → y ≡ referenceAt references k
       → KeepIs (ask .order) (ask .size) o count k y x o' r → Stepped ask references k x o count o' r
   consider-kept t y o' r hk is yes' py p =
       record {
         few = p .few;
         walked = λ dist px.
-            step-taken (ask .order) (refOf references) dist (okBy ask dist) (ask .claims) (ask .size) k y x o count o' r hk
+            step-taken (ask .order) (referenceAt references) dist (okBy ask dist) (ask .claims) (ask .size) k y x o count o' r hk
             (ap (λ (z : ℕ). admitted ask z k) (sym px) ∙ sym is ∙ yes') py px p;
       }
 
@@ -39,7 +39,7 @@ module _ (ask : Asked) (references : List ℕ) (k x : ℕ) (o : List ℕ) (count
       record {
         few = few;
         walked = λ dist px.
-            step-passed (ask .order) (refOf references) dist (okBy ask dist) (ask .claims) (ask .size) k o count few
+            step-passed (ask .order) (referenceAt references) dist (okBy ask dist) (ask .claims) (ask .size) k o count few
             (ap (λ (z : ℕ). admitted ask z k) (sym px) ∙ sym is ∙ no');
       }
 
@@ -128,7 +128,7 @@ module _ (ask : Asked) (references rooms : List ℕ) (e : ℕ → ℕ → ℕ) (
   unfolding boundOf
   side-beyond x y px py test =
       walked-still _ _ _ _ _ _ _ o count few
-      (λ base l g j c z. beyond-wanted (ask .order) (refOf references) dist (okBy ask dist) (ask .claims) (ask .size) (capOf (ask .order) (ask .reach)) base o count l j
+      (λ base l g j c z. beyond-wanted (ask .order) (referenceAt references) dist (okBy ask dist) (ask .claims) (ask .size) (capOf (ask .order) (ask .reach)) base o count l j
       some (ask-capped ask (dist j) j z) g
       (beyond-skips (ask .order) (boundOf ask o count) x y s (fieldAt rooms m (2 + s)) (e (fieldAt rooms m s - 1) j) (e (fieldAt rooms m (1 - s) - 1) j) (rankBy ask dist j) test
       (le-trans px (rank-there ask e dist metric (fieldAt rooms m s - 1) j)) (c .near) (c .closer)

@@ -4,19 +4,15 @@ use mathlib.Core.Path.{_≡_}
 use mathlib.Core.Bool.{Bool, cond}
 use mathlib.Core.List.{List}
 use lib.IntN.{ℤ}
-use lib.ListN.{length, getD, drop}
+use lib.ListN.{length, drop}
 use Rattle.paper.specs.Points.{measureOf, distance}
-use Rattle.paper.specs.Tree.{fieldAt, apart}
+use Rattle.paper.specs.Tree.{fieldAt, apart, referenceAt}
 use Rattle.tree.specs.Rooms.{Inside, Holds, Searchable, Neartree, Located}
 use Rattle.keep.specs.declared.Asked.{Asked}
 use Rattle.keep.specs.Page.{ranks, Filled}
 use Rattle.keep.specs.Kept.{Roomy, Walked}
 use Rattle.keep.specs.Skips.{admitted, boundOf, beyondOf, passedOf}
 use Rattle.paper.specs.Limits.{mostPlaces}
-
--- the reference of claim k
-abbrev pub refOf : List ℕ → ℕ → ℕ
-refOf references k = referenceAt references k
 
 -- how far claim k is from the probe
 unfoldable pub distOf : ℕ → ℕ → List ℤ → List ℤ → ℕ → ℕ
@@ -72,7 +68,7 @@ wayDown rooms ask m s x y o count =
 
 -- what the question's walk over the claims of C does
 abbrev pub AskWalked : Asked → List ℕ → (ℕ → ℕ) → (ℕ → Type 0) → List ℕ → ℕ → List ℕ → ℕ → Type 0
-AskWalked ask references dist C o count o' r = Walked (ask .order) (refOf references) dist (okBy ask dist) (ask .claims) (ask .size) C o count o' r
+AskWalked ask references dist C o count o' r = Walked (ask .order) (referenceAt references) dist (okBy ask dist) (ask .claims) (ask .size) C o count o' r
 
 -- the step of claim k, at distance x
 pub record Stepped (ask : Asked) (references : List ℕ) (k x : ℕ) (o : List ℕ) (count : ℕ) (o' : List ℕ) (r : ℕ) : Type 0 where
@@ -117,4 +113,4 @@ pub record PageAsk (references : List ℕ) (coordinates : List ℤ) (rooms : Lis
 
 -- the first so many admitted claims stand at the front of the room
 abbrev pub AskFilled : Asked → List ℕ → (ℕ → ℕ) → List ℕ → List ℕ → ℕ → Type 0
-AskFilled ask references dist o o' r = Filled (ask .order) (refOf references) dist (okBy ask dist) (ask .claims) (ask .size) o o' r
+AskFilled ask references dist o o' r = Filled (ask .order) (referenceAt references) dist (okBy ask dist) (ask .claims) (ask .size) o o' r

@@ -3,7 +3,7 @@ use mathlib.Core.Path.{_≡_, sym, _∙_}
 use mathlib.Core.Bool.{Bool, false, not}
 use native.Mathlib.Omega.{arith}
 use borrow.Author.Tests.{not-false}
-use Rattle.paper.specs.Tree.{Store, store, fits}
+use Rattle.paper.specs.Tree.{Store, fits}
 use Rattle.tree.specs.Soundness.{Fit}
 use Rattle.tree.proofs.Known.{fits-fit, sound-good}
 use Rattle.walk.proofs.Answers.{good-answerable}
@@ -32,9 +32,7 @@ returns-3 c = λ e. absurd (omega arith)
 returns-4 : tie.Need-returns-4
 returns-4 c =
     λ e.
-    let a = c .before .before .before .before .before .before .before .before .args in
-    let s : Store = store (a .t) (a .references .now) (a .coordinates .now) (a .rooms .now) in
-    let f = passed (store (a .t) (a .references .now) (a .coordinates .now) (a .rooms .now)) _ (c .before .before .before .before .before .is-fit .ensures) (c .before .before .before .before .if1 .left) in
+    let f = passed _ _ (c .before .before .before .before .before .is-fit .ensures) (c .before .before .before .before .if1 .left) in
     good-answerable _ (sound-good _ f (sym (c .before .before .before .is-sound .ensures _) ∙ not-false _ (c .before .before .if2 .left))) _ (c .if3 .left)
 
 pub closed-spec : {M : Type 1} → statement M
