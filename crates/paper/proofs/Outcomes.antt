@@ -39,17 +39,13 @@ number-is (refused m) n e h = ap refused (sym e)
 number-is (gives a) n e h = absurd (h e)
 
 -- Two calls that begin with the same tests: y ends behind them, and x goes on with z. One `behind` for each test gives the premise of
--- `stops` and `goes-on`: x is refused where y is, and otherwise is z.
+-- `stops`: x is refused where y is.
 pub behind : {A B : Type 0} (b : Bool) (n : ℕ) (x z : Outcome A) (y : Outcome B) → x ≡ onto y (λ u. z) → must b n x ≡ onto (must b n y) (λ u. z)
 behind true n x z y p = p
 behind false n x z y p = refl
 
-module _ {A B : Type 0} (x z : Outcome A) (y : Outcome B) (p : x ≡ onto y (λ u. z)) where
-  pub stops : (n : ℕ) → n ≡ number y → (n ≡ 0 → ⊥) → x ≡ refused n
-  stops n e h = p ∙ ap (λ (v : Outcome B). onto v (λ u. z)) (number-is y n e h)
-
-  pub goes-on : (b : B) → y ≡ gives b → x ≡ z
-  goes-on b e = p ∙ ap (λ (v : Outcome B). onto v (λ u. z)) e
+pub stops : {A B : Type 0} (x z : Outcome A) (y : Outcome B) → x ≡ onto y (λ u. z) → (n : ℕ) → n ≡ number y → (n ≡ 0 → ⊥) → x ≡ refused n
+stops x z y p n e h = p ∙ ap (λ v. onto v (λ u. z)) (number-is y n e h)
 
 -- what went through the first of two steps
 pub record Through (A B : Type 0) (x : Outcome A) (f : A → Outcome B) (b : B) : Type 0 where
