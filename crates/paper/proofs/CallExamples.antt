@@ -56,6 +56,7 @@ asking-marked =
     record {
       nearest = refl;
       within0 = refl;
+      within1 = refl;
       nearest5 = refl;
       nearest2 = refl;
       nearest1 = refl;

@@ -136,6 +136,7 @@ pub record AskingMarked : Type 0 where
   -- examples c and d
   pub nearest : nearestCall five four 5 ≡ gives (found (item 1 102 1))
   pub within0 : nearestCall five four 0 ≡ gives nothing
+  pub within1 : nearestCall five four 1 ≡ gives (found (item 1 102 1))
   pub nearest5 : nearestCall five wide 5 ≡ refused 5
   pub nearest2 : nearestCall changed wide 5 ≡ refused 2
   pub nearest1 : nearestCall short four 5 ≡ refused 1
