@@ -1,5 +1,7 @@
 pub mod Examples
 pub mod EndExamples
+pub mod CallExamples
+pub mod LineExamples
 pub mod ProgramExample
 pub mod Tests
 pub mod Ranges

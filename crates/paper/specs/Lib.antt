@@ -13,4 +13,6 @@ pub mod Codec
 pub mod Examples
 pub mod EndExamples
 pub mod Calls
+pub mod CallExamples
+pub mod LineExamples
 pub mod Program

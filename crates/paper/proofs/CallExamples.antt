@@ -1,0 +1,106 @@
+-- The public calls on tables compute what the examples say. Assumes nothing.
+use mathlib.Core.Path.{refl}
+use Rattle.paper.specs.Points.{measureOf, weigh, joined, distance, greatestOf, inRange, point}
+use Rattle.paper.specs.Orders.{rank, before, insert, itemOf, listed, follows, rest, following, pageOf, lastOf, firstOf, nearestOf, farthestOf, snapshotHolds, markHolds, flat}
+use Rattle.paper.specs.Tree.{cleared, fresh, nearSide, raise, placed, entered, built, apart, claimsFrom, fits, sameFront, afresh, sound}
+use Rattle.paper.specs.Runs.{makeCall, added, addedRun, enterCall}
+use Rattle.paper.specs.Frames.{be, num, glyph, digit, hexes, lineOf, frameOf, ended}
+use Rattle.paper.specs.Frames as Frames
+use Rattle.paper.specs.Fields.{head, front, coordBytes, coordsIn, places, scopeBytes, scopeIn, scopeOk, item, itemBytes}
+use Rattle.paper.specs.Lines.{headOk, behind, askRanges, askOk, askAt, answerFrame}
+use Rattle.paper.specs.Codec.{scopeOf, placeIn, answerLine, asked, readAsk}
+use Rattle.paper.specs.Ends.{matches, answerOf, answerTo, served}
+use Rattle.paper.specs.Calls.{nearestCall, farthestCall, thePage, pageCall, officeCall}
+use Rattle.paper.specs.CallExamples.{MakingMarked, EnteringMarked, AskingMarked, OfficeMarked}
+
+pub making-marked : MakingMarked
+unfolding makeCall fits inRange
+making-marked =
+    record {
+      made = refl;
+      measure0 = refl;
+      measure4 = refl;
+      d0 = refl;
+      d9 = refl;
+      capacity0 = refl;
+      capacity4097 = refl;
+      references5 = refl;
+      coordinates11 = refl;
+      rooms35 = refl;
+    }
+
+pub entering-marked : EnteringMarked
+unfolding measureOf weigh joined distance inRange point cleared fresh nearSide raise placed entered built apart fits sameFront afresh sound
+    added addedRun enterCall
+entering-marked =
+    record {
+      tested = refl;
+      changed2 = refl;
+      changedLast2 = refl;
+      over2 = refl;
+      short1 = refl;
+      entered = refl;
+      nothingEntered = refl;
+      full3 = refl;
+      uneven5 = refl;
+      first5 = refl;
+      first2 = refl;
+      first1 = refl;
+    }
+
+pub asking-marked : AskingMarked
+unfolding measureOf weigh joined distance greatestOf inRange point cleared fresh nearSide raise placed entered built apart claimsFrom fits sameFront
+    afresh sound rank before insert itemOf listed follows rest following pageOf lastOf firstOf nearestOf farthestOf snapshotHolds markHolds
+    nearestCall farthestCall thePage pageCall
+asking-marked =
+    record {
+      nearest = refl;
+      within0 = refl;
+      within1 = refl;
+      nearest5 = refl;
+      nearest2 = refl;
+      nearest1 = refl;
+      farthest = refl;
+      ofNone = refl;
+      farthest5 = refl;
+      farthest2 = refl;
+      farthest1 = refl;
+      page = refl;
+      next = refl;
+      far = refl;
+      size0 = refl;
+      size17 = refl;
+      snapshot7 = refl;
+      mark8 = refl;
+      beyond8 = refl;
+      room12 = refl;
+      first1 = refl;
+      first2 = refl;
+      first5 = refl;
+      first6 = refl;
+      first7 = refl;
+      first8 = refl;
+    }
+
+pub office-marked : OfficeMarked
+unfolding measureOf weigh joined distance inRange point cleared fresh nearSide raise placed entered built apart claimsFrom fits sameFront afresh sound
+    rank before insert itemOf listed follows rest following pageOf lastOf snapshotHolds markHolds flat
+    be num glyph digit hexes lineOf frameOf ended Frames.sound head front coordBytes coordsIn places scopeBytes scopeIn scopeOk item itemBytes
+    headOk behind askRanges askOk askAt answerFrame scopeOf placeIn answerLine asked readAsk matches answerOf answerTo served officeCall
+office-marked =
+    record {
+      answered = refl;
+      room12 = refl;
+      line9 = refl;
+      kind10 = refl;
+      table11 = refl;
+      snapshot7 = refl;
+      mark8 = refl;
+      first12 = refl;
+      first1 = refl;
+      first2 = refl;
+      first9 = refl;
+      first10 = refl;
+      first11 = refl;
+      first7 = refl;
+    }

@@ -1,0 +1,106 @@
+-- The public calls on lists and lines compute what the examples say. Assumes nothing.
+use mathlib.Core.Path.{refl}
+use Rattle.paper.specs.Points.{inRange}
+use Rattle.paper.specs.Orders.{rank, before, follows, flat, fronted}
+use Rattle.paper.specs.Frames.{be, num, glyph, digit, hexes, lineOf, frameOf, ended, sound}
+use Rattle.paper.specs.Fields.{head, front, coordBytes, coordsIn, places, scopeBytes, scopeIn, scopeOk, item, itemBytes, itemPlaces, numbersOk, referencesOk}
+use Rattle.paper.specs.Fields as Fields
+use Rattle.paper.specs.Lines.{bareLine, reading, headOk, behind, noScope, askFrame, askRanges, askFits, askOk, askAt, anAsk, noAsk, askOf, answerFrame, answerRanges, answerFits, countIn, answerOk, answerAt, anAnswer, noAnswer, answerOf, claimFrame, claimFits, claimOk, claimAt, aClaim, noClaim, claimOf}
+use Rattle.paper.specs.Codec.{scopeOf, placeIn, askLine, answered, readAnswer}
+use Rattle.paper.specs.Ends.{opening, presentPlace, every, rising, startedWell, soundIn, asking, sameProbe, sameQuery, samePlace, toPresent, pageHolds, joinedTo, taken, taking}
+use Rattle.paper.specs.Lists.{itemsIn, listing, unusedZero, openedAs, openingHeld, askingHeld, takingHeld, put}
+use Rattle.paper.specs.LineExamples.{ListsMarked, TakingMarked, LinesMarked, CallsMarked}
+use Rattle.paper.proofs.CallExamples.{making-marked, entering-marked, asking-marked, office-marked}
+
+pub lists-marked : ListsMarked
+unfolding openingHeld opening openedAs inRange unusedZero every itemsIn listing soundIn rising startedWell rank before presentPlace asking askingHeld
+    be glyph hexes lineOf head front coordBytes scopeBytes askFrame scopeOf askLine
+lists-marked =
+    record {
+      opened = refl;
+      open5 = refl;
+      open1 = refl;
+      openFirst1 = refl;
+      fresh = refl;
+      later = refl;
+      falling2 = refl;
+      whole16 = refl;
+      size0 = refl;
+      size17 = refl;
+      room12 = refl;
+      first2 = refl;
+      first16 = refl;
+      first6 = refl;
+    }
+
+pub taking-marked : TakingMarked
+unfolding inRange unusedZero every itemsIn listing soundIn rising startedWell rank before presentPlace follows sameProbe sameQuery samePlace toPresent pageHolds
+    joinedTo taken taking takingHeld flat fronted put be num glyph digit hexes lineOf frameOf ended sound coordsIn places scopeIn scopeOk
+    Fields.itemsIn itemPlaces numbersOk headOk behind answerRanges countIn answerOk answerAt placeIn answered readAnswer
+taking-marked =
+    record {
+      first = refl;
+      last = refl;
+      falling2 = refl;
+      line9 = refl;
+      kind10 = refl;
+      whole16 = refl;
+      table13 = refl;
+      late13 = refl;
+      mark13 = refl;
+      rising14 = refl;
+      after14 = refl;
+      reach14 = refl;
+      number14 = refl;
+      none14 = refl;
+      room15 = refl;
+      first2 = refl;
+      first9 = refl;
+      first10 = refl;
+      first16 = refl;
+      first13 = refl;
+      first14 = refl;
+    }
+
+pub lines-marked : LinesMarked
+unfolding inRange be num glyph digit hexes lineOf frameOf ended sound head front coordBytes coordsIn places scopeBytes scopeIn scopeOk item itemBytes
+    Fields.itemsIn itemPlaces numbersOk referencesOk bareLine reading headOk behind noScope askFrame askRanges askFits askOk askAt anAsk noAsk askOf
+    answerFrame answerRanges answerFits countIn answerOk answerAt anAnswer noAnswer answerOf claimFrame claimFits claimOk claimAt aClaim noClaim claimOf
+lines-marked =
+    record {
+      askWritten = refl;
+      ask12 = refl;
+      askSize10 = refl;
+      askProbe10 = refl;
+      askSnapshot10 = refl;
+      answerWritten = refl;
+      answer12 = refl;
+      answerMark10 = refl;
+      answerItems10 = refl;
+      claimWritten = refl;
+      claim12 = refl;
+      claim10 = refl;
+      askRead = refl;
+      askNot9 = refl;
+      askNot10 = refl;
+      askKind10 = refl;
+      answerRead = refl;
+      answerNot9 = refl;
+      answerNot10 = refl;
+      answerKind10 = refl;
+      claimRead = refl;
+      claimNot9 = refl;
+      claimKind10 = refl;
+    }
+
+pub calls-marked : CallsMarked
+calls-marked =
+    record {
+      making = making-marked;
+      entering = entering-marked;
+      asking = asking-marked;
+      office = office-marked;
+      lists = lists-marked;
+      taking = taking-marked;
+      lines = lines-marked;
+    }

@@ -1,0 +1,185 @@
+-- The public calls on tables by example, each worked by hand from document 01: what a call gives, and of two refusals that apply the earlier.
+-- The claims, probe and reach are those of its marked examples. Definitions only.
+use Prim.Native.Nat.{ℕ}
+use mathlib.Core.Path.{_≡_}
+use mathlib.Core.Bool.{true, false}
+use mathlib.Core.List.{List, [], _∷_, _++_}
+use lib.IntN.{ℤ, pos}
+use lib.ListN.{replicate}
+use Rattle.paper.specs.declared.orders.Order.the-variants.{Near, Far}
+use Rattle.paper.specs.declared.orders.Place.{Place}
+use Rattle.paper.specs.declared.orders.Place.the-variants.{Start}
+use Rattle.paper.specs.declared.tables.Table.{Table}
+use Rattle.paper.specs.Orders.{Found, nothing, found}
+use Rattle.paper.specs.Tree.{Store, store}
+use Rattle.paper.specs.Outcomes.{Outcome, refused, gives}
+use Rattle.paper.specs.Frames.{lineOf}
+use Rattle.paper.specs.Runs.{makeCall, enterCall}
+use Rattle.paper.specs.Calls.{onTable, nearestCall, farthestCall, PageOf, pageCall, officeCall}
+use Rattle.paper.specs.Examples.{item, after}
+use Rattle.paper.specs.EndExamples.{sampleAsk, sampleAnswer}
+
+-- ---- tables in lent memory
+
+abbrev pub header : ℕ → ℕ → ℕ → ℕ → ℕ → Table
+header measure d capacity count used =
+    record { number = 7; measure = measure; d = d; capacity = capacity; count = count; used = used }
+
+-- an empty table, in memory for so many references, coordinates and numbers of rooms
+abbrev pub empty : ℕ → ℕ → ℕ → ℕ → ℕ → ℕ → Store
+empty measure d capacity references coordinates rooms =
+    store (header measure d capacity 0 0) (replicate references 9) (replicate coordinates (pos 9)) (replicate rooms 9)
+
+-- one with room for six claims
+abbrev pub none : Store
+none = empty 1 1 6 6 6 36
+
+-- example a's rooms, its far distance and its last field as given; behind them and behind the claims stands what the memory held
+abbrev pub roomsOf : ℕ → ℕ → List ℕ
+roomsOf far field =
+    (1 ∷ 2 ∷ 0 ∷ far ∷ 0 ∷ 2 ∷ [])
+    ++ ((3 ∷ 4 ∷ 0 ∷ 1 ∷ 0 ∷ 3 ∷ [])
+    ++ ((5 ∷ 0 ∷ 0 ∷ 0 ∷ 0 ∷ field ∷ [])
+    ++ replicate 18 9))
+
+abbrev pub fiveIn : ℕ → List ℕ → Store
+fiveIn capacity rooms =
+    store
+    (header 1 1 capacity 5 3)
+    (101 ∷ 102 ∷ 103 ∷ 104 ∷ 105 ∷ 9 ∷ [])
+    (pos 2 ∷ pos 3 ∷ pos 9 ∷ pos 6 ∷ pos 5 ∷ pos 9 ∷ [])
+    rooms
+
+-- the five claims, entered
+abbrev pub five : Store
+five = fiveIn 6 (roomsOf 6 0)
+
+-- one field of a room changed: not sound
+abbrev pub changed : Store
+changed = fiveIn 6 (roomsOf 5 0)
+
+-- the same in memory that is too small for its capacity
+abbrev pub short : Store
+short = fiveIn 7 (roomsOf 5 0)
+
+-- what the test gives that every call on a table begins with
+abbrev pub passed : Store → Outcome Table
+passed s = onTable s (gives (s .table))
+
+-- ---- what is asked
+
+abbrev pub four : List ℤ
+four = pos 4 ∷ []
+
+-- a probe of two coordinates
+abbrev pub wide : List ℤ
+wide = pos 4 ∷ pos 4 ∷ []
+
+abbrev pub pageAt : Store → List ℤ → Place → ℕ → ℕ → Outcome PageOf
+pageAt s probe place size room = pageCall s Near probe 5 place size room
+
+-- the bytes of an ask, by its kind, table, from, snapshot, mark distance, mark number and page size
+abbrev pub askBytes : ℕ → ℕ → ℕ → ℕ → ℕ → ℕ → ℕ → List ℕ
+askBytes kind table from snapshot distance number size =
+    (kind ∷ 0 ∷ 0 ∷ 0 ∷ table ∷ 1 ∷ 1 ∷ 0 ∷ 0 ∷ 0 ∷ 4 ∷ 0 ∷ 0 ∷ 0 ∷ 0 ∷ 0 ∷ 0 ∷ 0 ∷ 5 ∷ from ∷ 0 ∷ snapshot ∷ [])
+    ++ (0 ∷ 0 ∷ 0 ∷ 0 ∷ 0 ∷ 0 ∷ 0 ∷ distance ∷ 0 ∷ number ∷ size ∷ [])
+
+abbrev pub asks : ℕ → ℕ → ℕ → ℕ → ℕ → ℕ → ℕ → List ℕ
+asks kind table from snapshot distance number size = lineOf (askBytes kind table from snapshot distance number size)
+
+-- no even run of digits, and no end
+abbrev pub noLine : List ℕ
+noLine = 48 ∷ []
+
+abbrev pub officeAt : Store → List ℕ → Outcome (List ℕ)
+officeAt s line = officeCall s 573 line
+
+-- ---- "Making an empty table: 1."
+
+pub record MakingMarked : Type 0 where
+  pub made : makeCall none ≡ gives (header 1 1 6 0 0)
+  -- "measure, d or capacity out of range"
+  pub measure0 : makeCall (empty 0 1 6 6 6 36) ≡ refused 1
+  pub measure4 : makeCall (empty 4 1 6 6 6 36) ≡ refused 1
+  pub d0 : makeCall (empty 1 0 6 6 6 36) ≡ refused 1
+  pub d9 : makeCall (empty 1 9 6 6 54 36) ≡ refused 1
+  pub capacity0 : makeCall (empty 1 1 0 6 6 36) ≡ refused 1
+  pub capacity4097 : makeCall (empty 1 1 4097 4097 4097 24582) ≡ refused 1
+  -- "or lent memory smaller than these need"
+  pub references5 : makeCall (empty 1 1 6 5 6 36) ≡ refused 1
+  pub coordinates11 : makeCall (empty 1 2 6 6 11 36) ≡ refused 1
+  pub rooms35 : makeCall (empty 1 1 6 6 6 35) ≡ refused 1
+
+-- ---- "Entering: 1, 2, 5, 3, 4."
+
+pub record EnteringMarked : Type 0 where
+  -- every call on a table begins with 1 and 2; more claims than the capacity are not sound either
+  pub tested : passed five ≡ gives (header 1 1 6 5 3)
+  pub changed2 : passed changed ≡ refused 2
+  pub changedLast2 : passed (fiveIn 6 (roomsOf 6 1)) ≡ refused 2
+  pub over2 : passed (fiveIn 4 (roomsOf 6 0)) ≡ refused 2
+  pub short1 : passed short ≡ refused 1
+  -- the five claims into a table that has none: example a's rooms
+  pub entered : enterCall none (101 ∷ 102 ∷ 103 ∷ 104 ∷ 105 ∷ []) (pos 2 ∷ pos 3 ∷ pos 9 ∷ pos 6 ∷ pos 5 ∷ []) ≡ gives five
+  -- "an empty run is accepted"
+  pub nothingEntered : enterCall five [] [] ≡ gives five
+  pub full3 : enterCall five (106 ∷ 107 ∷ []) (pos 4 ∷ pos 4 ∷ []) ≡ refused 3
+  pub uneven5 : enterCall five (106 ∷ []) (pos 4 ∷ pos 4 ∷ []) ≡ refused 5
+  -- with too many claims; with a room changed; with memory too small
+  pub first5 : enterCall five (106 ∷ 107 ∷ []) (pos 4 ∷ []) ≡ refused 5
+  pub first2 : enterCall changed (106 ∷ []) (pos 4 ∷ pos 4 ∷ []) ≡ refused 2
+  pub first1 : enterCall short (106 ∷ []) (pos 4 ∷ []) ≡ refused 1
+
+-- ---- "Nearest and farthest: 1, 2, 5." "Page: 1, 2, 5, 6, 7, 8, 12."
+
+pub record AskingMarked : Type 0 where
+  -- examples c and d
+  pub nearest : nearestCall five four 5 ≡ gives (found (item 1 102 1))
+  pub within0 : nearestCall five four 0 ≡ gives nothing
+  pub within1 : nearestCall five four 1 ≡ gives (found (item 1 102 1))
+  pub nearest5 : nearestCall five wide 5 ≡ refused 5
+  pub nearest2 : nearestCall changed wide 5 ≡ refused 2
+  pub nearest1 : nearestCall short four 5 ≡ refused 1
+  pub farthest : farthestCall five four ≡ gives (found (item 2 103 5))
+  -- "Nothing exactly if the table is empty"
+  pub ofNone : farthestCall none four ≡ gives nothing
+  pub farthest5 : farthestCall five wide ≡ refused 5
+  pub farthest2 : farthestCall changed wide ≡ refused 2
+  pub farthest1 : farthestCall short four ≡ refused 1
+  -- example e; in far order the first is the farthest
+  pub page : pageAt five four Start 2 6 ≡ gives (record { items = item 1 102 1 ∷ item 4 105 1 ∷ []; last = false })
+  pub next : pageAt five four (after 5 1 4) 2 6 ≡ gives (record { items = item 0 101 2 ∷ item 3 104 2 ∷ []; last = false })
+  pub far : pageCall five Far four 5 Start 1 3 ≡ gives (record { items = item 2 103 5 ∷ []; last = false })
+  pub size0 : pageAt five four Start 0 6 ≡ refused 6
+  pub size17 : pageAt five four Start 17 51 ≡ refused 6
+  -- examples h and g; a mark over reach; "output room under the page size in items"
+  pub snapshot7 : pageAt five four (after 6 1 4) 2 6 ≡ refused 7
+  pub mark8 : pageAt five four (after 5 2 4) 2 6 ≡ refused 8
+  pub beyond8 : pageCall five Near four 4 (after 5 5 2) 2 6 ≡ refused 8
+  pub room12 : pageAt five four Start 2 5 ≡ refused 12
+  -- of two the earlier
+  pub first1 : pageAt short wide Start 2 6 ≡ refused 1
+  pub first2 : pageAt changed wide Start 2 6 ≡ refused 2
+  pub first5 : pageAt five wide Start 0 6 ≡ refused 5
+  pub first6 : pageAt five four (after 6 1 4) 0 6 ≡ refused 6
+  pub first7 : pageAt five four (after 6 2 4) 2 6 ≡ refused 7
+  pub first8 : pageAt five four (after 5 2 4) 2 5 ≡ refused 8
+
+-- ---- "Office: 12, 1, 2, 9, 10, 11, 7, 8."
+
+pub record OfficeMarked : Type 0 where
+  pub answered : officeAt five sampleAsk ≡ gives sampleAnswer
+  pub room12 : officeCall five 572 sampleAsk ≡ refused 12
+  pub line9 : officeAt five noLine ≡ refused 9
+  pub kind10 : officeAt five (asks 2 7 0 0 0 0 2) ≡ refused 10
+  pub table11 : officeAt five (asks 1 8 0 0 0 0 2) ≡ refused 11
+  pub snapshot7 : officeAt five (asks 1 7 1 6 1 4 2) ≡ refused 7
+  pub mark8 : officeAt five (asks 1 7 1 5 2 4 2) ≡ refused 8
+  -- of two the earlier
+  pub first12 : officeCall short 572 sampleAsk ≡ refused 12
+  pub first1 : officeAt short sampleAsk ≡ refused 1
+  pub first2 : officeAt changed noLine ≡ refused 2
+  pub first9 : officeAt five (askBytes 2 7 0 0 0 0 2) ≡ refused 9
+  pub first10 : officeAt five (asks 1 8 0 0 0 0 17) ≡ refused 10
+  pub first11 : officeAt five (asks 1 8 1 6 1 4 2) ≡ refused 11
+  pub first7 : officeAt five (asks 1 7 1 6 2 4 2) ≡ refused 7

@@ -1,0 +1,231 @@
+-- The public calls on lists and lines by example, each worked by hand from document 01: what a call gives, and of two refusals that apply the
+-- earlier. The claims, probe and reach are those of its marked examples. Definitions only.
+use Prim.Native.Nat.{ℕ}
+use mathlib.Core.Path.{_≡_}
+use mathlib.Core.Bool.{Bool, true, false}
+use mathlib.Core.List.{List, [], _∷_, _++_}
+use lib.IntN.{ℤ, pos, negsuc}
+use lib.ListN.{replicate}
+use Rattle.paper.specs.declared.lines.Scope.{Scope}
+use Rattle.paper.specs.declared.lines.Ask.{Ask}
+use Rattle.paper.specs.declared.lines.Answer.{Answer}
+use Rattle.paper.specs.declared.lines.ClaimLine.{ClaimLine}
+use Rattle.paper.specs.declared.lists.List as lists
+use Rattle.paper.specs.declared.orders.Order.the-variants.{Near}
+use Rattle.paper.specs.Orders.{Query}
+use Rattle.paper.specs.Outcomes.{Outcome, refused, gives, number}
+use Rattle.paper.specs.Frames.{lineOf}
+use Rattle.paper.specs.Ends.{Listing}
+use Rattle.paper.specs.Lists.{Held, held, openingHeld, askingHeld, takingHeld, put}
+use Rattle.paper.specs.Lines.{bareLine, askFits, askFrame, anAsk, noAsk, askOf, answerFits, answerFrame, anAnswer, noAnswer, answerOf, claimFits, claimFrame, aClaim, noClaim, claimOf}
+use Rattle.paper.specs.Codec.{lines}
+use Rattle.paper.specs.Limits.{longestAsk, longestAnswer, longestClaim}
+use Rattle.paper.specs.EndExamples.{sampleAsk, sampleAnswer}
+use Rattle.paper.specs.CallExamples.{four, wide, noLine, askBytes, asks, MakingMarked, EnteringMarked, AskingMarked, OfficeMarked}
+
+-- ---- lists
+
+abbrev pub opens : ℕ → ℕ → List ℤ → Query
+opens measure d probe = record { order = Near; table = 7; measure = measure; d = d; probe = probe; reach = 5 }
+
+-- probe 4 in eight places, the next one as given
+abbrev pub probe : ℕ → List ℤ
+probe next = pos 4 ∷ pos next ∷ replicate 6 (pos 0)
+
+abbrev pub listOf : ℕ → Bool → ℕ → ℕ → Bool → lists.List
+listOf next started snapshot count complete =
+    record {
+      table = 7;
+      measure = 1;
+      d = 1;
+      probe = probe next;
+      reach = 5;
+      started = started;
+      snapshot = snapshot;
+      count = count;
+      complete = complete;
+    }
+
+-- the first page of 2, and behind it the room as it was
+abbrev pub pageRoom : ℕ → List ℕ
+pageRoom behind = (1 ∷ 102 ∷ 1 ∷ 4 ∷ 105 ∷ 1 ∷ []) ++ replicate behind 9
+
+-- a list that was just opened, in a room for so many items
+abbrev pub openedIn : List ℕ → Held
+openedIn room = held (listOf 0 false 0 0 false) room
+
+-- after the first page of 2, and complete after it; room for four items
+abbrev pub begun : Held
+begun = held (listOf 0 true 5 2 false) (pageRoom 6)
+
+abbrev pub whole : Held
+whole = held (listOf 0 true 5 2 true) (pageRoom 6)
+
+-- complete, with an unused probe place that is not 0: not sound
+abbrev pub spoiled : Held
+spoiled = held (listOf 1 true 5 2 true) (pageRoom 6)
+
+-- two items that do not rise: not sound
+abbrev pub falling : Held
+falling = held (listOf 0 true 5 2 false) (4 ∷ 105 ∷ 1 ∷ 1 ∷ 102 ∷ 1 ∷ [])
+
+abbrev pub asked : Held → ℕ → ℕ → Outcome (List ℕ)
+asked s size out = askingHeld lines Near s size out
+
+abbrev pub took : Held → List ℕ → Outcome Listing
+took s line = takingHeld lines Near s line
+
+-- the number that taking gives back, and what is held afterwards
+abbrev pub takes : Held → List ℕ → ℕ × Held
+takes s line = (number (took s line), put s (took s line))
+
+-- ---- lines
+
+-- an item's bytes
+abbrev pub itemAt : ℕ → ℕ → ℕ → List ℕ
+itemAt number reference distance =
+    0 ∷ number ∷ 0 ∷ 0 ∷ 0 ∷ reference ∷ 0 ∷ 0 ∷ 0 ∷ 0 ∷ 0 ∷ 0 ∷ 0 ∷ distance ∷ []
+
+-- the bytes of an answer, by its table, from, snapshot, mark distance, mark number, last, item count and items
+abbrev pub answerBytes : ℕ → ℕ → ℕ → ℕ → ℕ → ℕ → ℕ → List ℕ → List ℕ
+answerBytes table from snapshot distance number last count items =
+    (2 ∷ 0 ∷ 0 ∷ 0 ∷ table ∷ 1 ∷ 1 ∷ 0 ∷ 0 ∷ 0 ∷ 4 ∷ 0 ∷ 0 ∷ 0 ∷ 0 ∷ 0 ∷ 0 ∷ 0 ∷ 5 ∷ from ∷ 0 ∷ snapshot ∷ [])
+    ++ ((0 ∷ 0 ∷ 0 ∷ 0 ∷ 0 ∷ 0 ∷ 0 ∷ distance ∷ 0 ∷ number ∷ last ∷ count ∷ []) ++ items)
+
+abbrev pub answers : ℕ → ℕ → ℕ → ℕ → ℕ → ℕ → ℕ → List ℕ → List ℕ
+answers table from snapshot distance number last count items =
+    lineOf (answerBytes table from snapshot distance number last count items)
+
+-- the second page of 2 in order, and its items exchanged
+abbrev pub second : List ℕ
+second = itemAt 0 101 2 ++ itemAt 3 104 2
+
+abbrev pub exchanged : List ℕ
+exchanged = itemAt 3 104 2 ++ itemAt 0 101 2
+
+-- seventeen items, one more than an answer has
+abbrev pub seventeen : List ℕ
+seventeen = replicate 238 0
+
+-- a claim with reference 101, at -2
+abbrev pub claimBytes : ℕ → List ℕ
+claimBytes kind = kind ∷ 0 ∷ 0 ∷ 0 ∷ 7 ∷ 1 ∷ 1 ∷ 0 ∷ 0 ∷ 0 ∷ 101 ∷ 255 ∷ 255 ∷ 255 ∷ 254 ∷ []
+
+abbrev pub scope : ℕ → ℕ → ℕ → ℕ → Scope
+scope from snapshot distance number =
+    record { reach = 5; from = from; snapshot = snapshot; distance = distance; number = number }
+
+abbrev pub askValue : Ask
+askValue = record { table = 7; measure = 1; d = 1; probe = probe 0; scope = scope 0 0 0 0; size = 2 }
+
+abbrev pub answerValue : Answer
+answerValue =
+    record {
+      table = 7;
+      measure = 1;
+      d = 1;
+      probe = probe 0;
+      scope = scope 0 5 0 0;
+      last = 0;
+      count = 2;
+      items = (1 ∷ 102 ∷ 1 ∷ 4 ∷ 105 ∷ 1 ∷ []) ++ replicate 42 0;
+    }
+
+abbrev pub claimValue : ClaimLine
+claimValue = record { table = 7; measure = 1; d = 1; reference = 101; coordinates = negsuc 1 ∷ replicate 7 (pos 0) }
+
+abbrev pub writesAsk : List ℤ → Scope → ℕ → ℕ → Outcome (List ℕ)
+writesAsk cs p size out = bareLine (askFits 1 1 cs p size) longestAsk (askFrame 1 7 1 1 cs p size) out
+
+abbrev pub writesAnswer : Scope → ℕ → List ℕ → ℕ → Outcome (List ℕ)
+writesAnswer p count ns out = bareLine (answerFits 1 1 four p 0 count ns) longestAnswer (answerFrame 2 7 1 1 four p 0 count ns) out
+
+abbrev pub writesClaim : List ℤ → ℕ → Outcome (List ℕ)
+writesClaim cs out = bareLine (claimFits 1 1 cs) longestClaim (claimFrame 7 1 1 101 cs) out
+
+-- ---- "Opening a list: 1, 5." "Writing an ask: 2, 16, 6, 12."
+
+pub record ListsMarked : Type 0 where
+  pub opened : openingHeld (opens 1 1 four) ≡ gives (listOf 0 false 0 0 false)
+  pub open5 : openingHeld (opens 1 1 wide) ≡ refused 5
+  pub open1 : openingHeld (opens 4 1 four) ≡ refused 1
+  pub openFirst1 : openingHeld (opens 1 9 four) ≡ refused 1
+  -- "from 0 while not started; afterwards from 1, its snapshot, and its last item's distance and number as mark"
+  pub fresh : asked (openedIn []) 2 123 ≡ gives sampleAsk
+  pub later : asked begun 2 123 ≡ gives (asks 1 7 1 5 1 4 2)
+  pub falling2 : asked falling 2 123 ≡ refused 2
+  pub whole16 : asked whole 2 123 ≡ refused 16
+  pub size0 : asked begun 0 123 ≡ refused 6
+  pub size17 : asked begun 17 123 ≡ refused 6
+  pub room12 : asked begun 2 122 ≡ refused 12
+  -- of two the earlier
+  pub first2 : asked spoiled 2 123 ≡ refused 2
+  pub first16 : asked whole 0 123 ≡ refused 16
+  pub first6 : asked begun 0 122 ≡ refused 6
+
+-- ---- "Taking: 2, 9, 10, 16, 13, 14, 15."
+
+pub record TakingMarked : Type 0 where
+  -- the first page fixes the snapshot, a last one makes the list complete; what stands behind the items stays
+  pub first : takes (openedIn (replicate 12 9)) sampleAnswer ≡ (0, begun)
+  pub last : takes begun (answers 7 1 5 1 4 1 1 (itemAt 0 101 2)) ≡ (0, held (listOf 0 true 5 3 true) (pageRoom 0 ++ (0 ∷ 101 ∷ 2 ∷ 9 ∷ 9 ∷ 9 ∷ [])))
+  pub falling2 : took falling (answers 7 1 5 1 1 0 2 second) ≡ refused 2
+  pub line9 : took begun noLine ≡ refused 9
+  pub kind10 : took begun sampleAsk ≡ refused 10
+  pub whole16 : took whole (answers 7 1 5 1 4 0 2 second) ≡ refused 16
+  -- another table; a late first answer; another mark
+  pub table13 : took begun (answers 8 1 5 1 4 0 2 second) ≡ refused 13
+  pub late13 : took begun sampleAnswer ≡ refused 13
+  pub mark13 : took begun (answers 7 1 5 1 1 0 2 second) ≡ refused 13
+  -- not rising; not after the mark; over reach; numbered at the snapshot; none and not last
+  pub rising14 : took begun (answers 7 1 5 1 4 0 2 exchanged) ≡ refused 14
+  pub after14 : took begun (answers 7 1 5 1 4 0 1 (itemAt 3 104 1)) ≡ refused 14
+  pub reach14 : took begun (answers 7 1 5 1 4 0 1 (itemAt 2 103 6)) ≡ refused 14
+  pub number14 : took begun (answers 7 1 5 1 4 0 1 (itemAt 5 106 2)) ≡ refused 14
+  pub none14 : took begun (answers 7 1 5 1 4 0 0 []) ≡ refused 14
+  pub room15 : took (held (listOf 0 true 5 2 false) (pageRoom 3)) (answers 7 1 5 1 4 0 2 second) ≡ refused 15
+  -- of two the earlier; a refusal leaves all as it was
+  pub first2 : took spoiled noLine ≡ refused 2
+  pub first9 : took begun (askBytes 1 7 0 0 0 0 2) ≡ refused 9
+  pub first10 : took whole sampleAsk ≡ refused 10
+  pub first16 : takes whole sampleAnswer ≡ (16, whole)
+  pub first13 : took begun (answers 8 1 5 1 4 0 2 exchanged) ≡ refused 13
+  pub first14 : took (held (listOf 0 true 5 2 false) (pageRoom 3)) (answers 7 1 5 1 4 0 2 exchanged) ≡ refused 14
+
+-- ---- "Bare line writers: 10, 12. Bare line readers: 9, 10; they give the fields by value, unused places 0."
+
+pub record LinesMarked : Type 0 where
+  pub askWritten : writesAsk four (scope 0 0 0 0) 2 123 ≡ gives sampleAsk
+  pub ask12 : writesAsk four (scope 0 0 0 0) 2 122 ≡ refused 12
+  pub askSize10 : writesAsk four (scope 0 0 0 0) 17 122 ≡ refused 10
+  pub askProbe10 : writesAsk wide (scope 0 0 0 0) 2 123 ≡ refused 10
+  pub askSnapshot10 : writesAsk four (scope 0 5 0 0) 2 123 ≡ refused 10
+  pub answerWritten : writesAnswer (scope 0 5 0 0) 2 (1 ∷ 102 ∷ 1 ∷ 4 ∷ 105 ∷ 1 ∷ []) 573 ≡ gives sampleAnswer
+  pub answer12 : writesAnswer (scope 0 5 0 0) 0 [] 572 ≡ refused 12
+  pub answerMark10 : writesAnswer (scope 0 5 1 0) 0 [] 572 ≡ refused 10
+  pub answerItems10 : writesAnswer (scope 0 5 0 0) 2 (1 ∷ 102 ∷ 1 ∷ []) 573 ≡ refused 10
+  pub claimWritten : writesClaim (negsuc 1 ∷ []) 87 ≡ gives (lineOf (claimBytes 3))
+  pub claim12 : writesClaim (negsuc 1 ∷ []) 86 ≡ refused 12
+  pub claim10 : writesClaim wide 86 ≡ refused 10
+  pub askRead : askOf 1 sampleAsk ≡ anAsk askValue
+  pub askNot9 : askOf 1 (askBytes 1 7 0 0 0 0 17) ≡ noAsk 9
+  pub askNot10 : askOf 1 (asks 1 7 0 0 0 0 17) ≡ noAsk 10
+  pub askKind10 : askOf 1 sampleAnswer ≡ noAsk 10
+  pub answerRead : answerOf 2 sampleAnswer ≡ anAnswer answerValue
+  pub answerNot9 : answerOf 2 noLine ≡ noAnswer 9
+  pub answerNot10 : answerOf 2 (answers 7 0 5 0 0 0 17 seventeen) ≡ noAnswer 10
+  pub answerKind10 : answerOf 2 sampleAsk ≡ noAnswer 10
+  pub claimRead : claimOf (lineOf (claimBytes 3)) ≡ aClaim claimValue
+  pub claimNot9 : claimOf (claimBytes 1) ≡ noClaim 9
+  pub claimKind10 : claimOf (lineOf (claimBytes 1)) ≡ noClaim 10
+
+-- ---- the public calls together
+
+pub record CallsMarked : Type 0 where
+  pub making : MakingMarked
+  pub entering : EnteringMarked
+  pub asking : AskingMarked
+  pub office : OfficeMarked
+  pub lists : ListsMarked
+  pub taking : TakingMarked
+  pub lines : LinesMarked
