@@ -1,20 +1,14 @@
 -- What a call of `nearby` promises, with its cases as numbers. Assumes nothing.
 use Prim.Native.Nat.{ℕ}
-use mathlib.Core.Path.{_≡_, sym, ap, subst, _∙_}
+use mathlib.Core.Path.{_≡_, ap, subst, _∙_}
 use mathlib.Core.List.{List}
 use Rattle.paper.specs.declared.lists.List as lists
 use Rattle.paper.specs.declared.lists.Taken.{Taken}
-use Rattle.paper.specs.declared.orders.Found as answers
-use Rattle.paper.specs.declared.orders.Nearest as Answers
-use Rattle.paper.specs.declared.orders.Page as Pages
-use Rattle.paper.specs.declared.orders.Paged.{Paged}
 use Rattle.paper.specs.Outcomes.{Outcome, Promise}
-use Rattle.paper.specs.Fields.{flagOf}
 use Rattle.paper.specs.Lists.{Takes, takenAs, putItems}
 use Rattle.paper.specs.Ends as Ends
-use Rattle.nearby_c.specs.declared.values.Filled.{Filled}
-use Rattle.nearby_c.specs.declared.values.Listed.{Listed}
-use Rattle.nearby_c.specs.Values.{itemOut, filledOut, takenOut, TakesOut}
+use Rattle.c_values.specs.declared.Listed.{Listed}
+use Rattle.c_values.specs.Values.{takenOut, TakesOut}
 
 -- a promise, with its result as numbers
 pub shown-as : {A R S M : Type 0} (f : R → S) (shown : Outcome A → R) (put : A → M → M) (o : Outcome A) (before after : M) (r : R) (x : S)
@@ -31,25 +25,3 @@ pub taken-from : (call : lists.List → Outcome Ends.Listing) (l x : lists.List)
     → x ≡ l → Takes x (call x) before t after → r ≡ takenOut t → TakesOut l (call l) before r after
 taken-from call l x t r before after e w h =
     subst (λ (y : lists.List). TakesOut y (call y) before r after) e (shown-as takenOut (takenAs x) putItems (call x) before after t r w h)
-
--- ---- the cases of an answer
-
-module _ (a : Answers.Nearest) where
-  pub refused-item : (n : ℕ) → a ≡ Answers.the-variants.Refused n → itemOut (Answers.the-variants.Refused n) ≡ itemOut a
-  refused-item n e = sym (ap itemOut e)
-
-  module _ (f : answers.Found) (e : a ≡ Answers.the-variants.Answer f) where
-    pub no-item : f ≡ answers.the-variants.Nothing → itemOut (Answers.the-variants.Answer answers.the-variants.Nothing) ≡ itemOut a
-    no-item h = sym (ap itemOut (e ∙ ap Answers.the-variants.Answer h))
-
-    pub an-item : (k y x : ℕ) → f ≡ answers.the-variants.Item k y x
-        → itemOut (Answers.the-variants.Answer (answers.the-variants.Item k y x)) ≡ itemOut a
-    an-item k y x h = sym (ap itemOut (e ∙ ap Answers.the-variants.Answer h))
-
-module _ (a : Pages.Page) where
-  pub refused-page : (n : ℕ) → a ≡ Pages.the-variants.Refused n → filledOut (Pages.the-variants.Refused n) ≡ filledOut a
-  refused-page n e = sym (ap filledOut e)
-
-  pub a-page : (p : Paged) (l : ℕ) → a ≡ Pages.the-variants.Filled p → l ≡ flagOf (p .last)
-      → _≡_ {A = Filled} (record { refusal = 0; last = l; count = p .count }) (filledOut a)
-  a-page p l e h = rw h (sym (ap filledOut e))

@@ -2,10 +2,10 @@
 ghost use mathlib.Core.Path.{_≡_};
 ghost use lib.ListN.{length};
 ghost use Rattle.paper.specs.Lines.{bareLine, askFits, askFrame, askOf, answerFits, answerFrame, answerOf, claimFits, claimFrame, claimOf};
-ghost use Rattle.nearby_c.specs.Values.{WritesOut};
+ghost use Rattle.c_values.specs.Values.{WritesOut};
 ghost use Rattle.paper.specs.Limits.{longestAnswer, longestAsk, longestClaim};
-use crate::values::Written;
-use crate::values::line_of;
+use c_values::Written;
+use c_values::line_of;
 use paper::lines::AnswerRead;
 use paper::lines::AskRead;
 use paper::lines::ClaimRead;

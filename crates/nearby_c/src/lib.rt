@@ -6,4 +6,3 @@ mod office;
 mod questions;
 mod several;
 mod tables;
-mod values;

@@ -5,13 +5,13 @@ ghost use Rattle.paper.specs.declared.orders.Order.the-variants.{Near};
 ghost use Rattle.paper.specs.Lists.{held, openingHeld, openedTold, askingHeld, takingHeld};
 ghost use Rattle.paper.specs.Codec.{lines};
 ghost use Rattle.tablet.specs.Holding.{asNear};
-ghost use Rattle.nearby_c.specs.Values.{listIn, openedOut, WritesOut, TakesOut};
-use crate::values::Listed;
-use crate::values::Listing;
-use crate::values::Written;
-use crate::values::line_of;
-use crate::values::list_in;
-use crate::values::list_out;
+ghost use Rattle.c_values.specs.Values.{listIn, openedOut, WritesOut, TakesOut};
+use c_values::Listed;
+use c_values::Listing;
+use c_values::Written;
+use c_values::line_of;
+use c_values::list_in;
+use c_values::list_out;
 
 // Refusals 1, 5.
 #[no_mangle]

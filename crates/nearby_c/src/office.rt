@@ -3,9 +3,9 @@ ghost use mathlib.Core.Path.{_≡_};
 ghost use lib.ListN.{length};
 ghost use Rattle.paper.specs.Tree.{lent};
 ghost use Rattle.paper.specs.Calls.{officeCall};
-ghost use Rattle.nearby_c.specs.Values.{WritesOut};
-use crate::values::Written;
-use crate::values::line_of;
+ghost use Rattle.c_values.specs.Values.{WritesOut};
+use c_values::Written;
+use c_values::line_of;
 use paper::tables::Table;
 
 // Refusals 12, 1, 2, 9, 10, 11, 7, 8.

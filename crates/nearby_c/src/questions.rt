@@ -5,13 +5,13 @@ ghost use Rattle.paper.specs.declared.orders.Order.the-variants.{Near};
 ghost use Rattle.paper.specs.Tree.{lent};
 ghost use Rattle.paper.specs.Outcomes.{Promise};
 ghost use Rattle.paper.specs.Calls.{nearestCall, farthestCall, nearestShown, pageCall, pageShown, putPage};
-ghost use Rattle.nearby_c.specs.Values.{itemOut, filledOut, placeOf};
-use crate::values::Filled;
-use crate::values::Item;
-use crate::values::Start;
-use crate::values::item_of;
-use crate::values::page_of;
-use crate::values::place_of;
+ghost use Rattle.c_values.specs.Values.{itemOut, filledOut, placeOf};
+use c_values::Filled;
+use c_values::Item;
+use c_values::Start;
+use c_values::item_of;
+use c_values::page_of;
+use c_values::place_of;
 use paper::tables::Table;
 
 // Refusals 1, 2, 5.

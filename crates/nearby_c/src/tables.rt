@@ -4,10 +4,10 @@ ghost use Rattle.paper.specs.Outcomes.{Promise};
 ghost use Rattle.paper.specs.Tree.{lent, lentMemory};
 ghost use Rattle.paper.specs.Runs.{emptyTable, makeCall, madeShown, enterCall, enteredShown, putStore};
 ghost use Rattle.paper.specs.Calls.{tableRefusal};
-ghost use Rattle.nearby_c.specs.Values.{madeOut, enteredOut};
-use crate::values::Tabled;
-use crate::values::table_entered;
-use crate::values::table_made;
+ghost use Rattle.c_values.specs.Values.{madeOut, enteredOut};
+use c_values::Tabled;
+use c_values::table_entered;
+use c_values::table_made;
 use paper::tables::Table;
 
 // Refusal 1.

@@ -4,7 +4,7 @@ use Rattle.paper.specs.declared.orders.Order.the-variants.{Near}
 use Rattle.paper.specs.Lists.{held, askingHeld}
 use Rattle.paper.specs.Codec.{lines}
 use Rattle.paper.specs.Lines.{wroteOf, putLine}
-use Rattle.nearby_c.specs.Values.{writtenOf}
+use Rattle.c_values.specs.Values.{writtenOf}
 use Rattle.nearby_c.proofs.Exports.{shown-from}
 use borrow.Author.Needs.{needs}
 use Rattle.nearby_c.proofs.lists.nearby_write_ask.Statement.{statement}

@@ -1,6 +1,6 @@
 -- `nearby_c::office::nearby_answer` meets its contract: what `nearby::answer` gives. Assumes nothing.
 use Rattle.paper.specs.Lines.{wroteOf, putLine}
-use Rattle.nearby_c.specs.Values.{writtenOf}
+use Rattle.c_values.specs.Values.{writtenOf}
 use Rattle.nearby_c.proofs.Exports.{shown-as}
 use borrow.Author.Needs.{needs}
 use Rattle.nearby_c.proofs.office.nearby_answer.Statement.{statement}

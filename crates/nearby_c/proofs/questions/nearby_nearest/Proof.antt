@@ -1,6 +1,6 @@
 -- `nearby_c::questions::nearby_nearest` meets its contract: what `nearby::nearest` gives. Assumes nothing.
 use mathlib.Core.Path.{ap, _∙_}
-use Rattle.nearby_c.specs.Values.{itemOut}
+use Rattle.c_values.specs.Values.{itemOut}
 use borrow.Author.Needs.{needs}
 use Rattle.nearby_c.proofs.questions.nearby_nearest.Statement.{statement}
 use Rattle.nearby_c.proofs.questions.nearby_nearest.Tie as tie

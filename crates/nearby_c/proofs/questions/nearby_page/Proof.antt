@@ -3,7 +3,7 @@ use Rattle.paper.specs.declared.orders.Order.the-variants.{Near}
 use lib.ListN.{length}
 use Rattle.paper.specs.Tree.{store}
 use Rattle.paper.specs.Calls.{pageCall, pageShown, putPage}
-use Rattle.nearby_c.specs.Values.{filledOut}
+use Rattle.c_values.specs.Values.{filledOut}
 use Rattle.nearby_c.proofs.Exports.{shown-from}
 use borrow.Author.Needs.{needs}
 use Rattle.nearby_c.proofs.questions.nearby_page.Statement.{statement}

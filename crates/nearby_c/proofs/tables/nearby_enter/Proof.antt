@@ -1,6 +1,6 @@
 -- `nearby_c::tables::nearby_enter` meets its contract: what `nearby::enter` gives. Assumes nothing.
 use Rattle.paper.specs.Runs.{enteredShown, putStore}
-use Rattle.nearby_c.specs.Values.{enteredOut}
+use Rattle.c_values.specs.Values.{enteredOut}
 use Rattle.nearby_c.proofs.Exports.{shown-as}
 use borrow.Author.Needs.{needs}
 use Rattle.nearby_c.proofs.tables.nearby_enter.Statement.{statement}

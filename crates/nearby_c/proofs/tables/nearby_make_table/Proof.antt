@@ -1,6 +1,6 @@
 -- `nearby_c::tables::nearby_make_table` meets its contract: what `nearby::make_table` gives. Assumes nothing.
 use mathlib.Core.Path.{ap, _∙_}
-use Rattle.nearby_c.specs.Values.{madeOut}
+use Rattle.c_values.specs.Values.{madeOut}
 use borrow.Author.Needs.{needs}
 use Rattle.nearby_c.proofs.tables.nearby_make_table.Statement.{statement}
 use Rattle.nearby_c.proofs.tables.nearby_make_table.Tie as tie

@@ -22,13 +22,13 @@ use Rattle.paper.specs.Fields.{flagOf}
 use Rattle.paper.specs.Lines.{wroteOf, putLine}
 use Rattle.paper.specs.Lists.{takenAs, putItems}
 use Rattle.paper.specs.Ends as Ends
-use Rattle.nearby_c.specs.declared.values.Tabled.{Tabled}
-use Rattle.nearby_c.specs.declared.values.Item.{Item}
-use Rattle.nearby_c.specs.declared.values.Start.{Start}
-use Rattle.nearby_c.specs.declared.values.Filled.{Filled}
-use Rattle.nearby_c.specs.declared.values.Written.{Written}
-use Rattle.nearby_c.specs.declared.values.Listing.{Listing}
-use Rattle.nearby_c.specs.declared.values.Listed.{Listed}
+use Rattle.c_values.specs.declared.Tabled.{Tabled}
+use Rattle.c_values.specs.declared.Item.{Item}
+use Rattle.c_values.specs.declared.Start.{Start}
+use Rattle.c_values.specs.declared.Filled.{Filled}
+use Rattle.c_values.specs.declared.Written.{Written}
+use Rattle.c_values.specs.declared.Listing.{Listing}
+use Rattle.c_values.specs.declared.Listed.{Listed}
 
 abbrev pub flagIn : ℕ → Bool
 flagIn n = not (eqb n 0)

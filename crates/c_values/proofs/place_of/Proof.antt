@@ -1,9 +1,9 @@
--- `nearby_c::values::place_of` meets its contract: the start where `from` is 0, and otherwise a place. Assumes nothing.
+-- `c_values::place_of` meets its contract: the start where `from` is 0, and otherwise a place. Assumes nothing.
 use mathlib.Core.Path.{sym}
 use borrow.Author.Tests.{eq-eqb, ne-eqb}
 use borrow.Author.Needs.{needs}
-use Rattle.nearby_c.proofs.values.place_of.Statement.{statement}
-use Rattle.nearby_c.proofs.values.place_of.Tie as tie
+use Rattle.c_values.proofs.place_of.Statement.{statement}
+use Rattle.c_values.proofs.place_of.Tie as tie
 
 returns : tie.Need-returns
 returns c = rw (eq-eqb (c .before .before .args .s .from) 0 (c .if1 .taken))

@@ -1,9 +1,9 @@
--- `nearby_c::values::table_entered` meets its contract: the table, or a refusal beside zeros. Assumes nothing.
+-- `c_values::table_entered` meets its contract: the table, or a refusal beside zeros. Assumes nothing.
 use mathlib.Core.Path.{sym, ap, _∙_}
-use Rattle.nearby_c.specs.Values.{enteredOut}
+use Rattle.c_values.specs.Values.{enteredOut}
 use borrow.Author.Needs.{needs}
-use Rattle.nearby_c.proofs.values.table_entered.Statement.{statement}
-use Rattle.nearby_c.proofs.values.table_entered.Tie as tie
+use Rattle.c_values.proofs.table_entered.Statement.{statement}
+use Rattle.c_values.proofs.table_entered.Tie as tie
 
 enum-known-e : tie.Need-enum-known-e
 enum-known-e c = search needs

@@ -1,8 +1,8 @@
--- `nearby_c::values::page_of` meets its contract: a refusal, or how many items and whether they are the last. Assumes nothing.
-use Rattle.nearby_c.proofs.Exports.{refused-page, a-page}
+-- `c_values::page_of` meets its contract: a refusal, or how many items and whether they are the last. Assumes nothing.
+use Rattle.c_values.proofs.Cases.{refused-page, a-page}
 use borrow.Author.Needs.{needs}
-use Rattle.nearby_c.proofs.values.page_of.Statement.{statement}
-use Rattle.nearby_c.proofs.values.page_of.Tie as tie
+use Rattle.c_values.proofs.page_of.Statement.{statement}
+use Rattle.c_values.proofs.page_of.Tie as tie
 
 enum-known-p : tie.Need-enum-known-p
 enum-known-p c = search needs

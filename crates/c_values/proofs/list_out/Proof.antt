@@ -1,7 +1,7 @@
--- `nearby_c::values::list_out` meets its contract: the fields, with flags as numbers. Assumes nothing.
+-- `c_values::list_out` meets its contract: the fields, with flags as numbers. Assumes nothing.
 use borrow.Author.Needs.{needs}
-use Rattle.nearby_c.proofs.values.list_out.Statement.{statement}
-use Rattle.nearby_c.proofs.values.list_out.Tie as tie
+use Rattle.c_values.proofs.list_out.Statement.{statement}
+use Rattle.c_values.proofs.list_out.Tie as tie
 
 flag-requires : tie.Need-flag-requires
 flag-requires c κs = search needs

@@ -1,9 +1,9 @@
--- `nearby_c::values::table_made` meets its contract: the table, or a refusal beside zeros. Assumes nothing.
+-- `c_values::table_made` meets its contract: the table, or a refusal beside zeros. Assumes nothing.
 use mathlib.Core.Path.{sym, ap, _∙_}
-use Rattle.nearby_c.specs.Values.{madeOut}
+use Rattle.c_values.specs.Values.{madeOut}
 use borrow.Author.Needs.{needs}
-use Rattle.nearby_c.proofs.values.table_made.Statement.{statement}
-use Rattle.nearby_c.proofs.values.table_made.Tie as tie
+use Rattle.c_values.proofs.table_made.Statement.{statement}
+use Rattle.c_values.proofs.table_made.Tie as tie
 
 enum-known-m : tie.Need-enum-known-m
 enum-known-m c = search needs

@@ -1,8 +1,8 @@
--- `nearby_c::values::item_of` meets its contract: a refusal, nothing, or an item. Assumes nothing.
-use Rattle.nearby_c.proofs.Exports.{refused-item, no-item, an-item}
+-- `c_values::item_of` meets its contract: a refusal, nothing, or an item. Assumes nothing.
+use Rattle.c_values.proofs.Cases.{refused-item, no-item, an-item}
 use borrow.Author.Needs.{needs}
-use Rattle.nearby_c.proofs.values.item_of.Statement.{statement}
-use Rattle.nearby_c.proofs.values.item_of.Tie as tie
+use Rattle.c_values.proofs.item_of.Statement.{statement}
+use Rattle.c_values.proofs.item_of.Tie as tie
 
 enum-known-a : tie.Need-enum-known-a
 enum-known-a c = search needs

@@ -1,9 +1,9 @@
--- `nearby_c::values::line_of` meets its contract: a line's length, or a refusal's number. Assumes nothing.
+-- `c_values::line_of` meets its contract: a line's length, or a refusal's number. Assumes nothing.
 use mathlib.Core.Path.{sym, ap}
-use Rattle.nearby_c.specs.Values.{writtenOf}
+use Rattle.c_values.specs.Values.{writtenOf}
 use borrow.Author.Needs.{needs}
-use Rattle.nearby_c.proofs.values.line_of.Statement.{statement}
-use Rattle.nearby_c.proofs.values.line_of.Tie as tie
+use Rattle.c_values.proofs.line_of.Statement.{statement}
+use Rattle.c_values.proofs.line_of.Tie as tie
 
 enum-known-w : tie.Need-enum-known-w
 enum-known-w c = search needs
