@@ -13,7 +13,7 @@ use crate::counts::has_rows;
 use crate::counts::many_refusal;
 use crate::places::place_at;
 use crate::rows::put_page;
-use nearby::page_here;
+use pages::page_here;
 use paper::counts::is_whole;
 use paper::orders::size_holds;
 use paper::tables::Table;

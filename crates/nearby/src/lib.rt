@@ -20,7 +20,6 @@ pub use questions::farthest;
 pub use questions::front;
 pub use questions::nearest;
 pub use questions::page;
-pub use questions::page_here;
 pub use tables::enter;
 pub use tables::make_table;
 pub use tables::table_refusal;
