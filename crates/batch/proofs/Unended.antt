@@ -13,7 +13,7 @@ use Rattle.paper.specs.Ends.{Ask, tableOf, answerTo, served}
 use Rattle.paper.specs.Codec.{lines, readAsk, answerLine}
 use Rattle.paper.specs.Calls.{tableRefusal, officeCall}
 use Rattle.paper.proofs.Outcomes.{must-stop}
-use Rattle.pages.proofs.TableLaws.{table-goes}
+use Rattle.tested.proofs.TableLaws.{table-goes}
 use Rattle.batch.specs.Batch.{cutAt, lineAt, startAt, nthLine, alone}
 use Rattle.paper.specs.Limits.{longestAnswer}
 

@@ -9,7 +9,7 @@ use Rattle.paper.specs.Outcomes.{Outcome, refused, gives}
 use Rattle.paper.specs.Tree.{Store}
 use Rattle.paper.proofs.Outcomes.{must-stop, must-go, promise-refused, promise-given}
 use Rattle.paper.specs.Calls.{tableRefusal}
-use Rattle.pages.proofs.TableLaws.{table-refused, table-goes}
+use Rattle.tested.proofs.TableLaws.{table-refused, table-goes}
 use Rattle.batch.specs.declared.Answered.{Answered}
 use Rattle.batch.specs.Batch.{Batch, start, answered, batchCall, Rooms, twoRooms, answeredAs, putBatch, AnswersAll, refusedBy, Stands}
 use Rattle.paper.specs.Limits.{longestAnswer}

@@ -24,7 +24,7 @@ use Rattle.paper.specs.Calls.{PageOf, pageShown, putPage, tableRefusal}
 use Rattle.paper.proofs.Tests.{and-first, and-second}
 use Rattle.tree.proofs.Places.{before-next}
 use Rattle.paper.proofs.Outcomes.{must-stop, must-go, number-0, behind, stops, promise-refused, promise-given}
-use Rattle.pages.specs.Askable.{Askable}
+use Rattle.tested.specs.Askable.{Askable}
 use Rattle.many.specs.Rows.{row, each, instead}
 use Rattle.many.specs.Counts.{manyRefusal}
 use Rattle.many.specs.Pages.{placeAt, pageAt, pageRow, putOutcome, putItems, Rooms, bothRooms, onPages, pagesRefusal, pagesEach, OnePage, AllPages}

@@ -20,7 +20,7 @@ use Rattle.walk.specs.Asking.{Answerable}
 use Rattle.walk.proofs.Answers.{good-answerable}
 use Rattle.paper.specs.Calls.{tableRefusal}
 use Rattle.paper.proofs.Outcomes.{must-stop, must-go, number-0, behind, stops, promise-refused, promise-given}
-use Rattle.pages.proofs.TableLaws.{table-refused, table-good, table-goes}
+use Rattle.tested.proofs.TableLaws.{table-refused, table-good, table-goes}
 use Rattle.nearby.proofs.CallLaws.{found-shown}
 use Rattle.many.specs.Rows.{each, instead, foundRow, putFound}
 use Rattle.many.specs.Counts.{onMany, manyRefusal}

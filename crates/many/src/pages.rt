@@ -13,10 +13,10 @@ use crate::counts::has_rows;
 use crate::counts::many_refusal;
 use crate::places::place_at;
 use crate::rows::put_page;
-use pages::page_here;
 use paper::counts::is_whole;
 use paper::orders::size_holds;
 use paper::tables::Table;
+use tested::page_here;
 
 // Question i: its page in row i of the items, and its outcome in row i of the outcomes.
 fn page_row(

@@ -24,7 +24,7 @@ use Rattle.desk.specs.Desk.{Open}
 use Rattle.lines.proofs.Ways.{writes-refused}
 use Rattle.paper.proofs.Outcomes.{must-stop, must-go}
 use Rattle.tablet.proofs.TakeLaws.{takes-refused}
-use Rattle.pages.proofs.TableLaws.{table-refused, table-good, table-goes, aim-stops, aim-goes}
+use Rattle.tested.proofs.TableLaws.{table-refused, table-good, table-goes, aim-stops, aim-goes}
 use Rattle.paper.specs.Limits.{longestAnswer}
 
 -- ---- nearest and farthest: 1, 2, 5

@@ -80,7 +80,7 @@ pub fn page(
     if !size_holds(size) {
         return Page::Refused(6);
     }
-    pages::page_here(
+    tested::page_here(
         t,
         references,
         coordinates,

@@ -1,7 +1,7 @@
 -- `nearby::questions::page` meets its contract: 1, 2, 5, 6, and then what a tested table gives. Assumes nothing.
 use lib.ListN.{length}
 use Rattle.paper.specs.Tree.{store}
-use Rattle.pages.proofs.PageLaws.{page-refused, page-5, page-6, page-askable, page-tells}
+use Rattle.tested.proofs.PageLaws.{page-refused, page-5, page-6, page-askable, page-tells}
 use borrow.Author.Needs.{needs}
 use Rattle.nearby.proofs.questions.page.Statement.{statement}
 use Rattle.nearby.proofs.questions.page.Tie as tie

@@ -1,10 +1,10 @@
--- `pages::place_refusal` meets its contract: 7, 8, 12. Assumes nothing.
+-- `tested::place_refusal` meets its contract: 7, 8, 12. Assumes nothing.
 use Rattle.paper.specs.declared.orders.Order.the-variants.{Near}
 use Rattle.paper.specs.Tree.{store}
-use Rattle.pages.proofs.PageLaws.{page-7, page-markable, page-8, page-12, page-0}
+use Rattle.tested.proofs.PageLaws.{page-7, page-markable, page-8, page-12, page-0}
 use borrow.Author.Needs.{needs}
-use Rattle.pages.proofs.place_refusal.Statement.{statement}
-use Rattle.pages.proofs.place_refusal.Tie as tie
+use Rattle.tested.proofs.place_refusal.Statement.{statement}
+use Rattle.tested.proofs.place_refusal.Tie as tie
 
 snapshot-holds-requires : tie.Need-snapshot-holds-requires
 snapshot-holds-requires c κs = search needs

@@ -1,9 +1,9 @@
--- `pages::page_here` meets its contract: refused before anything is written, or the walk's page. Assumes nothing.
+-- `tested::page_here` meets its contract: refused before anything is written, or the walk's page. Assumes nothing.
 use Rattle.paper.specs.Tree.{store}
-use Rattle.pages.proofs.PageLaws.{page-refuses, page-answerable, page-pageable, page-filled}
+use Rattle.tested.proofs.PageLaws.{page-refuses, page-answerable, page-pageable, page-filled}
 use borrow.Author.Needs.{needs}
-use Rattle.pages.proofs.page_here.Statement.{statement}
-use Rattle.pages.proofs.page_here.Tie as tie
+use Rattle.tested.proofs.page_here.Statement.{statement}
+use Rattle.tested.proofs.page_here.Tie as tie
 
 place-refusal-requires : tie.Need-place-refusal-requires
 place-refusal-requires c κs = search needs

@@ -23,8 +23,8 @@ use Rattle.paper.proofs.Outcomes.{must-stop, must-go, number-0, number-is, prom
 use Rattle.tree.proofs.Places.{claims-length}
 use Rattle.walk.specs.Asking.{Answerable, Pageable, Markable, PageIs}
 use Rattle.walk.proofs.Answers.{good-measurable, good-answerable}
-use Rattle.pages.specs.Askable.{Askable}
-use Rattle.pages.proofs.TableLaws.{table-refused, table-good, aim-stops, aim-goes}
+use Rattle.tested.specs.Askable.{Askable}
+use Rattle.tested.proofs.TableLaws.{table-refused, table-good, aim-stops, aim-goes}
 
 module _ (s : Store) (probe : List ℤ) (reach : ℕ) (place : Place) (size room : ℕ) where
   abbrev page : Outcome PageOf

@@ -6,7 +6,7 @@ ghost use Rattle.paper.specs.declared.orders.Order.the-variants.{Near};
 ghost use Rattle.paper.specs.Outcomes.{number, Promise};
 ghost use Rattle.paper.specs.Tree.{lent};
 ghost use Rattle.paper.specs.Calls.{pageCall, pageShown, putPage};
-ghost use Rattle.pages.specs.Askable.{Askable};
+ghost use Rattle.tested.specs.Askable.{Askable};
 use paper::orders::Order;
 use paper::orders::Page;
 use paper::orders::Place;
