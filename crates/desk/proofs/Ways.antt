@@ -31,18 +31,13 @@ use Rattle.lines.proofs.Tests.{is-ask}
 use Rattle.paper.specs.Calls.{tableQuery}
 use Rattle.tree.proofs.Places.{claims-length}
 use Rattle.desk.specs.Desk.{Given, Answering, Asking, askFor, pageLine, pageReply}
-use Rattle.paper.proofs.Places.{place-start, place-after}
 use Rattle.paper.specs.Limits.{mostPage}
 
--- ---- snapshot_holds
-
-pub holds-start : (p : Scope) (n : ℕ) → p .from ≡ 0 → true ≡ leb (snapshotOf (placeIn p) n) n
-holds-start p n e = rw (place-start p e) (sym (le-leb n n (omega arith)))
-
-pub holds-after : (p : Scope) (n : ℕ) → (p .from ≡ 0 → ⊥) → leb (p .snapshot) n ≡ leb (snapshotOf (placeIn p) n) n
-holds-after p n e = rw (place-after p e)
-
 -- ---- answer_here
+
+-- 7 is tested of the place that the fields name
+pub stored-at : (p : Scope) (n : ℕ) (place : Place) (b : Bool) → place ≡ placeIn p → b ≡ leb (snapshotOf place n) n → b ≡ leb (snapshotOf (placeIn p) n) n
+stored-at p n place b at e = e ∙ ap (λ (u : Place). leb (snapshotOf u n) n) at
 
 module _ (s : Store) (probe : List ℤ) (p : Scope) (size : ℕ) (b : Bool) (holds : b ≡ leb (snapshotOf (placeIn p) (s .table .count)) (s .table .count)) where
   stored-is : snapshotHolds (claimsIn s) (placeIn p) ≡ b

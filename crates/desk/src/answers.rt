@@ -1,12 +1,9 @@
 // The answer to an ask, as fields or as a line.
-ghost use mathlib.Core.Path.{_≡_};
-ghost use lib.Dec.{leb};
 ghost use lib.ListN.{length};
 ghost use Rattle.paper.specs.declared.orders.Order.the-variants.{Near};
-ghost use Rattle.paper.specs.Orders.{snapshotOf};
 ghost use Rattle.paper.specs.Tree.{lent};
 ghost use Rattle.paper.specs.Ends.{tableOf, served};
-ghost use Rattle.paper.specs.Codec.{placeIn, asked};
+ghost use Rattle.paper.specs.Codec.{asked};
 ghost use Rattle.paper.specs.Codec.{lines as Codec·lines};
 ghost use Rattle.paper.specs.Program.{replyTo};
 ghost use Rattle.paper.specs.Lines.{Writes};
@@ -18,15 +15,6 @@ use paper::lines::Wrote;
 use paper::lines::place_of;
 use paper::tables::Table;
 use paper::tables::is_ours;
-
-fn snapshot_holds(p: Scope, count: usize) -> bool
-    ensures { λ r. ⌜ r ≡ leb (snapshotOf (placeIn p) count) count ⌝ }
-{
-    if p.from == 0 {
-        return true;
-    }
-    p.snapshot as usize <= count
-}
 
 // The answer to an ask that is about this table.
 fn answer_here(
@@ -42,10 +30,10 @@ fn answer_here(
     requires { ⌜ Asking (lent t references coordinates rooms) (now probe) p size (length (now out)) ⌝ }
     ensures { λ r. ⌜ Writes (pageReply (tableOf (lent t (references .entry) (coordinates .entry) (rooms .entry))) (askFor t (now (probe .entry)) p size)) (now (out .entry)) r (now (out .exit)) ⌝ }
 {
-    if !snapshot_holds(p, t.count) {
+    let place = place_of(p);
+    if !place.snapshot_holds(t.count) {
         return Wrote::Refused(7);
     }
-    let place = place_of(p);
     if !walk::questions::mark_holds(t, coordinates, probe, p.reach, place) {
         return Wrote::Refused(8);
     }

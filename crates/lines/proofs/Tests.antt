@@ -2,14 +2,15 @@
 use Prim.Native.Nat.{ℕ, _+_, _-_, _*_, _≤_, _<_}
 use native.Mathlib.Omega.{arith}
 use mathlib.Core.Path.{_≡_, refl, sym, ap, _∙_}
-use mathlib.Core.Bool.{Bool, true, false, _&&_, _||_}
+use mathlib.Core.Bool.{Bool, true, false, _&&_, _||_, not}
 use mathlib.Core.List.{List, _++_}
 use lib.ListN.{length, drop, length-append}
 use lib.Seq.{drop-drop}
 use lib.Dec.{leb, eqb}
 use lib.IntN.{ℤ}
-use borrow.Author.Tests.{leb-true, eqb-true, eq-eqb, ne-eqb, le-leb, lt-leb}
+use borrow.Author.Tests.{leb-true, eqb-true, eq-eqb, ne-eqb, le-leb, lt-leb, not-true, not-false}
 use Rattle.paper.specs.Frames.{be, num}
+use Rattle.paper.specs.Ends.{sizeHolds}
 use Rattle.paper.specs.Points.{inRange, InRange}
 use Rattle.paper.proofs.Ranges.{range-is}
 use Rattle.paper.specs.Fields.{head, front, coordBytes, scopeIn, scopeOk, itemBytes, itemsIn, itemPlaces, numbersOk, referencesOk}
@@ -91,21 +92,19 @@ ask-value f x at s e q v =
 
 -- the rules behind a scope that is in range, one after the other
 module _ (p : Scope) (s : ℕ) (e : scopeOk p ≡ true) where
-  pub page-low : s < 1 → askRanges p s ≡ false
-  unfolding askRanges
-  page-low h = rw (e, lt-leb 1 s h) (and-false (eqb (p .from) 1 || eqb (p .snapshot) 0))
+  module _ (b : Bool) (be : b ≡ sizeHolds s) where
+    pub page-out : not b ≡ true → askRanges p s ≡ false
+    unfolding askRanges
+    page-out h = rw (e, sym be ∙ not-true b h) (and-false (eqb (p .from) 1 || eqb (p .snapshot) 0))
 
-  pub page-high : 1 ≤ s → 16 < s → askRanges p s ≡ false
-  unfolding askRanges
-  page-high l h = rw (e, le-leb 1 s l, lt-leb s mostPage h) (and-false (eqb (p .from) 1 || eqb (p .snapshot) 0))
+    module _ (h : not b ≡ false) where
+      pub placed : p .from ≡ 1 → askRanges p s ≡ true
+      unfolding askRanges
+      placed q = rw (e, sym be ∙ not-false b h, eq-eqb (p .from) 1 q)
 
-  pub placed : 1 ≤ s → s ≤ mostPage → p .from ≡ 1 → askRanges p s ≡ true
-  unfolding askRanges
-  placed l h q = rw (e, le-leb 1 s l, le-leb s mostPage h, eq-eqb (p .from) 1 q)
-
-  pub unplaced : 1 ≤ s → s ≤ mostPage → (p .from ≡ 1 → ⊥) → askRanges p s ≡ eqb (p .snapshot) 0
-  unfolding askRanges
-  unplaced l h q = rw (e, le-leb 1 s l, le-leb s mostPage h, ne-eqb (p .from) 1 q) (and-true (eqb (p .snapshot) 0))
+      pub unplaced : (p .from ≡ 1 → ⊥) → askRanges p s ≡ eqb (p .snapshot) 0
+      unfolding askRanges
+      unplaced q = rw (e, sym be ∙ not-false b h, ne-eqb (p .from) 1 q) (and-true (eqb (p .snapshot) 0))
 
 -- what is left to test where the head and the length are right
 pub ask-rule : (k : ℕ) (f : List ℕ) (d : ℕ) → headOk k f ≡ true → d ≡ num 1 (drop 6 f) → length f ≡ 29 + 4 * d

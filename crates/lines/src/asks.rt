@@ -9,22 +9,19 @@ ghost use Rattle.lines.specs.Kinds.{IsAsk};
 ghost use Rattle.paper.specs.Limits.{longestAsk, mostPlaces};
 use paper::limits::LONGEST_ASK;
 use paper::limits::LONGEST_FRAME;
-use paper::limits::MOST_PAGE;
 use paper::limits::MOST_PLACES;
 use paper::lines::Ask;
 use paper::lines::AskRead;
 use paper::lines::Scope;
 use paper::lines::Wrote;
+use paper::orders::size_holds;
 use paper::points::in_range;
 
 fn ask_ranges(p: Scope, size: u64) -> bool
     ensures { λ r. ⌜ r ≡ askRanges p size ⌝ }
 {
     if fields::scope_ok(p) {
-        if size < 1 {
-            return false;
-        }
-        if MOST_PAGE < size as usize {
+        if !size_holds(size as usize) {
             return false;
         }
         if p.from == 1 {

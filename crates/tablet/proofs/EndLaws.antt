@@ -8,7 +8,7 @@ use lib.Dec.{leb, eqb}
 use lib.IntN.{ℤ, pos}
 use lib.ListN.{length, take, drop, replicate}
 use lib.Seq.{length-take-le}
-use borrow.Author.Tests.{le-leb, lt-leb, eq-eqb, ne-eqb, not-true, not-false}
+use borrow.Author.Tests.{le-leb, lt-leb, leb-true, eq-eqb, ne-eqb, not-true, not-false}
 use Rattle.paper.specs.declared.lines.AnswerRead.{AnswerRead}
 use Rattle.paper.specs.declared.lines.Scope.{Scope}
 use Rattle.paper.specs.declared.lines.Wrote.{Wrote}
@@ -24,7 +24,7 @@ use Rattle.paper.specs.Frames.{lineOf, frameOf}
 use Rattle.paper.specs.Frames as frames
 use Rattle.paper.specs.Fields.{scopeOk}
 use Rattle.paper.specs.Lines.{Writes, bareLine, reading, askFrame, askRanges, askFits, answerOk, answerAt, anAnswer, noAnswer, answerOf}
-use Rattle.paper.specs.Ends.{Listing, opening, presentPlace, presentAsk, soundIn, asking, taken, taking}
+use Rattle.paper.specs.Ends.{Listing, sizeHolds, opening, presentPlace, presentAsk, soundIn, asking, taken, taking}
 use Rattle.paper.specs.Lists.{Takes, Held, held, listing, roomFor, unusedZero, soundHeld, noList, openedAs, openingHeld, openedTold, askingHeld, takingHeld}
 use Rattle.lines.proofs.Ways.{writes-refused, bare-fits}
 use Rattle.paper.specs.Codec.{scopeOf, askLine, answered, lines}
@@ -140,7 +140,7 @@ module _ (l : lists.List) (mem : List ℕ) (size : ℕ) (out : List ℕ) (sound 
   abbrev Promised : Wrote → List ℕ → Type 0
   Promised r left = Writes ask out r left
 
-  past-2 : ask ≡ must (not (l .complete)) 16 (must (leb 1 size && leb size mostPage) 6 (must (leb longestAsk (length out)) 12 (gives (askLine (presentAsk L size)))))
+  past-2 : ask ≡ must (not (l .complete)) 16 (must (sizeHolds size) 6 (must (leb longestAsk (length out)) 12 (gives (askLine (presentAsk L size)))))
   unfolding askingHeld asking listing
   past-2 =
       must-go (unusedZero (l .d) (l .probe)) 2 _ (held-go (held l mem) sound)
@@ -150,24 +150,28 @@ module _ (l : lists.List) (mem : List ℕ) (size : ℕ) (out : List ℕ) (sound 
   ask-16 h = writes-refused ask 16 out (past-2 ∙ must-stop (not (l .complete)) 16 _ (ap not h))
 
   module _ (hc : l .complete ≡ false) where
-    past-16 : ask ≡ must (leb 1 size && leb size mostPage) 6 (must (leb longestAsk (length out)) 12 (gives (askLine (presentAsk L size))))
+    past-16 : ask ≡ must (sizeHolds size) 6 (must (leb longestAsk (length out)) 12 (gives (askLine (presentAsk L size))))
     past-16 = past-2 ∙ must-go (not (l .complete)) 16 _ (ap not hc)
 
-    pub ask-low : size < 1 → Promised (Refused 6) out
-    ask-low h = writes-refused ask 6 out (past-16 ∙ must-stop (leb 1 size && leb size mostPage) 6 _ (rw (lt-leb 1 size h)))
+    module _ (b : Bool) (be : b ≡ sizeHolds size) where
+      pub ask-6 : not b ≡ true → Promised (Refused 6) out
+      ask-6 h = writes-refused ask 6 out (past-16 ∙ must-stop (sizeHolds size) 6 _ (sym be ∙ not-true b h))
 
-    pub ask-high : 1 ≤ size → mostPage < size → Promised (Refused 6) out
-    ask-high k h = writes-refused ask 6 out (past-16 ∙ must-stop (leb 1 size && leb size mostPage) 6 _ (rw (le-leb 1 size k, lt-leb size mostPage h)))
+      module _ (hb : not b ≡ false) where
+        holds : sizeHolds size ≡ true
+        holds = sym be ∙ not-false b hb
 
-    module _ (one : 1 ≤ size) (most : size ≤ mostPage) where
-      past-6 : ask ≡ must (leb longestAsk (length out)) 12 (gives (askLine (presentAsk L size)))
-      past-6 = past-16 ∙ must-go (leb 1 size && leb size mostPage) 6 _ (and-both (leb 1 size) _ (le-leb 1 size one) (le-leb size mostPage most))
+        pub ask-some : (1 ≤ size) × (size ≤ mostPage)
+        ask-some = (leb-true 1 size (and-first (leb 1 size) (leb size mostPage) holds), leb-true size mostPage (and-second (leb 1 size) (leb size mostPage) holds))
 
-      pub ask-12 : length out < longestAsk → Promised (Refused 12) out
-      ask-12 h = writes-refused ask 12 out (past-6 ∙ must-stop (leb longestAsk (length out)) 12 _ (lt-leb longestAsk (length out) h))
+        past-6 : ask ≡ must (leb longestAsk (length out)) 12 (gives (askLine (presentAsk L size)))
+        past-6 = past-16 ∙ must-go (sizeHolds size) 6 _ holds
 
-      pub ask-put : longestAsk ≤ length out → (r : Wrote) (left : List ℕ) → Writes (gives (askLine (presentAsk L size))) out r left → Promised r left
-      ask-put h r left w = rw (past-6 ∙ must-go (leb longestAsk (length out)) 12 _ (le-leb longestAsk (length out) h)) w
+        pub ask-12 : length out < longestAsk → Promised (Refused 12) out
+        ask-12 h = writes-refused ask 12 out (past-6 ∙ must-stop (leb longestAsk (length out)) 12 _ (lt-leb longestAsk (length out) h))
+
+        pub ask-put : longestAsk ≤ length out → (r : Wrote) (left : List ℕ) → Writes (gives (askLine (presentAsk L size))) out r left → Promised r left
+        ask-put h r left w = rw (past-6 ∙ must-go (leb longestAsk (length out)) 12 _ (le-leb longestAsk (length out) h)) w
 
 -- ---- opening
 

@@ -14,10 +14,10 @@ ghost use Rattle.paper.specs.declared.orders.Order.the-variants.{Near};
 ghost use Rattle.tablet.specs.Holding.{Asks};
 ghost use Rattle.paper.specs.Limits.{longestAsk, mostPage};
 use paper::limits::LONGEST_ASK;
-use paper::limits::MOST_PAGE;
 use paper::lines::Scope;
 use paper::lines::Wrote;
 use paper::lists::List;
+use paper::orders::size_holds;
 
 // Where the next page starts, as lines write it.
 pub fn present(l: List, room: &[u64]) -> Scope
@@ -51,10 +51,7 @@ pub fn write_ask(l: List, room: &[u64], size: usize, out: &mut [u8]) -> Wrote
     if l.complete {
         return Wrote::Refused(16);
     }
-    if size < 1 {
-        return Wrote::Refused(6);
-    }
-    if MOST_PAGE < size {
+    if !size_holds(size) {
         return Wrote::Refused(6);
     }
     if out.len() < LONGEST_ASK {

@@ -1,5 +1,5 @@
 -- `tablet::asking::write_ask` meets its contract, a law for each way. Assumes nothing.
-use Rattle.tablet.proofs.EndLaws.{ask-16, ask-low, ask-high, ask-12, ask-put}
+use Rattle.tablet.proofs.EndLaws.{ask-16, ask-6, ask-some, ask-12, ask-put}
 use Rattle.tablet.proofs.TakeLaws.{sound-asks}
 use Rattle.paper.specs.declared.orders.Order.the-variants.{Near}
 use borrow.Author.Needs.{needs}
@@ -9,25 +9,28 @@ use Rattle.tablet.proofs.asking.write_ask.Tie as tie
 returns : tie.Need-returns
 returns c = ask-16 _ _ _ _ (c .before .before .before .pre) (c .if1 .taken)
 
+size-holds-requires : tie.Need-size-holds-requires
+size-holds-requires c κs = search needs
+
 returns-2 : tie.Need-returns-2
-returns-2 c = ask-low _ _ _ _ (c .before .before .before .before .pre) (c .before .if1 .left) (c .if2 .taken)
+returns-2 c = ask-6 _ _ _ _ (c .before .before .before .before .before .pre) (c .before .before .if1 .left) _ (c .before .size-holds .ensures) (c .if2 .taken)
 
 returns-3 : tie.Need-returns-3
-returns-3 c = ask-high _ _ _ _ (c .before .before .before .before .before .pre) (c .before .before .if1 .left) (c .before .if2 .left) (c .if3 .taken)
-
-returns-4 : tie.Need-returns-4
-returns-4 c = ask-12 _ _ _ _ (c .before .before .before .before .before .before .pre) (c .before .before .before .if1 .left) (c .before .before .if2 .left) (c .before .if3 .left) (c .if4 .taken)
+returns-3 c = ask-12 _ _ _ _ (c .before .before .before .before .before .before .pre) (c .before .before .before .if1 .left) _ (c .before .before .size-holds .ensures) (c .before .if2 .left) (c .if3 .taken)
 
 put-ask-requires : tie.Need-put-ask-requires
-put-ask-requires c κs = (sound-asks Near _ _ (c .before .before .before .before .before .before .before .pre) (c .before .before .before .before .if1 .left), (c .before .before .before .if2 .left, (c .before .before .if3 .left, c .before .if4 .left)))
+put-ask-requires c κs =
+    let a = c .before .before .before .before .before .before .before .args in
+    let s = ask-some (a .l) (a .room .now) (a .size) (a .out .now) (c .before .before .before .before .before .before .before .pre) (c .before .before .before .before .if1 .left) _ (c .before .before .before .size-holds .ensures) (c .before .before .if2 .left) in
+    (sound-asks Near _ _ (c .before .before .before .before .before .before .before .pre) (c .before .before .before .before .if1 .left), (s .0, (s .1, c .before .if3 .left)))
 
 same-length : tie.Need-same-length
 same-length c = search needs
 
-returns-5 : tie.Need-returns-5
-returns-5 c = ask-put _ _ _ _ (c .before .before .before .before .before .before .before .before .before .before .pre) (c .before .before .before .before .before .before .before .if1 .left) (c .before .before .before .before .before .before .if2 .left) (c .before .before .before .before .before .if3 .left) (c .before .before .before .before .if4 .left) _ _ (c .before .before .put-ask .ensures)
+returns-4 : tie.Need-returns-4
+returns-4 c = ask-put _ _ _ _ (c .before .before .before .before .before .before .before .before .before .before .pre) (c .before .before .before .before .before .before .before .if1 .left) _ (c .before .before .before .before .before .before .size-holds .ensures) (c .before .before .before .before .before .if2 .left) (c .before .before .before .before .if3 .left) _ _ (c .before .before .put-ask .ensures)
 
 pub write-ask-spec : {M : Type 1} → statement M
 write-ask-spec =
     tie.close
-    (tie.spec returns returns-2 returns-3 returns-4 put-ask-requires same-length returns-5)
+    (tie.spec returns size-holds-requires returns-2 returns-3 put-ask-requires same-length returns-4)
