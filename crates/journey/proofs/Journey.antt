@@ -165,10 +165,10 @@ module _ (c : Codec) (law : Lawful c) (Elsewhere : List ℕ → Type 0) where
       let a1 = through (c .readAnswer (L .query .order) s) _ _ (must-rest (soundIn room L) 2 _ _ e) in
       took-query room L (a1 .value) K (took room L (a1 .value) K (a1 .second))
 
-  takes-inv : (w : World) (j room : ℕ) (s : List ℕ) → Inv w → j < length (w .lists) → List·Memᴰ s (w .air) → (r : Outcome Listing)
-      → taking c room (theList w j) s ≡ r → Inv (moved w j r)
-  takes-inv w j room s i hj m (refused k) e = i
-  takes-inv w j room s i hj m (gives K) e =
+  takes-inv : (w : World) (j at room : ℕ) (s : List ℕ) → Inv w → j < length (w .lists) → List·Memᴰ s (w .air) → (r : Outcome Listing)
+      → taking c room (theList w j) s ≡ r → Inv (moved w at r)
+  takes-inv w j at room s i hj m (refused k) e = i
+  takes-inv w j at room s i hj m (gives K) e =
       let L : Listing = theList w j in
       let q : K .query ≡ L .query = same-query room L K s e in
       let good : Good (w .table) L = all-getD _ (w .lists) j noListing (i .lists) hj in
@@ -178,17 +178,18 @@ module _ (c : Codec) (law : Lawful c) (Elsewhere : List ℕ → Type 0) where
       record {
         table = i .table;
         air = i .air;
-        lists = all-set _ (w .lists) j K (i .lists) (record { query = rw q (good .query); spoken = rw q (good .spoken); kept = keeps });
+        lists = all-set _ (w .lists) at K (i .lists) (record { query = rw q (good .query); spoken = rw q (good .spoken); kept = keeps });
       }
 
-  -- This holds whatever room the two ends are given: that they do not refuse everything is promised elsewhere, in `Growth`.
+  -- This holds whatever room the two ends are given, whichever line the office reads and wherever a list is put that took one: what shuts out
+  -- ends that refuse, repeat or drop everything stands in `Growth`.
   step-inv : (w : World) (e : Event) → Inv w → Allowed c Elsewhere w e → Inv (next c w e)
   unfolding next Allowed
   step-inv w (enters run) i a = enters-inv w run i a _ refl
   step-inv w (opens q) i a = opens-inv w q i (a .0) (a .1) _ refl
   step-inv w (asks j size room out) i a = asks-inv w (theList w j) room size out i (all-getD _ (w .lists) j noListing (i .lists) a .query) _ refl
-  step-inv w (receives s out) i a = receives-inv w s _ i _ refl
-  step-inv w (takes j room s) i a = takes-inv w j _ s i (a .0) (a .1) _ refl
+  step-inv w (receives s out) i a = receives-inv w _ _ i _ refl
+  step-inv w (takes j room s) i a = takes-inv w j _ _ s i (a .0) (a .1) _ refl
   step-inv w (strays s) i a = sent-inv w s i (λ o y r. inr a)
 
   pub always : {w : World} → Reachable c Elsewhere w → Inv w
@@ -217,8 +218,8 @@ module _ (c : Codec) (law : Lawful c) (Elsewhere : List ℕ → Type 0) where
   next-onward w (enters run) = entered-onward w run _ refl
   next-onward w (opens q) = added-onward w (opening q)
   next-onward w (asks i size room out) = sent-onward w (asking c room size out (theList w i))
-  next-onward w (receives s out) = sent-onward w (office c (w .table) _ s)
-  next-onward w (takes i room s) = moved-onward w i (taking c _ (theList w i) s)
+  next-onward w (receives s out) = sent-onward w (office c (w .table) _ _)
+  next-onward w (takes i room s) = moved-onward w _ (taking c _ (theList w i) s)
   next-onward w (strays s) = sent-onward w (gives s)
 
   pub later-grown : (w : World) {v : World} → Later c Elsewhere w v → Grown (w .table) (v .table)
