@@ -50,6 +50,11 @@ entered-ok t run u e ok typed =
       references = λ k m. ⊎-elim (λ a. ok .references k a) (λ a. typed k a) (List·Memᴰ·append-cases (t .claims) m);
     })
 
+-- what one event, or none, makes of a world
+record Onward (w v : World) : Type 0 where
+  table : Grown (w .table) (v .table)
+  lists : length (w .lists) ≤ length (v .lists)
+
 module _ (c : Codec) (law : Lawful c) (Elsewhere : List ℕ → Type 0) where
   -- a line of the air, read as an answer, is one that the office gave, or comes from elsewhere
   abbrev pub Honest : Table → List ℕ → Type 0
@@ -160,10 +165,10 @@ module _ (c : Codec) (law : Lawful c) (Elsewhere : List ℕ → Type 0) where
       let a1 = through (c .readAnswer (L .query .order) s) _ _ (must-rest (soundIn room L) 2 _ _ e) in
       took-query room L (a1 .value) K (took room L (a1 .value) K (a1 .second))
 
-  takes-inv : (w : World) (j room : ℕ) (s : List ℕ) → Inv w → j < length (w .lists) → List·Memᴰ s (w .air) → (r : Outcome Listing)
-      → taking c room (theList w j) s ≡ r → Inv (moved w j r)
-  takes-inv w j room s i hj m (refused k) e = i
-  takes-inv w j room s i hj m (gives K) e =
+  takes-inv : (w : World) (j at room : ℕ) (s : List ℕ) → Inv w → j < length (w .lists) → List·Memᴰ s (w .air) → (r : Outcome Listing)
+      → taking c room (theList w j) s ≡ r → Inv (moved w at r)
+  takes-inv w j at room s i hj m (refused k) e = i
+  takes-inv w j at room s i hj m (gives K) e =
       let L : Listing = theList w j in
       let q : K .query ≡ L .query = same-query room L K s e in
       let good : Good (w .table) L = all-getD _ (w .lists) j noListing (i .lists) hj in
@@ -173,82 +178,58 @@ module _ (c : Codec) (law : Lawful c) (Elsewhere : List ℕ → Type 0) where
       record {
         table = i .table;
         air = i .air;
-        lists = all-set _ (w .lists) j K (i .lists) (record { query = rw q (good .query); spoken = rw q (good .spoken); kept = keeps });
+        lists = all-set _ (w .lists) at K (i .lists) (record { query = rw q (good .query); spoken = rw q (good .spoken); kept = keeps });
       }
 
+  -- This holds whatever room the two ends are given, whichever line the office reads and wherever a list is put that took one: what shuts out
+  -- ends that refuse, repeat or drop everything stands in `Growth`.
   step-inv : (w : World) (e : Event) → Inv w → Allowed c Elsewhere w e → Inv (next c w e)
   unfolding next Allowed
   step-inv w (enters run) i a = enters-inv w run i a _ refl
   step-inv w (opens q) i a = opens-inv w q i (a .0) (a .1) _ refl
   step-inv w (asks j size room out) i a = asks-inv w (theList w j) room size out i (all-getD _ (w .lists) j noListing (i .lists) a .query) _ refl
-  step-inv w (receives s out) i a = receives-inv w s out i _ refl
-  step-inv w (takes j room s) i a = takes-inv w j room s i (a .0) (a .1) _ refl
+  step-inv w (receives s out) i a = receives-inv w _ _ i _ refl
+  step-inv w (takes j room s) i a = takes-inv w j _ _ s i (a .0) (a .1) _ refl
   step-inv w (strays s) i a = sent-inv w s i (λ o y r. inr a)
 
   pub always : {w : World} → Reachable c Elsewhere w → Inv w
   always (begins t ok) = record { table = ok; air = tt; lists = tt }
   always (goes {w} r e a) = step-inv w e (always r) a
 
-  -- each event leaves the table as it was, or enters a run
-  entered-same : (w : World) (run : List Claim) (x : Outcome Table) → entering (w .table) run ≡ x → Grown (w .table) (entered w x .table)
-  entered-same w run (refused n) e = grown-same _
-  entered-same w run (gives u) e = entered-grown (w .table) run u (was-entered (w .table) run u e)
+  -- each event leaves the table as it was or enters a run, and loses no list
+  entered-onward : (w : World) (run : List Claim) (x : Outcome Table) → entering (w .table) run ≡ x → Onward w (entered w x)
+  entered-onward w run (refused n) e = record { table = grown-same _; lists = omega arith }
+  entered-onward w run (gives u) e = record { table = entered-grown (w .table) run u (was-entered (w .table) run u e); lists = omega arith }
 
-  added-same : (w : World) (x : Outcome Listing) → Grown (w .table) (added w x .table)
-  added-same w (refused n) = grown-same _
-  added-same w (gives L) = grown-same _
+  added-onward : (w : World) (x : Outcome Listing) → Onward w (added w x)
+  added-onward w (refused n) = record { table = grown-same _; lists = omega arith }
+  added-onward w (gives L) = record { table = grown-same _; lists = omega (arith, length-append (w .lists) (L ∷ [])) }
 
-  sent-same : (w : World) (x : Outcome (List ℕ)) → Grown (w .table) (sent w x .table)
-  sent-same w (refused n) = grown-same _
-  sent-same w (gives s) = grown-same _
+  sent-onward : (w : World) (x : Outcome (List ℕ)) → Onward w (sent w x)
+  sent-onward w (refused n) = record { table = grown-same _; lists = omega arith }
+  sent-onward w (gives s) = record { table = grown-same _; lists = omega arith }
 
-  moved-same : (w : World) (i : ℕ) (x : Outcome Listing) → Grown (w .table) (moved w i x .table)
-  moved-same w i (refused n) = grown-same _
-  moved-same w i (gives L) = grown-same _
+  moved-onward : (w : World) (i : ℕ) (x : Outcome Listing) → Onward w (moved w i x)
+  moved-onward w i (refused n) = record { table = grown-same _; lists = omega arith }
+  moved-onward w i (gives L) = record { table = grown-same _; lists = omega (arith, length-set (w .lists) i L) }
 
-  table-next : (w : World) (e : Event) → Grown (w .table) (next c w e .table)
+  next-onward : (w : World) (e : Event) → Onward w (next c w e)
   unfolding next
-  table-next w (enters run) = entered-same w run _ refl
-  table-next w (opens q) = added-same w (opening q)
-  table-next w (asks i size room out) = sent-same w (asking c room size out (theList w i))
-  table-next w (receives s out) = sent-same w (office c (w .table) out s)
-  table-next w (takes i room s) = moved-same w i (taking c room (theList w i) s)
-  table-next w (strays s) = grown-same _
+  next-onward w (enters run) = entered-onward w run _ refl
+  next-onward w (opens q) = added-onward w (opening q)
+  next-onward w (asks i size room out) = sent-onward w (asking c room size out (theList w i))
+  next-onward w (receives s out) = sent-onward w (office c (w .table) _ _)
+  next-onward w (takes i room s) = moved-onward w _ (taking c _ (theList w i) s)
+  next-onward w (strays s) = sent-onward w (gives s)
 
   pub later-grown : (w : World) {v : World} → Later c Elsewhere w v → Grown (w .table) (v .table)
   later-grown w now = grown-same _
-  later-grown w (onwards {v} l e a) = grown-trans _ _ _ (later-grown w l) (table-next v e)
+  later-grown w (onwards {v} l e a) = grown-trans _ _ _ (later-grown w l) (next-onward v e .table)
+
+  pub later-lists : (w : World) {v : World} → Later c Elsewhere w v → length (w .lists) ≤ length (v .lists)
+  later-lists w now = omega arith
+  later-lists w (onwards {v} l e a) = omega (arith, later-lists w l, next-onward v e .lists)
 
   pub later-reachable : (w : World) {v : World} → Reachable c Elsewhere w → Later c Elsewhere w v → Reachable c Elsewhere v
   later-reachable w r now = r
   later-reachable w r (onwards l e a) = goes (later-reachable w r l) e a
-
-  -- no list is ever lost
-  added-lists : (w : World) (x : Outcome Listing) → length (w .lists) ≤ length (added w x .lists)
-  added-lists w (refused n) = omega arith
-  added-lists w (gives L) = omega (arith, length-append (w .lists) (L ∷ []))
-
-  sent-lists : (w : World) (x : Outcome (List ℕ)) → length (w .lists) ≤ length (sent w x .lists)
-  sent-lists w (refused n) = omega arith
-  sent-lists w (gives s) = omega arith
-
-  entered-lists : (w : World) (x : Outcome Table) → length (w .lists) ≤ length (entered w x .lists)
-  entered-lists w (refused n) = omega arith
-  entered-lists w (gives t) = omega arith
-
-  moved-lists : (w : World) (i : ℕ) (x : Outcome Listing) → length (w .lists) ≤ length (moved w i x .lists)
-  moved-lists w i (refused n) = omega arith
-  moved-lists w i (gives L) = omega (arith, length-set (w .lists) i L)
-
-  lists-next : (w : World) (e : Event) → length (w .lists) ≤ length (next c w e .lists)
-  unfolding next
-  lists-next w (enters run) = entered-lists w (entering (w .table) run)
-  lists-next w (opens q) = added-lists w (opening q)
-  lists-next w (asks i size room out) = sent-lists w (asking c room size out (theList w i))
-  lists-next w (receives s out) = sent-lists w (office c (w .table) out s)
-  lists-next w (takes i room s) = moved-lists w i (taking c room (theList w i) s)
-  lists-next w (strays s) = omega arith
-
-  pub later-lists : (w : World) {v : World} → Later c Elsewhere w v → length (w .lists) ≤ length (v .lists)
-  later-lists w now = omega arith
-  later-lists w (onwards {v} l e a) = omega (arith, later-lists w l, lists-next v e)
