@@ -1,12 +1,12 @@
 // A row of the output room.
 ghost use mathlib.Core.Path.{_≡_};
 ghost use Prim.Native.Nat.{_+_, _*_, _≤_};
-ghost use mathlib.Core.Bool.{cond};
 ghost use mathlib.Core.List.{[], _∷_};
 ghost use lib.ListN.{length};
 ghost use lib.Seq.{sets};
 ghost use Rattle.many.specs.Rows.{foundRow};
 ghost use Rattle.many.specs.Pages.{pageRow};
+use paper::lines::flag;
 use paper::orders::Found;
 use paper::orders::Page;
 
@@ -42,12 +42,6 @@ pub fn put_found(out: &mut [u64], i: usize, f: Found)
     }
 }
 
-fn flag(b: bool) -> u64
-    ensures { λ r. ⌜ r ≡ cond b 1 0 ⌝ }
-{
-    if b { 1 } else { 0 }
-}
-
 // Row i: the refusal, how many items, and whether they are the last.
 pub fn put_page(outcomes: &mut [u64], i: usize, p: Page)
     requires { ⌜ i * 3 + 3 ≤ length (now outcomes) ⌝ }
@@ -56,7 +50,7 @@ pub fn put_page(outcomes: &mut [u64], i: usize, p: Page)
     match p {
         Page::Refused(n) => put_three(outcomes, i * 3, n as u64, 0, 0),
         Page::Filled(paged) => {
-            let last = flag(paged.last);
+            let last = flag(paged.last) as u64;
             put_three(outcomes, i * 3, 0, paged.count as u64, last)
         }
     }

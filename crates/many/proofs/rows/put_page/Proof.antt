@@ -22,6 +22,9 @@ enum-known-p-2 c = search needs
 flag-requires : tie.Need-flag-requires
 flag-requires c κs = search needs
 
+cast-last : tie.Need-cast-last
+cast-last c = search needs
+
 mul-put-three-2 : tie.Need-mul-put-three-2
 mul-put-three-2 c = search needs
 
@@ -50,6 +53,7 @@ put-page-spec =
     put-three-requires
     enum-known-p-2
     flag-requires
+    cast-last
     mul-put-three-2
     put-three-requires-2
     same-length
