@@ -11,7 +11,10 @@ use Rattle.paper.specs.Lines.{headOk, behind, askRanges, askOk, askAt, a
 use Rattle.paper.specs.Codec.{scopeOf, placeIn, answerLine, asked, readAsk}
 use Rattle.paper.specs.Ends.{matches, answerOf, answerTo, served}
 use Rattle.paper.specs.Calls.{nearestCall, farthestCall, thePage, pageCall, officeCall}
-use Rattle.paper.specs.CallExamples.{MakingMarked, EnteringMarked, AskingMarked, OfficeMarked}
+use Rattle.paper.specs.CallExamples.{LimitsMarked, MakingMarked, EnteringMarked, AskingMarked, OfficeMarked}
+
+pub limits-marked : LimitsMarked
+limits-marked = record { places = refl; claims = refl; page = refl; frame = refl; answer = refl; ask = refl; claim = refl }
 
 pub making-marked : MakingMarked
 unfolding makeCall fits inRange
@@ -69,7 +72,7 @@ asking-marked =
       next = refl;
       far = refl;
       size0 = refl;
-      size17 = refl;
+      sizeOver = refl;
       snapshot7 = refl;
       mark8 = refl;
       beyond8 = refl;

@@ -10,7 +10,7 @@ use Rattle.paper.specs.Codec.{scopeOf, placeIn, askLine, answered, readA
 use Rattle.paper.specs.Ends.{opening, presentPlace, every, rising, startedWell, soundIn, asking, sameProbe, sameQuery, samePlace, toPresent, pageHolds, joinedTo, taken, taking}
 use Rattle.paper.specs.Lists.{itemsIn, listing, unusedZero, openedAs, openingHeld, askingHeld, takingHeld, put}
 use Rattle.paper.specs.LineExamples.{ListsMarked, TakingMarked, LinesMarked, CallsMarked}
-use Rattle.paper.proofs.CallExamples.{making-marked, entering-marked, asking-marked, office-marked}
+use Rattle.paper.proofs.CallExamples.{limits-marked, making-marked, entering-marked, asking-marked, office-marked}
 
 pub lists-marked : ListsMarked
 unfolding openingHeld opening openedAs inRange unusedZero every itemsIn listing soundIn rising startedWell rank before presentPlace asking askingHeld
@@ -26,7 +26,7 @@ lists-marked =
       falling2 = refl;
       whole16 = refl;
       size0 = refl;
-      size17 = refl;
+      sizeOver = refl;
       room12 = refl;
       first2 = refl;
       first16 = refl;
@@ -96,6 +96,7 @@ lines-marked =
 pub calls-marked : CallsMarked
 calls-marked =
     record {
+      limits = limits-marked;
       making = making-marked;
       entering = entering-marked;
       asking = asking-marked;

@@ -1,6 +1,6 @@
 -- The public calls on tables by example, each worked by hand from document 01: what a call gives, and of two refusals that apply the earlier.
 -- The claims, probe and reach are those of its marked examples. Definitions only.
-use Prim.Native.Nat.{ℕ}
+use Prim.Native.Nat.{ℕ, _+_, _-_, _*_}
 use mathlib.Core.Path.{_≡_}
 use mathlib.Core.Bool.{true, false}
 use mathlib.Core.List.{List, [], _∷_, _++_}
@@ -10,6 +10,7 @@ use Rattle.paper.specs.declared.orders.Order.the-variants.{Near, Far}
 use Rattle.paper.specs.declared.orders.Place.{Place}
 use Rattle.paper.specs.declared.orders.Place.the-variants.{Start}
 use Rattle.paper.specs.declared.tables.Table.{Table}
+use Rattle.paper.specs.Limits.{mostPlaces, mostClaims, mostPage, longestFrame, longestAnswer, longestAsk, longestClaim}
 use Rattle.paper.specs.Orders.{Found, nothing, found}
 use Rattle.paper.specs.Tree.{Store, store}
 use Rattle.paper.specs.Outcomes.{Outcome, refused, gives}
@@ -92,25 +93,40 @@ abbrev pub noLine : List ℕ
 noLine = 48 ∷ []
 
 abbrev pub officeAt : Store → List ℕ → Outcome (List ℕ)
-officeAt s line = officeCall s 573 line
+officeAt s line = officeCall s longestAnswer line
 
--- ---- "Making an empty table: 1."
+-- one item more than a page has
+abbrev pub tooMany : ℕ
+tooMany = mostPage + 1
+
+-- ---- the limits, as numbers
+
+pub record LimitsMarked : Type 0 where
+  pub places : mostPlaces ≡ 8
+  pub claims : mostClaims ≡ 4096
+  pub page : mostPage ≡ 16
+  pub frame : longestFrame ≡ 286
+  pub answer : longestAnswer ≡ 573
+  pub ask : longestAsk ≡ 123
+  pub claim : longestClaim ≡ 87
+
+-- ---- making an empty table: 1
 
 pub record MakingMarked : Type 0 where
   pub made : makeCall none ≡ gives (header 1 1 6 0 0)
-  -- "measure, d or capacity out of range"
+  -- each out of its range
   pub measure0 : makeCall (empty 0 1 6 6 6 36) ≡ refused 1
   pub measure4 : makeCall (empty 4 1 6 6 6 36) ≡ refused 1
   pub d0 : makeCall (empty 1 0 6 6 6 36) ≡ refused 1
   pub d9 : makeCall (empty 1 9 6 6 54 36) ≡ refused 1
   pub capacity0 : makeCall (empty 1 1 0 6 6 36) ≡ refused 1
   pub capacity4097 : makeCall (empty 1 1 4097 4097 4097 24582) ≡ refused 1
-  -- "or lent memory smaller than these need"
+  -- and each part of lent memory one short
   pub references5 : makeCall (empty 1 1 6 5 6 36) ≡ refused 1
   pub coordinates11 : makeCall (empty 1 2 6 6 11 36) ≡ refused 1
   pub rooms35 : makeCall (empty 1 1 6 6 6 35) ≡ refused 1
 
--- ---- "Entering: 1, 2, 5, 3, 4."
+-- ---- entering: 1, 2, 5, 3, 4
 
 pub record EnteringMarked : Type 0 where
   -- every call on a table begins with 1 and 2; more claims than the capacity are not sound either
@@ -121,7 +137,7 @@ pub record EnteringMarked : Type 0 where
   pub short1 : passed short ≡ refused 1
   -- the five claims into a table that has none: example a's rooms
   pub entered : enterCall none (101 ∷ 102 ∷ 103 ∷ 104 ∷ 105 ∷ []) (pos 2 ∷ pos 3 ∷ pos 9 ∷ pos 6 ∷ pos 5 ∷ []) ≡ gives five
-  -- "an empty run is accepted"
+  -- a run of no claims
   pub nothingEntered : enterCall five [] [] ≡ gives five
   pub full3 : enterCall five (106 ∷ 107 ∷ []) (pos 4 ∷ pos 4 ∷ []) ≡ refused 3
   pub uneven5 : enterCall five (106 ∷ []) (pos 4 ∷ pos 4 ∷ []) ≡ refused 5
@@ -130,7 +146,7 @@ pub record EnteringMarked : Type 0 where
   pub first2 : enterCall changed (106 ∷ []) (pos 4 ∷ pos 4 ∷ []) ≡ refused 2
   pub first1 : enterCall short (106 ∷ []) (pos 4 ∷ []) ≡ refused 1
 
--- ---- "Nearest and farthest: 1, 2, 5." "Page: 1, 2, 5, 6, 7, 8, 12."
+-- ---- nearest and farthest: 1, 2, 5; a page: 1, 2, 5, 6, 7, 8, 12
 
 pub record AskingMarked : Type 0 where
   -- examples c and d
@@ -141,7 +157,7 @@ pub record AskingMarked : Type 0 where
   pub nearest2 : nearestCall changed wide 5 ≡ refused 2
   pub nearest1 : nearestCall short four 5 ≡ refused 1
   pub farthest : farthestCall five four ≡ gives (found (item 2 103 5))
-  -- "Nothing exactly if the table is empty"
+  -- a table without a claim
   pub ofNone : farthestCall none four ≡ gives nothing
   pub farthest5 : farthestCall five wide ≡ refused 5
   pub farthest2 : farthestCall changed wide ≡ refused 2
@@ -151,8 +167,8 @@ pub record AskingMarked : Type 0 where
   pub next : pageAt five four (after 5 1 4) 2 6 ≡ gives (record { items = item 0 101 2 ∷ item 3 104 2 ∷ []; last = false })
   pub far : pageCall five Far four 5 Start 1 3 ≡ gives (record { items = item 2 103 5 ∷ []; last = false })
   pub size0 : pageAt five four Start 0 6 ≡ refused 6
-  pub size17 : pageAt five four Start 17 51 ≡ refused 6
-  -- examples h and g; a mark over reach; "output room under the page size in items"
+  pub sizeOver : pageAt five four Start tooMany (3 * tooMany) ≡ refused 6
+  -- examples h and g; a mark over reach; a room for one item too few
   pub snapshot7 : pageAt five four (after 6 1 4) 2 6 ≡ refused 7
   pub mark8 : pageAt five four (after 5 2 4) 2 6 ≡ refused 8
   pub beyond8 : pageCall five Near four 4 (after 5 5 2) 2 6 ≡ refused 8
@@ -165,21 +181,21 @@ pub record AskingMarked : Type 0 where
   pub first7 : pageAt five four (after 6 2 4) 2 6 ≡ refused 7
   pub first8 : pageAt five four (after 5 2 4) 2 5 ≡ refused 8
 
--- ---- "Office: 12, 1, 2, 9, 10, 11, 7, 8."
+-- ---- the office: 12, 1, 2, 9, 10, 11, 7, 8
 
 pub record OfficeMarked : Type 0 where
   pub answered : officeAt five sampleAsk ≡ gives sampleAnswer
-  pub room12 : officeCall five 572 sampleAsk ≡ refused 12
+  pub room12 : officeCall five (longestAnswer - 1) sampleAsk ≡ refused 12
   pub line9 : officeAt five noLine ≡ refused 9
   pub kind10 : officeAt five (asks 2 7 0 0 0 0 2) ≡ refused 10
   pub table11 : officeAt five (asks 1 8 0 0 0 0 2) ≡ refused 11
   pub snapshot7 : officeAt five (asks 1 7 1 6 1 4 2) ≡ refused 7
   pub mark8 : officeAt five (asks 1 7 1 5 2 4 2) ≡ refused 8
   -- of two the earlier
-  pub first12 : officeCall short 572 sampleAsk ≡ refused 12
+  pub first12 : officeCall short (longestAnswer - 1) sampleAsk ≡ refused 12
   pub first1 : officeAt short sampleAsk ≡ refused 1
   pub first2 : officeAt changed noLine ≡ refused 2
   pub first9 : officeAt five (askBytes 2 7 0 0 0 0 2) ≡ refused 9
-  pub first10 : officeAt five (asks 1 8 0 0 0 0 17) ≡ refused 10
+  pub first10 : officeAt five (asks 1 8 0 0 0 0 tooMany) ≡ refused 10
   pub first11 : officeAt five (asks 1 8 1 6 1 4 2) ≡ refused 11
   pub first7 : officeAt five (asks 1 7 1 6 2 4 2) ≡ refused 7

@@ -1,6 +1,6 @@
 -- The public calls on lists and lines by example, each worked by hand from document 01: what a call gives, and of two refusals that apply the
 -- earlier. The claims, probe and reach are those of its marked examples. Definitions only.
-use Prim.Native.Nat.{ℕ}
+use Prim.Native.Nat.{ℕ, _-_, _*_}
 use mathlib.Core.Path.{_≡_}
 use mathlib.Core.Bool.{Bool, true, false}
 use mathlib.Core.List.{List, [], _∷_, _++_}
@@ -21,7 +21,7 @@ use Rattle.paper.specs.Lines.{bareLine, askFits, askFrame, anAsk, noAsk,
 use Rattle.paper.specs.Codec.{lines}
 use Rattle.paper.specs.Limits.{longestAsk, longestAnswer, longestClaim}
 use Rattle.paper.specs.EndExamples.{sampleAsk, sampleAnswer}
-use Rattle.paper.specs.CallExamples.{four, wide, noLine, askBytes, asks, MakingMarked, EnteringMarked, AskingMarked, OfficeMarked}
+use Rattle.paper.specs.CallExamples.{four, wide, noLine, askBytes, asks, tooMany, LimitsMarked, MakingMarked, EnteringMarked, AskingMarked, OfficeMarked}
 
 -- ---- lists
 
@@ -103,9 +103,9 @@ second = itemAt 0 101 2 ++ itemAt 3 104 2
 abbrev pub exchanged : List ℕ
 exchanged = itemAt 3 104 2 ++ itemAt 0 101 2
 
--- seventeen items, one more than an answer has
-abbrev pub seventeen : List ℕ
-seventeen = replicate 238 0
+-- one item more than an answer has
+abbrev pub overfull : List ℕ
+overfull = replicate (14 * tooMany) 0
 
 -- a claim with reference 101, at -2
 abbrev pub claimBytes : ℕ → List ℕ
@@ -143,27 +143,27 @@ writesAnswer p count ns out = bareLine (answerFits 1 1 four p 0 count ns) longes
 abbrev pub writesClaim : List ℤ → ℕ → Outcome (List ℕ)
 writesClaim cs out = bareLine (claimFits 1 1 cs) longestClaim (claimFrame 7 1 1 101 cs) out
 
--- ---- "Opening a list: 1, 5." "Writing an ask: 2, 16, 6, 12."
+-- ---- opening a list: 1, 5; writing an ask: 2, 16, 6, 12
 
 pub record ListsMarked : Type 0 where
   pub opened : openingHeld (opens 1 1 four) ≡ gives (listOf 0 false 0 0 false)
   pub open5 : openingHeld (opens 1 1 wide) ≡ refused 5
   pub open1 : openingHeld (opens 4 1 four) ≡ refused 1
   pub openFirst1 : openingHeld (opens 1 9 four) ≡ refused 1
-  -- "from 0 while not started; afterwards from 1, its snapshot, and its last item's distance and number as mark"
-  pub fresh : asked (openedIn []) 2 123 ≡ gives sampleAsk
-  pub later : asked begun 2 123 ≡ gives (asks 1 7 1 5 1 4 2)
-  pub falling2 : asked falling 2 123 ≡ refused 2
-  pub whole16 : asked whole 2 123 ≡ refused 16
-  pub size0 : asked begun 0 123 ≡ refused 6
-  pub size17 : asked begun 17 123 ≡ refused 6
-  pub room12 : asked begun 2 122 ≡ refused 12
+  -- from the start, and then after the last item
+  pub fresh : asked (openedIn []) 2 longestAsk ≡ gives sampleAsk
+  pub later : asked begun 2 longestAsk ≡ gives (asks 1 7 1 5 1 4 2)
+  pub falling2 : asked falling 2 longestAsk ≡ refused 2
+  pub whole16 : asked whole 2 longestAsk ≡ refused 16
+  pub size0 : asked begun 0 longestAsk ≡ refused 6
+  pub sizeOver : asked begun tooMany longestAsk ≡ refused 6
+  pub room12 : asked begun 2 (longestAsk - 1) ≡ refused 12
   -- of two the earlier
-  pub first2 : asked spoiled 2 123 ≡ refused 2
-  pub first16 : asked whole 0 123 ≡ refused 16
-  pub first6 : asked begun 0 122 ≡ refused 6
+  pub first2 : asked spoiled 2 longestAsk ≡ refused 2
+  pub first16 : asked whole 0 longestAsk ≡ refused 16
+  pub first6 : asked begun 0 (longestAsk - 1) ≡ refused 6
 
--- ---- "Taking: 2, 9, 10, 16, 13, 14, 15."
+-- ---- taking: 2, 9, 10, 16, 13, 14, 15
 
 pub record TakingMarked : Type 0 where
   -- the first page fixes the snapshot, a last one makes the list complete; what stands behind the items stays
@@ -192,28 +192,28 @@ pub record TakingMarked : Type 0 where
   pub first13 : took begun (answers 8 1 5 1 4 0 2 exchanged) ≡ refused 13
   pub first14 : took (held (listOf 0 true 5 2 false) (pageRoom 3)) (answers 7 1 5 1 4 0 2 exchanged) ≡ refused 14
 
--- ---- "Bare line writers: 10, 12. Bare line readers: 9, 10; they give the fields by value, unused places 0."
+-- ---- bare writers: 10, 12; bare readers: 9, 10
 
 pub record LinesMarked : Type 0 where
-  pub askWritten : writesAsk four (scope 0 0 0 0) 2 123 ≡ gives sampleAsk
-  pub ask12 : writesAsk four (scope 0 0 0 0) 2 122 ≡ refused 12
-  pub askSize10 : writesAsk four (scope 0 0 0 0) 17 122 ≡ refused 10
-  pub askProbe10 : writesAsk wide (scope 0 0 0 0) 2 123 ≡ refused 10
-  pub askSnapshot10 : writesAsk four (scope 0 5 0 0) 2 123 ≡ refused 10
-  pub answerWritten : writesAnswer (scope 0 5 0 0) 2 (1 ∷ 102 ∷ 1 ∷ 4 ∷ 105 ∷ 1 ∷ []) 573 ≡ gives sampleAnswer
-  pub answer12 : writesAnswer (scope 0 5 0 0) 0 [] 572 ≡ refused 12
-  pub answerMark10 : writesAnswer (scope 0 5 1 0) 0 [] 572 ≡ refused 10
-  pub answerItems10 : writesAnswer (scope 0 5 0 0) 2 (1 ∷ 102 ∷ 1 ∷ []) 573 ≡ refused 10
-  pub claimWritten : writesClaim (negsuc 1 ∷ []) 87 ≡ gives (lineOf (claimBytes 3))
-  pub claim12 : writesClaim (negsuc 1 ∷ []) 86 ≡ refused 12
-  pub claim10 : writesClaim wide 86 ≡ refused 10
+  pub askWritten : writesAsk four (scope 0 0 0 0) 2 longestAsk ≡ gives sampleAsk
+  pub ask12 : writesAsk four (scope 0 0 0 0) 2 (longestAsk - 1) ≡ refused 12
+  pub askSize10 : writesAsk four (scope 0 0 0 0) tooMany (longestAsk - 1) ≡ refused 10
+  pub askProbe10 : writesAsk wide (scope 0 0 0 0) 2 longestAsk ≡ refused 10
+  pub askSnapshot10 : writesAsk four (scope 0 5 0 0) 2 longestAsk ≡ refused 10
+  pub answerWritten : writesAnswer (scope 0 5 0 0) 2 (1 ∷ 102 ∷ 1 ∷ 4 ∷ 105 ∷ 1 ∷ []) longestAnswer ≡ gives sampleAnswer
+  pub answer12 : writesAnswer (scope 0 5 0 0) 0 [] (longestAnswer - 1) ≡ refused 12
+  pub answerMark10 : writesAnswer (scope 0 5 1 0) 0 [] (longestAnswer - 1) ≡ refused 10
+  pub answerItems10 : writesAnswer (scope 0 5 0 0) 2 (1 ∷ 102 ∷ 1 ∷ []) longestAnswer ≡ refused 10
+  pub claimWritten : writesClaim (negsuc 1 ∷ []) longestClaim ≡ gives (lineOf (claimBytes 3))
+  pub claim12 : writesClaim (negsuc 1 ∷ []) (longestClaim - 1) ≡ refused 12
+  pub claim10 : writesClaim wide (longestClaim - 1) ≡ refused 10
   pub askRead : askOf 1 sampleAsk ≡ anAsk askValue
-  pub askNot9 : askOf 1 (askBytes 1 7 0 0 0 0 17) ≡ noAsk 9
-  pub askNot10 : askOf 1 (asks 1 7 0 0 0 0 17) ≡ noAsk 10
+  pub askNot9 : askOf 1 (askBytes 1 7 0 0 0 0 tooMany) ≡ noAsk 9
+  pub askNot10 : askOf 1 (asks 1 7 0 0 0 0 tooMany) ≡ noAsk 10
   pub askKind10 : askOf 1 sampleAnswer ≡ noAsk 10
   pub answerRead : answerOf 2 sampleAnswer ≡ anAnswer answerValue
   pub answerNot9 : answerOf 2 noLine ≡ noAnswer 9
-  pub answerNot10 : answerOf 2 (answers 7 0 5 0 0 0 17 seventeen) ≡ noAnswer 10
+  pub answerNot10 : answerOf 2 (answers 7 0 5 0 0 0 tooMany overfull) ≡ noAnswer 10
   pub answerKind10 : answerOf 2 sampleAsk ≡ noAnswer 10
   pub claimRead : claimOf (lineOf (claimBytes 3)) ≡ aClaim claimValue
   pub claimNot9 : claimOf (claimBytes 1) ≡ noClaim 9
@@ -222,6 +222,7 @@ pub record LinesMarked : Type 0 where
 -- ---- the public calls together
 
 pub record CallsMarked : Type 0 where
+  pub limits : LimitsMarked
   pub making : MakingMarked
   pub entering : EnteringMarked
   pub asking : AskingMarked
