@@ -19,7 +19,7 @@ use Rattle.paper.specs.Ends.{Listing}
 use Rattle.paper.specs.Lists.{Held, held, openingHeld, askingHeld, takingHeld, put}
 use Rattle.paper.specs.Lines.{bareLine, askFits, askFrame, anAsk, noAsk, askOf, answerFits, answerFrame, anAnswer, noAnswer, answerOf, claimFits, claimFrame, aClaim, noClaim, claimOf}
 use Rattle.paper.specs.Codec.{lines}
-use Rattle.paper.specs.Limits.{longestAsk, longestAnswer, longestClaim}
+use Rattle.paper.specs.Limits.{itemRoom, longestAsk, longestAnswer, longestClaim}
 use Rattle.paper.specs.EndExamples.{sampleAsk, sampleAnswer}
 use Rattle.paper.specs.CallExamples.{four, wide, noLine, askBytes, asks, tooMany, LimitsMarked, MakingMarked, EnteringMarked, AskingMarked, OfficeMarked}
 
@@ -128,7 +128,7 @@ answerValue =
       scope = scope 0 5 0 0;
       last = 0;
       count = 2;
-      items = (1 ∷ 102 ∷ 1 ∷ 4 ∷ 105 ∷ 1 ∷ []) ++ replicate 42 0;
+      items = (1 ∷ 102 ∷ 1 ∷ 4 ∷ 105 ∷ 1 ∷ []) ++ replicate (itemRoom - 6) 0;
     }
 
 abbrev pub claimValue : ClaimLine
