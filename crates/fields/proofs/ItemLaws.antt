@@ -14,7 +14,7 @@ use Rattle.digits.specs.Places.{over}
 use Rattle.digits.proofs.Laws.{and-false, and-both, num-lt, Bytes, bytes-append, bytes-be, bytes-drop, length-be, field-read, field-back}
 use Rattle.paper.specs.Fields.{item, itemBytes, itemsIn, numbersOk, referencesOk}
 use Rattle.fields.proofs.PartLaws.{over-to}
-use Rattle.paper.specs.Limits.{itemRoom, mostNumber}
+use Rattle.paper.specs.Limits.{itemRoom, mostNumber, mostPage}
 
 pub length-item : (n r x : ℕ) → length (item n r x) ≡ 14
 unfolding item
@@ -83,7 +83,7 @@ three (h ∷ p) q (suc n) a b c x y z e =
     let e2 : suc n + 2 ≡ suc (n + 2) = omega arith in
     rw (e1, e2) (ap (λ (l : List ℕ). h ∷ l) (three p q n a b c x y z (omega arith)))
 
-pub places-step : (f : List ℕ) (i : ℕ) → i < 16
+pub places-step : (f : List ℕ) (i : ℕ) → i < mostPage
     → set (set (set (itemsIn i f ++ replicate (itemRoom - 3 * i) 0) (3 * i) (num 2 (drop (14 * i) f))) (3 * i + 1) (num 4 (drop (14 * i + 2) f))) (3 * i + 2) (num 8 (drop (14 * i + 6) f))
     ≡ itemsIn (i + 1) f ++ replicate (itemRoom - 3 * (i + 1)) 0
 places-step f i h =
