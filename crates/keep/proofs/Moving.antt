@@ -4,8 +4,8 @@ use mathlib.Core.Path.{_≡_, refl, sym, ap, _∙_, subst}
 use mathlib.Core.List.{List, [], _∷_, _++_, append-assoc}
 use native.Mathlib.Omega.{arith}
 use lib.ListN.{length, take, drop, getD, set, length-append, length-set, length-drop, length-take, take-append-drop}
-use lib.Seq.{take-set-le, drop-set-add, set-split, drop-at, take-at, set-at, take-suc, getD-drop, take-append-add}
-use Rattle.keep.specs.Kept.{shifted, written}
+use lib.Seq.{take-set-le, drop-set-add, set-split, drop-at, take-at, set-at, take-suc, getD-drop, take-append-add, sets}
+use Rattle.keep.specs.Kept.{shifted}
 
 pub record Shifting (a e : ℕ) (o₀ o : List ℕ) (i : ℕ) : Type 0 where
   pub low : a ≤ i
@@ -59,8 +59,14 @@ shifting-done a e o₀ o i g h =
     let t : shifted a a o ≡ o = rw z (take-append-drop (a + 3) o) in
     sym t ∙ subst (λ (u : ℕ). shifted a u o ≡ shifted a e o₀) x (g .todo)
 
-written-at : (A Y T : List ℕ) (a x y z : ℕ) → length A ≡ a → length Y ≡ 3 → written a x y z ((A ++ Y) ++ T) ≡ A ++ (x ∷ y ∷ z ∷ T)
-unfolding written
+-- three numbers put one after the other
+pub three : (l : List ℕ) (a x y z : ℕ) → set (set (set l a x) (a + 1) y) (a + 2) z ≡ sets l a (x ∷ y ∷ z ∷ [])
+three l a x y z =
+    let p : a + 1 ≡ suc a = omega arith in
+    let q : a + 2 ≡ suc (suc a) = omega arith in
+    rw (p, q)
+
+written-at : (A Y T : List ℕ) (a x y z : ℕ) → length A ≡ a → length Y ≡ 3 → sets ((A ++ Y) ++ T) a (x ∷ y ∷ z ∷ []) ≡ A ++ (x ∷ y ∷ z ∷ T)
 written-at A (p ∷ q ∷ r ∷ []) T a x y z hA hY =
     let l₁ : length (A ++ (x ∷ [])) ≡ a + 1 = length-append A (x ∷ []) ∙ ap (λ (t : ℕ). t + 1) hA in
     let l₂ : length (A ++ (x ∷ y ∷ [])) ≡ a + 2 = length-append A (x ∷ y ∷ []) ∙ ap (λ (t : ℕ). t + 2) hA in
@@ -70,7 +76,7 @@ written-at A (p ∷ q ∷ r ∷ []) T a x y z hA hY =
     set-at (A ++ (x ∷ [])) q (r ∷ T) y (a + 1) l₁ ∙ append-assoc A (x ∷ []) (y ∷ r ∷ T) ∙ sym (append-assoc A (x ∷ y ∷ []) (r ∷ T)) in
     let e₃ : set ((A ++ (x ∷ y ∷ [])) ++ (r ∷ T)) (a + 2) z ≡ A ++ (x ∷ y ∷ z ∷ T) =
     set-at (A ++ (x ∷ y ∷ [])) r T z (a + 2) l₂ ∙ append-assoc A (x ∷ y ∷ []) (z ∷ T) in
-    ap (λ (t : List ℕ). set (set t (a + 1) y) (a + 2) z) e₁ ∙ ap (λ (t : List ℕ). set t (a + 2) z) e₂ ∙ e₃
+    sym (three ((A ++ (p ∷ q ∷ r ∷ [])) ++ T) a x y z) ∙ ap (λ (t : List ℕ). set (set t (a + 1) y) (a + 2) z) e₁ ∙ ap (λ (t : List ℕ). set t (a + 2) z) e₂ ∙ e₃
 written-at A [] T a x y z hA hY = absurd (omega arith)
 written-at A (p ∷ []) T a x y z hA hY = absurd (omega arith)
 written-at A (p ∷ q ∷ []) T a x y z hA hY = absurd (omega arith)
@@ -78,7 +84,7 @@ written-at A (p ∷ q ∷ r ∷ s ∷ Y) T a x y z hA hY = absurd (omega arith)
 
 -- B moves over X, and three numbers come before it
 pub moved-in : (A B X R : List ℕ) (a e x y z : ℕ) → length A ≡ a → a + length B ≡ e → length X ≡ 3
-    → written a x y z (shifted a e (A ++ (B ++ (X ++ R)))) ≡ A ++ (x ∷ y ∷ z ∷ (B ++ R))
+    → sets (shifted a e (A ++ (B ++ (X ++ R)))) a (x ∷ y ∷ z ∷ []) ≡ A ++ (x ∷ y ∷ z ∷ (B ++ R))
 unfolding shifted
 moved-in A B X R a e x y z hA hB hX =
     let T : List ℕ = B ++ (X ++ R) in
@@ -92,4 +98,4 @@ moved-in A B X R a e x y z hA hB hX =
     let p₄ : drop (e + 3) o ≡ R = ap (drop (e + 3)) q ∙ drop-at ((A ++ B) ++ X) R (e + 3) lABX in
     let l3 : length (take 3 T) ≡ 3 = length-take 3 T ∙ simp length-append (omega arith) in
     let s : shifted a e o ≡ (A ++ take 3 T) ++ (B ++ R) = rw (p₁, p₂, p₃, p₄) in
-    ap (written a x y z) s ∙ written-at A (take 3 T) (B ++ R) a x y z hA l3
+    ap (λ (t : List ℕ). sets t a (x ∷ y ∷ z ∷ [])) s ∙ written-at A (take 3 T) (B ++ R) a x y z hA l3

@@ -8,12 +8,12 @@ use native.Mathlib.Omega.{arith}
 use native.Mathlib.Nat.{le-refl, eq-or-lt-of-le}
 use lib.Dec.{ltb, eqb}
 use lib.ListN.{length, take, drop, getD, length-append, length-drop, length-take, take-append-drop}
-use lib.Seq.{take-all, take-at, drop-drop, take-append-add, take-length, drop-length}
+use lib.Seq.{take-all, take-at, drop-drop, take-append-add, take-length, drop-length, sets}
 use borrow.Author.Tests.{eq-eqb, ne-eqb, eqb-true, lt-ltb, ltb-true}
 use Rattle.paper.specs.declared.orders.Order.{Order}
 use Rattle.paper.specs.Orders.{rank, before}
 use Rattle.keep.specs.Page.{ranks, ahead, sooner, insert, items, filled}
-use Rattle.keep.specs.Kept.{key, Rising, none, more, Holding, Roomy, PlaceIs, shifted, written, heldAt, KeepIs}
+use Rattle.keep.specs.Kept.{key, Rising, none, more, Holding, Roomy, PlaceIs, shifted, heldAt, KeepIs}
 use Rattle.paper.proofs.Tests.{no-way}
 use Rattle.keep.proofs.Keeping.{sooner-true, key-sooner, rising-at, rising-few, rising-take, insert-rising}
 use Rattle.keep.proofs.Moving.{moved-in}
@@ -136,7 +136,7 @@ place-in order ref dist ok n size base o count l k x p px h g =
 -- claim k between the first p of l and the next up to q: the rest is dropped
 put-room : (ref dist : ℕ → ℕ) (l base X R : List ℕ) (k p q : ℕ) → p ≤ q → q ≤ length l → length X ≡ 3
     → items ref dist (drop q l) ++ drop (length l * 3) base ≡ X ++ R
-    → written (p * 3) k (ref k) (dist k) (shifted (p * 3) (q * 3) (filled ref dist l base)) ≡ items ref dist (take p l ++ (k ∷ take (q - p) (drop p l))) ++ R
+    → sets (shifted (p * 3) (q * 3) (filled ref dist l base)) (p * 3) (k ∷ ref k ∷ dist k ∷ []) ≡ items ref dist (take p l ++ (k ∷ take (q - p) (drop p l))) ++ R
 unfolding items
 put-room ref dist l base X R k p q hp hq hX rest =
     let A : List ℕ = take p l in
@@ -156,7 +156,7 @@ put-room ref dist l base X R k p q hp hq hX rest =
     ap (λ (t : List ℕ). t ++ D) e₃ ∙ append-assoc IA (IB ++ items ref dist (drop q l)) D
     ∙ ap (λ (t : List ℕ). IA ++ t) (append-assoc IB (items ref dist (drop q l)) D ∙ ap (λ (t : List ℕ). IB ++ t) rest) in
     let e₅ = moved-in IA IB X R (p * 3) (q * 3) k (ref k) (dist k) (items-length ref dist A ∙ omega arith) (omega (arith, items-length ref dist B)) hX in
-    ap (λ (t : List ℕ). written (p * 3) k (ref k) (dist k) (shifted (p * 3) (q * 3) t)) e₄ ∙ e₅
+    ap (λ (t : List ℕ). sets (shifted (p * 3) (q * 3) t) (p * 3) (k ∷ ref k ∷ dist k ∷ [])) e₄ ∙ e₅
     ∙ sym (ap (λ (t : List ℕ). t ++ R) (items-append ref dist A (k ∷ B)) ∙ append-assoc IA (k ∷ ref k ∷ dist k ∷ IB) R)
 
 held-yes : (o : List ℕ) (p count k : ℕ) → heldAt o p count k ≡ true → (p < count) × (getD o (p * 3) 0 ≡ k)
@@ -240,7 +240,7 @@ module _ (order : Order) (size : ℕ) (o : List ℕ) (count k y x p : ℕ) (room
 
   -- with q items left of the old ones
   put-in : (q r : ℕ) → p ≤ q → q < size → r ≡ q + 1 → Left size count q → (p < count → getD o (p * 3) 0 ≡ k → ⊥)
-      → KeepIs order size o count k y x (written (p * 3) k y x (shifted (p * 3) (q * 3) o)) r
+      → KeepIs order size o count k y x (sets (shifted (p * 3) (q * 3) o) (p * 3) (k ∷ y ∷ x ∷ [])) r
   put-in q r hp hq hr cases ne =
       record {
         few = omega arith;
@@ -266,11 +266,11 @@ module _ (order : Order) (size : ℕ) (o : List ℕ) (count k y x p : ℕ) (room
             });
       }
 
-  pub keep-more : (o₁ o₂ : List ℕ) → count < size → o₁ ≡ shifted (p * 3) (count * 3) o → o₂ ≡ written (p * 3) k y x o₁ → (t : Bool) → t ≡ heldAt o p count k → t ≡ false
+  pub keep-more : (o₁ o₂ : List ℕ) → count < size → o₁ ≡ shifted (p * 3) (count * 3) o → o₂ ≡ sets o₁ (p * 3) (k ∷ y ∷ x ∷ []) → (t : Bool) → t ≡ heldAt o p count k → t ≡ false
       → KeepIs order size o count k y x o₂ (count + 1)
   keep-more o₁ o₂ h e₁ e₂ t is no' = let ne = held-no o p count k (sym is ∙ no') in rw (e₂, e₁) (put-in count (count + 1) (at .few) h refl (inl refl) ne)
 
-  pub keep-over : (o₁ o₂ : List ℕ) → size ≤ count → (p ≡ size → ⊥) → o₁ ≡ shifted (p * 3) (count * 3 - 3) o → o₂ ≡ written (p * 3) k y x o₁ → (t : Bool) → t ≡ heldAt o p count k → t ≡ false
+  pub keep-over : (o₁ o₂ : List ℕ) → size ≤ count → (p ≡ size → ⊥) → o₁ ≡ shifted (p * 3) (count * 3 - 3) o → o₂ ≡ sets o₁ (p * 3) (k ∷ y ∷ x ∷ []) → (t : Bool) → t ≡ heldAt o p count k → t ≡ false
       → KeepIs order size o count k y x o₂ count
   keep-over o₁ o₂ h np e₁ e₂ t is no' =
       let ne = held-no o p count k (sym is ∙ no') in

@@ -65,10 +65,6 @@ pub record PlaceIs (order : Order) (room : List ℕ) (count x k r : ℕ) : Type 
 unfoldable pub shifted : ℕ → ℕ → List ℕ → List ℕ
 shifted a e room = take (a + 3) room ++ (take (e - a) (drop a room) ++ drop (e + 3) room)
 
--- three numbers put at a
-unfoldable pub written : ℕ → ℕ → ℕ → ℕ → List ℕ → List ℕ
-written a x y z room = set (set (set room a x) (a + 1) y) (a + 2) z
-
 -- item p is there, and is claim k
 unfoldable pub heldAt : List ℕ → ℕ → ℕ → ℕ → Bool
 heldAt room p count k = ltb p count && eqb (getD room (p * 3) 0) k

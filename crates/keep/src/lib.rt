@@ -3,8 +3,10 @@
 ghost use mathlib.Core.Path.{_≡_};
 ghost use Prim.Native.Nat.{_+_, _*_, _<_, _≤_};
 ghost use lib.ListN.{length};
+ghost use lib.Seq.{sets};
 ghost use mathlib.Core.Bool.{cond};
-ghost use Rattle.keep.specs.Kept.{Roomy, PlaceIs, shifted, written, heldAt, KeepIs};
+ghost use mathlib.Core.List.{[], _∷_};
+ghost use Rattle.keep.specs.Kept.{Roomy, PlaceIs, shifted, heldAt, KeepIs};
 ghost use Rattle.keep.specs.Skips.{admitted, boundOf, halfOf, beyondOf, passedOf};
 use paper::orders::Mark;
 use paper::orders::Order;
@@ -132,10 +134,10 @@ fn shift(room: &mut [u64], a: usize, e: usize)
     }
 }
 
-// Puts three numbers at a.
-fn write(room: &mut [u64], a: usize, x: u64, y: u64, z: u64)
+// Puts three numbers at a: an item, or a row of a caller that keeps rows of three.
+pub fn put_three(room: &mut [u64], a: usize, x: u64, y: u64, z: u64)
     requires { ⌜ a + 3 ≤ length (now room) ⌝ }
-    ensures { λ _. ⌜ now (room .exit) ≡ written a x y z (now (room .entry)) ⌝ }
+    ensures { λ _. ⌜ now (room .exit) ≡ sets (now (room .entry)) a (x ∷ y ∷ z ∷ []) ⌝ }
 {
     room[a] = x;
     room[a + 1] = y;
@@ -176,11 +178,11 @@ pub fn keep(
     }
     if count < size {
         shift(room, p * 3, count * 3);
-        write(room, p * 3, k, y, x);
+        put_three(room, p * 3, k, y, x);
         return count + 1;
     }
     shift(room, p * 3, count * 3 - 3);
-    write(room, p * 3, k, y, x);
+    put_three(room, p * 3, k, y, x);
     count
 }
 

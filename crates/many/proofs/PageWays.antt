@@ -33,12 +33,6 @@ use Rattle.paper.specs.Limits.{mostPage}
 
 -- ---- rows
 
-pub three : (l : List ℕ) (a x y z : ℕ) → set (set (set l a x) (a + 1) y) (a + 2) z ≡ sets l a (x ∷ y ∷ z ∷ [])
-three l a x y z =
-    let p : a + 1 ≡ suc a = omega arith in
-    let q : a + 2 ≡ suc (suc a) = omega arith in
-    rw (p, q)
-
 module _ (a : answers.Page) (before after : List ℕ) (at : ℕ) where
   pub row-refused : (n : ℕ) → a ≡ answers.the-variants.Refused n → after ≡ sets before at (n ∷ 0 ∷ 0 ∷ []) → after ≡ sets before at (pageRow a)
   unfolding pageRow

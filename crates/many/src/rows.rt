@@ -10,23 +10,13 @@ use paper::lines::flag;
 use paper::orders::Found;
 use paper::orders::Page;
 
-// Puts three numbers at a.
-fn put_three(out: &mut [u64], a: usize, x: u64, y: u64, z: u64)
-    requires { ⌜ a + 3 ≤ length (now out) ⌝ }
-    ensures { λ _. ⌜ now (out .exit) ≡ sets (now (out .entry)) a (x ∷ y ∷ z ∷ []) ⌝ }
-{
-    out[a] = x;
-    out[a + 1] = y;
-    out[a + 2] = z;
-}
-
 // Puts four numbers at a.
 fn put_four(out: &mut [u64], a: usize, w: u64, x: u64, y: u64, z: u64)
     requires { ⌜ a + 4 ≤ length (now out) ⌝ }
     ensures { λ _. ⌜ now (out .exit) ≡ sets (now (out .entry)) a (w ∷ x ∷ y ∷ z ∷ []) ⌝ }
 {
     out[a] = w;
-    put_three(out, a + 1, x, y, z);
+    keep::put_three(out, a + 1, x, y, z);
 }
 
 // Row i: whether an item was found, and the item.
@@ -48,10 +38,10 @@ pub fn put_page(outcomes: &mut [u64], i: usize, p: Page)
     ensures { λ _. ⌜ now (outcomes .exit) ≡ sets (now (outcomes .entry)) (i * 3) (pageRow p) ⌝ }
 {
     match p {
-        Page::Refused(n) => put_three(outcomes, i * 3, n as u64, 0, 0),
+        Page::Refused(n) => keep::put_three(outcomes, i * 3, n as u64, 0, 0),
         Page::Filled(paged) => {
             let last = flag(paged.last) as u64;
-            put_three(outcomes, i * 3, 0, paged.count as u64, last)
+            keep::put_three(outcomes, i * 3, 0, paged.count as u64, last)
         }
     }
 }

@@ -31,11 +31,11 @@ mul-shift-2 c = search needs
 shift-requires : tie.Need-shift-requires
 shift-requires c κs = search needs
 
-mul-write : tie.Need-mul-write
-mul-write c = search needs
+mul-put-three : tie.Need-mul-put-three
+mul-put-three c = search needs
 
-write-requires : tie.Need-write-requires
-write-requires c κs = search needs
+put-three-requires : tie.Need-put-three-requires
+put-three-requires c κs = search needs
 
 add-result : tie.Need-add-result
 add-result c = search needs
@@ -44,7 +44,7 @@ same-length-3 : tie.Need-same-length-3
 same-length-3 c = search needs
 
 returns-3 : tie.Need-returns-3
-returns-3 c = keep-more _ _ _ _ _ _ _ _ (c .before .before .before .before .before .before .before .before .before .before .before .before .before .before .before .before .pre) (c .before .before .before .before .before .before .before .before .before .before .before .before .before .place .ensures) _ _ (c .before .before .before .before .before .before .before .before .if3 .taken) (c .before .before .before .before .before .before .shift .ensures) (c .before .before .write .ensures) _ (c .before .before .before .before .before .before .before .before .before .before .held .ensures) (c .before .before .before .before .before .before .before .before .before .if2 .left)
+returns-3 c = keep-more _ _ _ _ _ _ _ _ (c .before .before .before .before .before .before .before .before .before .before .before .before .before .before .before .before .pre) (c .before .before .before .before .before .before .before .before .before .before .before .before .before .place .ensures) _ _ (c .before .before .before .before .before .before .before .before .if3 .taken) (c .before .before .before .before .before .before .shift .ensures) (c .before .before .put-three .ensures) _ (c .before .before .before .before .before .before .before .before .before .before .held .ensures) (c .before .before .before .before .before .before .before .before .before .if2 .left)
 
 mul-shift-3 : tie.Need-mul-shift-3
 mul-shift-3 c = search needs
@@ -58,17 +58,17 @@ sub-shift c = search needs
 shift-requires-2 : tie.Need-shift-requires-2
 shift-requires-2 c κs = search needs
 
-mul-write-2 : tie.Need-mul-write-2
-mul-write-2 c = search needs
+mul-put-three-2 : tie.Need-mul-put-three-2
+mul-put-three-2 c = search needs
 
-write-requires-2 : tie.Need-write-requires-2
-write-requires-2 c κs = search needs
+put-three-requires-2 : tie.Need-put-three-requires-2
+put-three-requires-2 c κs = search needs
 
 same-length-4 : tie.Need-same-length-4
 same-length-4 c = search needs
 
 returns-4 : tie.Need-returns-4
-returns-4 c = keep-over _ _ _ _ _ _ _ _ (c .before .before .before .before .before .before .before .before .before .before .before .before .before .before .before .before .pre) (c .before .before .before .before .before .before .before .before .before .before .before .before .before .place .ensures) _ _ (c .before .before .before .before .before .before .before .before .if3 .left) (c .before .before .before .before .before .before .before .before .before .before .before .before .if1 .left) (c .before .before .before .before .before .before .shift2 .ensures) (c .before .before .write2 .ensures) _ (c .before .before .before .before .before .before .before .before .before .before .held .ensures) (c .before .before .before .before .before .before .before .before .before .if2 .left)
+returns-4 c = keep-over _ _ _ _ _ _ _ _ (c .before .before .before .before .before .before .before .before .before .before .before .before .before .before .before .before .pre) (c .before .before .before .before .before .before .before .before .before .before .before .before .before .place .ensures) _ _ (c .before .before .before .before .before .before .before .before .if3 .left) (c .before .before .before .before .before .before .before .before .before .before .before .before .if1 .left) (c .before .before .before .before .before .before .shift2 .ensures) (c .before .before .put-three2 .ensures) _ (c .before .before .before .before .before .before .before .before .before .before .held .ensures) (c .before .before .before .before .before .before .before .before .before .if2 .left)
 
 pub keep-spec : {M : Type 1} → statement M
 keep-spec =
@@ -83,8 +83,8 @@ keep-spec =
     mul-shift
     mul-shift-2
     shift-requires
-    mul-write
-    write-requires
+    mul-put-three
+    put-three-requires
     add-result
     same-length-3
     returns-3
@@ -92,7 +92,7 @@ keep-spec =
     mul-shift-4
     sub-shift
     shift-requires-2
-    mul-write-2
-    write-requires-2
+    mul-put-three-2
+    put-three-requires-2
     same-length-4
     returns-4)

@@ -1,11 +1,10 @@
--- `keep::write` meets its contract. Assumes nothing.
-use mathlib.Core.Path.{refl}
+-- `keep::put_three` meets its contract. Assumes nothing.
 use native.Mathlib.Omega.{arith}
 use lib.ListN.{length-set}
-use Rattle.keep.specs.Kept.{written}
+use Rattle.keep.proofs.Moving.{three}
 use borrow.Author.Needs.{needs}
-use Rattle.keep.proofs.write.Statement.{statement}
-use Rattle.keep.proofs.write.Tie as tie
+use Rattle.keep.proofs.put_three.Statement.{statement}
+use Rattle.keep.proofs.put_three.Tie as tie
 
 mul-room : tie.Need-mul-room
 mul-room c = search needs
@@ -35,11 +34,10 @@ same-length : tie.Need-same-length
 same-length c = search needs
 
 returns : tie.Need-returns
-unfolding written
-returns c = refl
+returns c = let a = c .args in three (a .room .now) (a .a) (a .x) (a .y) (a .z)
 
-pub write-spec : {M : Type 1} → statement M
-write-spec =
+pub put-three-spec : {M : Type 1} → statement M
+put-three-spec =
     tie.close
     (tie.spec
     mul-room
