@@ -5,7 +5,7 @@ use mathlib.Core.List.{List}
 use lib.Dec.{leb}
 use lib.ListN.{length}
 use borrow.Author.Tests.{le-leb, lt-leb}
-use Rattle.paper.specs.Outcomes.{Outcome, refused, gives}
+use Rattle.paper.specs.Outcomes.{Outcome, gives}
 use Rattle.paper.specs.Tree.{Store}
 use Rattle.paper.proofs.Outcomes.{must-stop, must-go, promise-refused, promise-given}
 use Rattle.paper.specs.Calls.{tableRefusal}

@@ -8,13 +8,12 @@ use lib.Dec.{leb}
 use lib.IntN.{ℤ}
 use lib.ListN.{length, getD, take, length-take}
 use lib.Seq.{take-at}
-use borrow.Author.Tests.{eq-eqb, ne-eqb, le-leb, lt-ltb, leb-true}
+use borrow.Author.Tests.{eq-eqb, le-leb, lt-ltb, leb-true}
 use Rattle.paper.specs.declared.lines.Scope.{Scope}
 use Rattle.paper.specs.declared.lines.Wrote.{Wrote}
 use Rattle.paper.specs.declared.orders.Order.{Order}
 use Rattle.paper.specs.declared.orders.Paged.{Paged}
 use Rattle.paper.specs.declared.orders.Place.{Place}
-use Rattle.paper.specs.declared.orders.Place.the-variants.{Start, After}
 use Rattle.paper.specs.Points.{Claim}
 use Rattle.paper.specs.Orders.{Item, Query, snapshotOf, earlier, insert, itemOf, listed, follows, rest, following, pageOf, flat, fronted}
 use Rattle.paper.specs.Tree.{Store, claimsIn}

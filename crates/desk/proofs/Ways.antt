@@ -7,7 +7,7 @@ use native.Mathlib.Omega.{arith}
 use lib.Dec.{leb, eqb}
 use lib.IntN.{ℤ}
 use lib.ListN.{length, take, drop, length-take}
-use borrow.Author.Tests.{eq-eqb, ne-eqb, le-leb, leb-true, eqb-true, not-true, not-false}
+use borrow.Author.Tests.{leb-true, eqb-true, not-true, not-false}
 use Rattle.paper.specs.declared.lines.Ask as lines-Ask
 use Rattle.paper.specs.declared.lines.AskRead.{AskRead}
 use Rattle.paper.specs.declared.lines.Scope.{Scope}
@@ -17,7 +17,7 @@ use Rattle.paper.specs.declared.orders.Order.the-variants.{Near}
 use Rattle.paper.specs.declared.orders.Place.{Place}
 use Rattle.paper.specs.Orders.{snapshotOf, snapshotHolds, markHolds}
 use Rattle.paper.specs.Tree.{Store, claimsIn}
-use Rattle.paper.specs.Outcomes.{Outcome, refused, gives, must, onto}
+use Rattle.paper.specs.Outcomes.{refused, gives, must, onto}
 use Rattle.paper.specs.Frames.{num, frameOf, sound}
 use Rattle.paper.specs.Fields.{scopeIn, scopeOk}
 use Rattle.paper.specs.Lines.{Writes, behind, askRanges, askOk, askAt, anAsk, noAsk, askOf, reading}

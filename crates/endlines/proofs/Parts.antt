@@ -1,7 +1,7 @@
 -- The parts of the ends' lines: ranges, places as scopes, probes and items as the fields of a line. Assumes nothing.
 use Prim.Native.Nat.{ℕ, zero, suc, _^_, _<_, _≤_}
 use mathlib.Core.Path.{_≡_, refl, sym, ap}
-use mathlib.Core.Bool.{Bool, true, false, cond, _&&_, _||_, and-assoc}
+use mathlib.Core.Bool.{Bool, true, false, cond, _||_}
 use mathlib.Core.List.{List, [], _∷_, _++_, List·Memᴰ, List·Memᴰ·head, List·Memᴰ·tail}
 use native.Mathlib.Omega.{arith}
 use lib.Dec.{leb, eqb, lit<}
@@ -16,7 +16,6 @@ use Rattle.paper.specs.declared.orders.Place.{Place}
 use Rattle.paper.specs.declared.orders.Place.the-variants.{Start, After}
 use Rattle.paper.specs.Frames.{num}
 use Rattle.paper.specs.Fields.{coordsIn, scopeOk, itemsIn, numbersOk, referencesOk}
-use Rattle.paper.specs.Points.{inRange}
 use Rattle.paper.specs.Orders.{Item, snapshotOf, flat}
 use Rattle.paper.specs.Lists as lists
 use Rattle.paper.specs.Codec.{scopeOf, placeIn}

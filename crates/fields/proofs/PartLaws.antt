@@ -8,14 +8,14 @@ use mathlib.Core.Bool.{true, _&&_, _||_}
 use mathlib.Core.List.{List, [], _∷_, _++_, append-assoc}
 use lib.ListN.{length, getD, drop, set, replicate, length-append}
 use lib.Seq.{drop-cons, drop-drop, set-at}
-use lib.Dec.{leb, eqb}
+use lib.Dec.{eqb}
 use lib.IntN.{ℤ, pos}
 use mir.Syntax.{w32}
 use mir.Val.{ofZ, toZ}
 use Rattle.paper.specs.Frames.{be, num}
 use Rattle.digits.specs.Places.{over}
 use Rattle.digits.proofs.Laws.{Bytes, bytes-append, bytes-be, length-be, over-append, and-both}
-use borrow.Author.Tests.{leb-true, le-leb, eqb-true, eq-eqb}
+use borrow.Author.Tests.{le-leb, eqb-true, eq-eqb}
 use Rattle.paper.specs.Points.{inRange, InRange}
 use Rattle.paper.proofs.Ranges.{range-is}
 use Rattle.paper.specs.Fields.{head, front, coordBytes, coordsIn, scopeBytes, scopeOk}

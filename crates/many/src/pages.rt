@@ -14,6 +14,7 @@ use crate::counts::many_refusal;
 use crate::places::place_at;
 use crate::rows::put_page;
 use paper::counts::is_whole;
+use paper::orders::Order;
 use paper::orders::size_holds;
 use paper::tables::Table;
 use tested::page_here;
@@ -43,11 +44,13 @@ fn page_row(
     let b = i * w;
     let f = b + w;
     let place = place_at(places, i);
+    let near = Order::Near;
     let page = page_here(
         t,
         references,
         coordinates,
         rooms,
+        near,
         &probes[a..e],
         reach,
         place,

@@ -1,6 +1,6 @@
 // Distances of points in lent memory, exact at both ends of the range.
 ghost use mathlib.Core.Path.{_≡_};
-ghost use Prim.Native.Nat.{_+_, _*_, _≤_, _<_};
+ghost use Prim.Native.Nat.{_+_, _≤_, _<_};
 ghost use lib.IntN.{_-ℤ_, natAbs};
 ghost use lib.ListN.{length, drop};
 ghost use Rattle.paper.specs.Points.{measureOf, weigh, joined};

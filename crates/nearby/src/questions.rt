@@ -8,6 +8,7 @@ ghost use Rattle.paper.specs.Tree.{lent};
 ghost use Rattle.paper.specs.Calls.{nearestCall, farthestCall, nearestShown, pageCall, pageShown, putPage};
 use crate::tables::table_refusal;
 use paper::orders::Nearest;
+use paper::orders::Order;
 use paper::orders::Page;
 use paper::orders::Place;
 use paper::orders::size_holds;
@@ -80,11 +81,13 @@ pub fn page(
     if !size_holds(size) {
         return Page::Refused(6);
     }
+    let near = Order::Near;
     tested::page_here(
         t,
         references,
         coordinates,
         rooms,
+        near,
         probe,
         reach,
         place,

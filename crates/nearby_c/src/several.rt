@@ -1,5 +1,4 @@
 // Many questions and many lines, for which the table is tested once.
-ghost use mathlib.Core.Path.{_≡_};
 ghost use Rattle.paper.specs.Outcomes.{number};
 ghost use Rattle.paper.specs.Outcomes as Outcomes;
 ghost use Rattle.paper.specs.Tree.{lent};

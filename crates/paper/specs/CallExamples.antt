@@ -2,7 +2,7 @@
 -- The claims, probe and reach are those of its marked examples. Definitions only.
 use Prim.Native.Nat.{ℕ, _+_, _-_, _*_}
 use mathlib.Core.Path.{_≡_}
-use mathlib.Core.Bool.{true, false}
+use mathlib.Core.Bool.{false}
 use mathlib.Core.List.{List, [], _∷_, _++_}
 use lib.IntN.{ℤ, pos}
 use lib.ListN.{replicate}
@@ -11,7 +11,7 @@ use Rattle.paper.specs.declared.orders.Place.{Place}
 use Rattle.paper.specs.declared.orders.Place.the-variants.{Start}
 use Rattle.paper.specs.declared.tables.Table.{Table}
 use Rattle.paper.specs.Limits.{mostPlaces, mostClaims, mostPage, longestFrame, longestAnswer, longestAsk, longestClaim}
-use Rattle.paper.specs.Orders.{Found, nothing, found}
+use Rattle.paper.specs.Orders.{nothing, found}
 use Rattle.paper.specs.Tree.{Store, store}
 use Rattle.paper.specs.Outcomes.{Outcome, refused, gives}
 use Rattle.paper.specs.Frames.{lineOf}

@@ -32,7 +32,7 @@ use Rattle.tree.specs.Soundness.{Roomy}
 use Rattle.tree.proofs.Adding.{point-length, good-end, added-good, added-claims, added-kept}
 use Rattle.tree.proofs.Places.{claims-length}
 use Rattle.lines.proofs.Tests.{is-claim}
-use Rattle.paper.specs.Lines.{wroteOf, putLine, Writes}
+use Rattle.paper.specs.Lines.{wroteOf, Writes}
 use Rattle.serve.specs.Serving.{Put, booksOf, headerFor, Ready, Served, ServedCut}
 use Rattle.serve.proofs.Written.{wrote-none, lent-length, lent-put, lent-same}
 use Rattle.paper.specs.Limits.{longestAnswer, officeClaims}

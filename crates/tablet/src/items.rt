@@ -6,7 +6,6 @@ ghost use lib.ListN.{length, drop};
 ghost use Rattle.paper.specs.Orders.{follows};
 ghost use Rattle.paper.specs.Lists.{itemsIn};
 ghost use Rattle.tablet.specs.Holding.{itemHolds, itemsHold};
-use paper::orders::Mark;
 use paper::orders::Order;
 use paper::orders::Place;
 

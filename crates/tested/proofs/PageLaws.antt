@@ -8,7 +8,7 @@ use lib.Dec.{leb}
 use lib.IntN.{ℤ}
 use lib.ListN.{length}
 use borrow.Author.Tests.{le-leb, lt-leb, leb-true, not-true, not-false}
-use Rattle.paper.specs.declared.orders.Order.the-variants.{Near}
+use Rattle.paper.specs.declared.orders.Order.{Order}
 use Rattle.paper.specs.declared.orders.Page as Pages
 use Rattle.paper.specs.declared.orders.Paged.{Paged}
 use Rattle.paper.specs.declared.orders.Place.{Place}
@@ -26,16 +26,16 @@ use Rattle.walk.proofs.Answers.{good-measurable, good-answerable}
 use Rattle.tested.specs.Askable.{Askable}
 use Rattle.tested.proofs.TableLaws.{table-refused, table-good, aim-stops, aim-goes}
 
-module _ (s : Store) (probe : List ℤ) (reach : ℕ) (place : Place) (size room : ℕ) where
+module _ (order : Order) (s : Store) (probe : List ℤ) (reach : ℕ) (place : Place) (size room : ℕ) where
   abbrev page : Outcome PageOf
-  page = pageCall s Near probe reach place size room
+  page = pageCall s order probe reach place size room
 
   -- the call from each of its tests on
   abbrev from-12 : Outcome PageOf
-  from-12 = must (leb (size * 3) room) 12 (gives (thePage (tableQuery (s .table) Near probe reach) s place size))
+  from-12 = must (leb (size * 3) room) 12 (gives (thePage (tableQuery (s .table) order probe reach) s place size))
 
   abbrev from-8 : Outcome PageOf
-  from-8 = must (markHolds (tableQuery (s .table) Near probe reach) (claimsIn s) place) 8 from-12
+  from-8 = must (markHolds (tableQuery (s .table) order probe reach) (claimsIn s) place) 8 from-12
 
   abbrev from-7 : Outcome PageOf
   from-7 = must (snapshotHolds (claimsIn s) place) 7 from-8
@@ -85,13 +85,13 @@ module _ (s : Store) (probe : List ℤ) (reach : ℕ) (place : Place) (size room
               stored = leb-true (snapshotOf place (s .table .count)) (s .table .count) (sym be ∙ not-false b hb);
             }
 
-        module _ (e : Bool) (ee : e ≡ markHolds (tableQuery (s .table) Near probe reach) (claimsIn s) place) where
+        module _ (e : Bool) (ee : e ≡ markHolds (tableQuery (s .table) order probe reach) (claimsIn s) place) where
           pub page-8 : not e ≡ true → 8 ≡ number page
-          page-8 h = sym (ap number (past-7 ∙ must-stop (markHolds (tableQuery (s .table) Near probe reach) (claimsIn s) place) 8 from-12 (sym ee ∙ not-true e h)))
+          page-8 h = sym (ap number (past-7 ∙ must-stop (markHolds (tableQuery (s .table) order probe reach) (claimsIn s) place) 8 from-12 (sym ee ∙ not-true e h)))
 
           module _ (he : not e ≡ false) where
             past-8 : page ≡ from-12
-            past-8 = past-7 ∙ must-go (markHolds (tableQuery (s .table) Near probe reach) (claimsIn s) place) 8 from-12 (sym ee ∙ not-false e he)
+            past-8 = past-7 ∙ must-go (markHolds (tableQuery (s .table) order probe reach) (claimsIn s) place) 8 from-12 (sym ee ∙ not-false e he)
 
             pub page-12 : room / 3 < size → 12 ≡ number page
             page-12 h = sym (ap number (past-8 ∙ must-stop (leb (size * 3) room) 12 _ (lt-leb (size * 3) room (omega arith))))
@@ -100,9 +100,9 @@ module _ (s : Store) (probe : List ℤ) (reach : ℕ) (place : Place) (size room
             page-0 h = sym (ap number (past-8 ∙ must-go (leb (size * 3) room) 12 _ (le-leb (size * 3) room (omega arith))))
 
 -- the page itself, where the number says that nothing refuses it
-module _ (s : Store) (probe : List ℤ) (reach : ℕ) (place : Place) (size : ℕ) (room : List ℕ) where
+module _ (order : Order) (s : Store) (probe : List ℤ) (reach : ℕ) (place : Place) (size : ℕ) (room : List ℕ) where
   abbrev there : Outcome PageOf
-  there = pageCall s Near probe reach place size (length room)
+  there = pageCall s order probe reach place size (length room)
 
   -- a refusal as the call tells it
   pub page-tells : (n : ℕ) → there ≡ refused n → Promise pageShown putPage there room (Pages.the-variants.Refused n) room
@@ -113,26 +113,26 @@ module _ (s : Store) (probe : List ℤ) (reach : ℕ) (place : Place) (size : �
     page-refuses h = page-tells n (number-is there n ne h)
 
     module _ (z : n ≡ 0) where
-      told-0 : number (from-7 s probe reach place size (length room)) ≡ 0
-      told-0 = sym (ap number (past-6 s probe reach place size (length room) k)) ∙ sym ne ∙ z
+      told-0 : number (from-7 order s probe reach place size (length room)) ≡ 0
+      told-0 = sym (ap number (past-6 order s probe reach place size (length room) k)) ∙ sym ne ∙ z
 
       stored : snapshotHolds (claimsIn s) place ≡ true
-      stored = number-0 (snapshotHolds (claimsIn s) place) 6 (from-8 s probe reach place size (length room)) told-0 .0
+      stored = number-0 (snapshotHolds (claimsIn s) place) 6 (from-8 order s probe reach place size (length room)) told-0 .0
 
-      told-8 : number (from-8 s probe reach place size (length room)) ≡ 0
-      told-8 = number-0 (snapshotHolds (claimsIn s) place) 6 (from-8 s probe reach place size (length room)) told-0 .1
+      told-8 : number (from-8 order s probe reach place size (length room)) ≡ 0
+      told-8 = number-0 (snapshotHolds (claimsIn s) place) 6 (from-8 order s probe reach place size (length room)) told-0 .1
 
-      marked : (markHolds (tableQuery (s .table) Near probe reach) (claimsIn s) place ≡ true) × (number (from-12 s probe reach place size (length room)) ≡ 0)
-      marked = number-0 (markHolds (tableQuery (s .table) Near probe reach) (claimsIn s) place) 7 (from-12 s probe reach place size (length room)) told-8
+      marked : (markHolds (tableQuery (s .table) order probe reach) (claimsIn s) place ≡ true) × (number (from-12 order s probe reach place size (length room)) ≡ 0)
+      marked = number-0 (markHolds (tableQuery (s .table) order probe reach) (claimsIn s) place) 7 (from-12 order s probe reach place size (length room)) told-8
 
       long : leb (size * 3) (length room) ≡ true
-      long = number-0 (leb (size * 3) (length room)) 11 (gives (thePage (tableQuery (s .table) Near probe reach) s place size)) (marked .1) .0
+      long = number-0 (leb (size * 3) (length room)) 11 (gives (thePage (tableQuery (s .table) order probe reach) s place size)) (marked .1) .0
 
-      page-gives : there ≡ gives (thePage (tableQuery (s .table) Near probe reach) s place size)
+      page-gives : there ≡ gives (thePage (tableQuery (s .table) order probe reach) s place size)
       page-gives =
-          past-6 s probe reach place size (length room) k
+          past-6 order s probe reach place size (length room) k
           ∙ must-go (snapshotHolds (claimsIn s) place) 7 _ stored
-          ∙ must-go (markHolds (tableQuery (s .table) Near probe reach) (claimsIn s) place) 8 _ (marked .0)
+          ∙ must-go (markHolds (tableQuery (s .table) order probe reach) (claimsIn s) place) 8 _ (marked .0)
           ∙ must-go (leb (size * 3) (length room)) 12 _ long
 
       pub page-answerable : Answerable s probe
@@ -147,10 +147,10 @@ module _ (s : Store) (probe : List ℤ) (reach : ℕ) (place : Place) (size : �
             long = leb-true (size * 3) (length room) long;
           }
 
-      pub page-filled : (p : Paged) (after : List ℕ) → PageIs (tableQuery (s .table) Near probe reach) (claimsIn s) place size room after p
+      pub page-filled : (p : Paged) (after : List ℕ) → PageIs (tableQuery (s .table) order probe reach) (claimsIn s) place size room after p
           → Promise pageShown putPage there room (Pages.the-variants.Filled p) after
       unfolding thePage
       page-filled p after w =
-          promise-given pageShown putPage there room (thePage (tableQuery (s .table) Near probe reach) s place size) (Pages.the-variants.Filled p) after page-gives
+          promise-given pageShown putPage there room (thePage (tableQuery (s .table) order probe reach) s place size) (Pages.the-variants.Filled p) after page-gives
           (ap Pages.the-variants.Filled (λ i. record { count = w .count i; last = w .last i }))
           (w .room)

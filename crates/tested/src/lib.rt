@@ -2,7 +2,6 @@
 // ask here.
 ghost use mathlib.Core.Path.{_≡_};
 ghost use lib.ListN.{length};
-ghost use Rattle.paper.specs.declared.orders.Order.the-variants.{Near};
 ghost use Rattle.paper.specs.Outcomes.{number, Promise};
 ghost use Rattle.paper.specs.Tree.{lent};
 ghost use Rattle.paper.specs.Calls.{pageCall, pageShown, putPage};
@@ -18,6 +17,7 @@ fn place_refusal(
     references: &[u32],
     coordinates: &[i32],
     rooms: &[u64],
+    order: Order,
     probe: &[i32],
     reach: u64,
     place: Place,
@@ -25,7 +25,7 @@ fn place_refusal(
     room: usize,
 ) -> u8
     requires { ⌜ Askable (lent t references coordinates rooms) (length (now probe)) size ⌝ }
-    ensures { λ r. ⌜ r ≡ number (pageCall (lent t (references .entry) (coordinates .entry) (rooms .entry)) Near (now (probe .entry)) reach place size room) ⌝ }
+    ensures { λ r. ⌜ r ≡ number (pageCall (lent t (references .entry) (coordinates .entry) (rooms .entry)) order (now (probe .entry)) reach place size room) ⌝ }
 {
     if !place.snapshot_holds(t.count) {
         return 7;
@@ -45,6 +45,7 @@ pub fn page_here(
     references: &[u32],
     coordinates: &[i32],
     rooms: &[u64],
+    order: Order,
     probe: &[i32],
     reach: u64,
     place: Place,
@@ -52,13 +53,14 @@ pub fn page_here(
     room: &mut [u64],
 ) -> Page
     requires { ⌜ Askable (lent t references coordinates rooms) (length (now probe)) size ⌝ }
-    ensures { λ r. ⌜ Promise pageShown putPage (pageCall (lent t (references .entry) (coordinates .entry) (rooms .entry)) Near (now (probe .entry)) reach place size (length (now (room .entry)))) (now (room .entry)) r (now (room .exit)) ⌝ }
+    ensures { λ r. ⌜ Promise pageShown putPage (pageCall (lent t (references .entry) (coordinates .entry) (rooms .entry)) order (now (probe .entry)) reach place size (length (now (room .entry)))) (now (room .entry)) r (now (room .exit)) ⌝ }
 {
     let why = place_refusal(
         t,
         references,
         coordinates,
         rooms,
+        order,
         probe,
         reach,
         place,
@@ -68,13 +70,12 @@ pub fn page_here(
     if why != 0 {
         return Page::Refused(why);
     }
-    let near = Order::Near;
     let paged = walk::questions::page_of(
         t,
         references,
         coordinates,
         rooms,
-        near,
+        order,
         probe,
         reach,
         place,

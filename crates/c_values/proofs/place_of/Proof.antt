@@ -1,5 +1,4 @@
 -- `c_values::place_of` meets its contract: the start where `from` is 0, and otherwise a place. Assumes nothing.
-use mathlib.Core.Path.{sym}
 use borrow.Author.Tests.{eq-eqb, ne-eqb}
 use borrow.Author.Needs.{needs}
 use Rattle.c_values.proofs.place_of.Statement.{statement}

@@ -6,9 +6,9 @@ use lib.Seq.{getD-drop}
 use lib.IntN.{ℤ, pos}
 use Rattle.paper.specs.declared.points.Measure.{Measure}
 use Prim.Native.Nat.{ℕ, _+_, _≤_, _*_, _-_}
-use mathlib.Core.Path.{_≡_, refl, sym, ap, _∙_}
+use mathlib.Core.Path.{_≡_, refl, ap, _∙_}
 use native.Mathlib.Omega.{arith}
-use lib.ListN.{length, drop}
+use lib.ListN.{drop}
 use Rattle.measure.proofs.Away.{same-args}
 use Rattle.paper.specs.Points.{distance, joined, weigh}
 use Rattle.measure.proofs.measured.Statement.{statement}

@@ -1,5 +1,5 @@
 -- `digits::hex::frame_of` meets its contract: a sound line has a byte at least, and its frame fits the buffer. Assumes nothing.
-use Prim.Native.Nat.{ℕ, _+_, _*_, _/_, _≤_, _<_}
+use Prim.Native.Nat.{ℕ, _+_, _/_, _<_}
 use mathlib.Core.Path.{_≡_, sym, ap, _∙_}
 use mathlib.Core.Bool.{true, false, _&&_}
 use mathlib.Core.List.{List, _++_}
@@ -9,10 +9,10 @@ use lib.ListN.{length, take, drop}
 use lib.Seq.{take-at}
 use borrow.Author.Needs.{needs}
 use borrow.Author.Tests.{ltb-true, not-true, not-false}
-use Rattle.paper.specs.Limits.{longestFrame, longestAnswer}
+use Rattle.paper.specs.Limits.{longestAnswer}
 use Rattle.paper.specs.Frames.{frameOf, ended, sound}
 use Rattle.paper.proofs.Tests.{and-first}
-use Rattle.digits.specs.Places.{held, Framed}
+use Rattle.digits.specs.Places.{Framed}
 use Rattle.digits.proofs.Laws.{length-frame, held-all, sound-size}
 use Rattle.digits.proofs.hex.frame_of.Statement.{statement}
 use Rattle.digits.proofs.hex.frame_of.Tie as tie

@@ -1,6 +1,5 @@
 use mathlib.Core.Path.{_∙_}
 use borrow.Author.Tests.{eq-eqb, ne-eqb}
-use Rattle.paper.specs.Points.{inRange}
 use Rattle.paper.specs.Lines.{headOk}
 use borrow.Author.Needs.{needs}
 use Rattle.fields.proofs.parts.head_ok.Statement.{statement}

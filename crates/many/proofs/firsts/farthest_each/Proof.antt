@@ -1,5 +1,4 @@
 -- `many::firsts::farthest_each` meets its contract: refused before anything is written, or answered question after question. Assumes nothing.
-use lib.ListN.{length}
 use Rattle.paper.specs.Tree.{store}
 use Rattle.many.specs.Many.{farthestAt}
 use Rattle.many.proofs.Ways.{firsts-refused, firsts-12, firsts-many, firsts-answered}

@@ -1,7 +1,6 @@
 -- `many::firsts::farthest_rows` meets its contract: question after question. Assumes nothing.
 use Prim.Native.Nat.{_-_}
 use native.Mathlib.Omega.{arith}
-use lib.ListN.{length}
 use Rattle.paper.specs.Tree.{store}
 use Rattle.many.specs.Rows.{putFound}
 use Rattle.many.proofs.Ways.{Going, going-start, going-on, going-done, one-of}

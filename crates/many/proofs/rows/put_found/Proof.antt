@@ -1,5 +1,4 @@
 -- `many::rows::put_found` meets its contract: a row of zeros, or the item. Assumes nothing.
-use mathlib.Core.Path.{sym, ap, _∙_}
 use Rattle.many.proofs.Ways.{row-nothing, row-item}
 use borrow.Author.Needs.{needs}
 use Rattle.many.proofs.rows.put_found.Statement.{statement}

@@ -1,5 +1,5 @@
 -- `tablet::asking::present` meets its contract: from the start, or after the last item. Assumes nothing.
-use Prim.Native.Nat.{ℕ, _+_, _-_, _*_, _<_, _≤_}
+use Prim.Native.Nat.{_-_}
 use native.Mathlib.Omega.{arith}
 use Rattle.tablet.proofs.TakeLaws.{present-after, present-start}
 use borrow.Author.Needs.{needs}

@@ -1,6 +1,6 @@
 -- `tablet::items::items_hold` meets its contract: what was seen of the items from i on is what one pass over them gives. Assumes nothing.
-use Prim.Native.Nat.{ℕ, _+_, _-_, _*_, _≤_}
-use mathlib.Core.Path.{_≡_, ap, _∙_}
+use Prim.Native.Nat.{_+_, _-_, _*_, _≤_}
+use mathlib.Core.Path.{_≡_}
 use native.Mathlib.Omega.{arith}
 use lib.ListN.{drop}
 use Rattle.paper.specs.Lists.{itemsIn}

@@ -1,8 +1,4 @@
 -- `tablet::lists::is_sound` meets its contract: fields and items together are the definition. Assumes nothing.
-use Prim.Native.Nat.{ℕ, _<_, _≤_, _/_}
-use mathlib.Core.Path.{_≡_}
-use native.Mathlib.Omega.{arith}
-use lib.ListN.{length}
 use Rattle.tablet.proofs.ListLaws.{unsound-fields, fields-few, sound-items}
 use borrow.Author.Needs.{needs}
 use Rattle.tablet.proofs.lists.is_sound.Statement.{statement}

@@ -1,9 +1,9 @@
 -- `tablet::probes::same_probe` meets its contract: after i turns it is known whether the first i coordinates are the same. Assumes nothing.
-use Prim.Native.Nat.{ℕ, _+_, _-_, _≤_}
-use mathlib.Core.Path.{_≡_, refl, ap, _∙_}
+use Prim.Native.Nat.{_-_, _≤_}
+use mathlib.Core.Path.{_≡_, refl, _∙_}
 use native.Mathlib.Omega.{arith}
-use lib.IntN.{ℤ, pos}
-use lib.ListN.{length, getD}
+use lib.IntN.{pos}
+use lib.ListN.{getD}
 use Rattle.paper.specs.Ends.{sameZ, sameProbe}
 use Rattle.measure.proofs.Away.{same-args}
 use Rattle.tablet.proofs.ListLaws.{same-more}

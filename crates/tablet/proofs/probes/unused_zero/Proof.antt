@@ -1,8 +1,8 @@
 -- `tablet::probes::unused_zero` meets its contract: what was seen of the places from i on is whether they hold 0. Assumes nothing.
-use Prim.Native.Nat.{ℕ, _+_, _-_, _≤_}
-use mathlib.Core.Path.{_≡_, ap, _∙_}
+use Prim.Native.Nat.{_+_, _-_, _≤_}
+use mathlib.Core.Path.{_≡_, _∙_}
 use native.Mathlib.Omega.{arith}
-use lib.IntN.{ℤ, pos}
+use lib.IntN.{pos}
 use lib.ListN.{length, getD, drop}
 use Rattle.paper.specs.Ends.{sameZ, every}
 use Rattle.paper.specs.Lists.{unusedZero}

@@ -1,6 +1,5 @@
 -- `tablet::taking::take_answer` meets its contract, a law for each way. Assumes nothing.
-use Prim.Native.Nat.{_+_, _*_, _/_, _<_, _≤_}
-use mathlib.Core.Path.{_≡_}
+use Prim.Native.Nat.{_/_, _≤_}
 use native.Mathlib.Omega.{arith}
 use lib.ListN.{length}
 use Rattle.tablet.proofs.TakeLaws.{sound-few, sound-asks, takes-refused, take-16, take-13, take-14, take-15, take-joined, joined-is}
