@@ -132,9 +132,9 @@ flag-small : (b : Bool) → flagOf b ≤ 1
 flag-small true = omega arith
 flag-small false = omega arith
 
-module _ (s : Store) (probe : List ℤ) (p : Scope) (size out : ℕ) (h : Paging s probe p size out) where
+module _ (order : Order) (s : Store) (probe : List ℤ) (p : Scope) (size out : ℕ) (h : Paging s probe p size out) where
   abbrev Page : List Item
-  Page = pageOf (tableQuery (s .table) Order.Near probe (p .reach)) (claimsIn s) (placeIn p) size
+  Page = pageOf (tableQuery (s .table) order probe (p .reach)) (claimsIn s) (placeIn p) size
 
   abbrev Scoped : Scope
   Scoped = scopeOf (p .reach) (placeIn p) (snapshotOf (placeIn p) (s .table .count))
@@ -148,7 +148,7 @@ module _ (s : Store) (probe : List ℤ) (p : Scope) (size out : ℕ) (h : Paging
   page-few = simp length-take (omega arith)
 
   item-small : ((i : ℕ) → getD (s .references) i 0 < 4294967296) → (k : ℕ) → k < snapshotOf (placeIn p) (s .table .count)
-      → Small (itemOf (tableQuery (s .table) Order.Near probe (p .reach)) (claimsIn s) k)
+      → Small (itemOf (tableQuery (s .table) order probe (p .reach)) (claimsIn s) k)
   unfolding itemOf
   item-small known k l =
       let few = good-few s (h .asking .isOpen .good) in
@@ -163,8 +163,8 @@ module _ (s : Store) (probe : List ℤ) (p : Scope) (size out : ℕ) (h : Paging
 
   -- what was written is the line of the page
   module _ (place : Place) (room room' : List ℕ) (r : Paged) (at : place ≡ placeIn p)
-      (is : PageIs (tableQuery (s .table) Order.Near probe (p .reach)) (claimsIn s) place size room room' r) where
-    is-page : PageIs (tableQuery (s .table) Order.Near probe (p .reach)) (claimsIn s) (placeIn p) size room room' r
+      (is : PageIs (tableQuery (s .table) order probe (p .reach)) (claimsIn s) place size room room' r) where
+    is-page : PageIs (tableQuery (s .table) order probe (p .reach)) (claimsIn s) (placeIn p) size room room' r
     is-page = rw at at is
 
     pub told-few : r .count ≤ mostPage
@@ -189,14 +189,14 @@ module _ (s : Store) (probe : List ℤ) (p : Scope) (size out : ℕ) (h : Paging
           (and-both _ _ (eq-eqb _ _ (flat-length Page)) (and-both _ _ (flat-references Page all) (flat-numbers Page all)))))
 
       line-is : lineOf (answerFrame 2 (s .table .number) (s .table .measure) (s .table .d) probe Scoped (flagOf (r .last)) (length Page) (flat Page))
-          ≡ answerLine (answerOf (tableOf s) (askFor (s .table) probe p size))
+          ≡ answerLine (answerOf (tableOf s) (askFor order (s .table) probe p size))
       unfolding answerLine answerOf
       line-is = rw (claims-length (s .table .d) (s .table .count) (s .references) (s .coordinates), is-page .last)
 
       pub page-told : (before : List ℕ) (w : Wrote) (after : List ℕ) → longestAnswer ≤ length before
           → Writes (bareLine (answerFits (s .table .measure) (s .table .d) probe scope last (r .count) (take n room')) longestAnswer
           (answerFrame 2 (s .table .number) (s .table .measure) (s .table .d) probe scope last (r .count) (take n room')) (length before)) before w after
-          → Writes (pageLine (tableOf s) (askFor (s .table) probe p size)) before w after
+          → Writes (pageLine (tableOf s) (askFor order (s .table) probe p size)) before w after
       page-told before w after long x =
           let y = rw (told, flag, told-items, is-page .count) at x in
           rw line-is at (line-told _ _ before w after fits long y)

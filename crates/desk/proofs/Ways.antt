@@ -13,6 +13,7 @@ use Rattle.paper.specs.declared.lines.AskRead.{AskRead}
 use Rattle.paper.specs.declared.lines.Scope.{Scope}
 use Rattle.paper.specs.declared.lines.Wrote.{Wrote}
 use Rattle.paper.specs.declared.lines.Wrote.the-variants.{Refused}
+use Rattle.paper.specs.declared.orders.Order.{Order}
 use Rattle.paper.specs.declared.orders.Order.the-variants.{Near}
 use Rattle.paper.specs.declared.orders.Place.{Place}
 use Rattle.paper.specs.Orders.{snapshotOf, snapshotHolds, markHolds}
@@ -39,27 +40,27 @@ use Rattle.paper.specs.Limits.{mostPage}
 pub stored-at : (p : Scope) (n : ℕ) (place : Place) (b : Bool) → place ≡ placeIn p → b ≡ leb (snapshotOf place n) n → b ≡ leb (snapshotOf (placeIn p) n) n
 stored-at p n place b at e = e ∙ ap (λ (u : Place). leb (snapshotOf u n) n) at
 
-module _ (s : Store) (probe : List ℤ) (p : Scope) (size : ℕ) (b : Bool) (holds : b ≡ leb (snapshotOf (placeIn p) (s .table .count)) (s .table .count)) where
+module _ (order : Order) (s : Store) (probe : List ℤ) (p : Scope) (size : ℕ) (b : Bool) (holds : b ≡ leb (snapshotOf (placeIn p) (s .table .count)) (s .table .count)) where
   stored-is : snapshotHolds (claimsIn s) (placeIn p) ≡ b
   unfolding snapshotHolds
   stored-is = rw (claims-length (s .table .d) (s .table .count) (s .references) (s .coordinates)) (sym holds)
 
-  pub here-7 : (before : List ℕ) → not b ≡ true → Writes (pageReply (tableOf s) (askFor (s .table) probe p size)) before (Refused 7) before
+  pub here-7 : (before : List ℕ) → not b ≡ true → Writes (pageReply (tableOf s) (askFor order (s .table) probe p size)) before (Refused 7) before
   unfolding pageReply
   here-7 before t = writes-refused _ 7 before (rw (stored-is, not-true b t))
 
   pub here-stored : not b ≡ false → snapshotOf (placeIn p) (s .table .count) ≤ s .table .count
   here-stored t = leb-true _ _ (sym holds ∙ not-false b t)
 
-  module _ (m : Bool) (place : Place) (at : place ≡ placeIn p) (marked : m ≡ markHolds (tableQuery (s .table) Near probe (p .reach)) (claimsIn s) place) (t : not b ≡ false) where
-    pub here-8 : (before : List ℕ) → not m ≡ true → Writes (pageReply (tableOf s) (askFor (s .table) probe p size)) before (Refused 8) before
+  module _ (m : Bool) (place : Place) (at : place ≡ placeIn p) (marked : m ≡ markHolds (tableQuery (s .table) order probe (p .reach)) (claimsIn s) place) (t : not b ≡ false) where
+    pub here-8 : (before : List ℕ) → not m ≡ true → Writes (pageReply (tableOf s) (askFor order (s .table) probe p size)) before (Refused 8) before
     unfolding pageReply
     here-8 before u = writes-refused _ 8 before (rw (stored-is, not-false b t, ← at, ← marked, not-true m u))
 
-    pub here-page : (before : List ℕ) (w : Wrote) (after : List ℕ) → not m ≡ false → Writes (pageLine (tableOf s) (askFor (s .table) probe p size)) before w after
-        → Writes (pageReply (tableOf s) (askFor (s .table) probe p size)) before w after
+    pub here-page : (before : List ℕ) (w : Wrote) (after : List ℕ) → not m ≡ false → Writes (pageLine (tableOf s) (askFor order (s .table) probe p size)) before w after
+        → Writes (pageReply (tableOf s) (askFor order (s .table) probe p size)) before w after
     unfolding pageReply
-    here-page before w after u x = rw (stored-is, not-false b t, sym (ap (λ (z : Place). markHolds (tableQuery (s .table) Near probe (p .reach)) (claimsIn s) z) at) ∙ sym marked ∙ not-false m u) x
+    here-page before w after u x = rw (stored-is, not-false b t, sym (ap (λ (z : Place). markHolds (tableQuery (s .table) order probe (p .reach)) (claimsIn s) z) at) ∙ sym marked ∙ not-false m u) x
 
 -- ---- answer_ask
 
@@ -72,13 +73,13 @@ reply-here t a e = rw e (go (snapshotHolds (t .claims) (a .place)) (markHolds (a
     go true false = refl
     go false c = refl
 
-module _ (s : Store) (a : lines-Ask.Ask) (b : Bool)
+module _ (order : Order) (s : Store) (a : lines-Ask.Ask) (b : Bool)
     (is : b ≡ (eqb (a .table) (s .table .number) && (eqb (a .measure) (s .table .measure) && eqb (a .d) (s .table .d)))) where
-  matches-is : matches (tableOf s) (asked Near a .query) ≡ b
+  matches-is : matches (tableOf s) (asked order a .query) ≡ b
   unfolding matches asked
   matches-is = sym is
 
-  pub ask-11 : (before : List ℕ) → not b ≡ true → Writes (replyTo (tableOf s) (asked Near a)) before (Refused 11) before
+  pub ask-11 : (before : List ℕ) → not b ≡ true → Writes (replyTo (tableOf s) (asked order a)) before (Refused 11) before
   unfolding replyTo answerTo
   ask-11 before t = writes-refused _ 11 before (rw (matches-is, not-true b t))
 
@@ -89,7 +90,7 @@ module _ (s : Store) (a : lines-Ask.Ask) (b : Bool)
     pub ask-d : a .d ≡ s .table .d
     ask-d = eqb-true _ _ (and-second (eqb (a .measure) (s .table .measure)) _ (and-second (eqb (a .table) (s .table .number)) _ ours))
 
-    same-ask : asked Near a ≡ askFor (s .table) (take (a .d) (a .probe)) (a .scope) (a .size)
+    same-ask : asked order a ≡ askFor order (s .table) (take (a .d) (a .probe)) (a .scope) (a .size)
     unfolding asked
     same-ask =
         let number : a .table ≡ s .table .number = eqb-true _ _ (and-first (eqb (a .table) (s .table .number)) _ ours) in
@@ -97,7 +98,7 @@ module _ (s : Store) (a : lines-Ask.Ask) (b : Bool)
         eqb-true _ _ (and-first (eqb (a .measure) (s .table .measure)) _ (and-second (eqb (a .table) (s .table .number)) _ ours)) in
         λ i. record {
           query = record {
-            order = Near;
+            order = order;
             table = number i;
             measure = measure i;
             d = ask-d i;
@@ -109,10 +110,10 @@ module _ (s : Store) (a : lines-Ask.Ask) (b : Bool)
         }
 
     pub ask-here : (n : ℕ) (before : List ℕ) (w : Wrote) (after : List ℕ) → n ≡ a .d
-        → Writes (pageReply (tableOf s) (askFor (s .table) (take n (a .probe)) (a .scope) (a .size))) before w after
-        → Writes (replyTo (tableOf s) (asked Near a)) before w after
+        → Writes (pageReply (tableOf s) (askFor order (s .table) (take n (a .probe)) (a .scope) (a .size))) before w after
+        → Writes (replyTo (tableOf s) (asked order a)) before w after
     ask-here n before w after e x =
-        rw (reply-here (tableOf s) (asked Near a) (matches-is ∙ not-false b t), same-ask, ← e) x
+        rw (reply-here (tableOf s) (asked order a) (matches-is ∙ not-false b t), same-ask, ← e) x
 
     pub ask-ready : (out n : ℕ) → Answering s a out → 7 < length (a .probe) → n ≡ a .d → Asking s (take n (a .probe)) (a .scope) (a .size) out
     ask-ready out n h l e =

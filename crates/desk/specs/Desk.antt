@@ -7,7 +7,7 @@ use lib.IntN.{ℤ}
 use lib.ListN.{length}
 use Rattle.paper.specs.declared.lines.Ask as lines-Ask
 use Rattle.paper.specs.declared.lines.Scope.{Scope}
-use Rattle.paper.specs.declared.orders.Order.the-variants.{Near}
+use Rattle.paper.specs.declared.orders.Order.{Order}
 use Rattle.paper.specs.declared.tables.Table.{Table}
 use Rattle.paper.specs.Orders.{snapshotOf, snapshotHolds, markHolds}
 use Rattle.paper.specs.Tree.{Store}
@@ -49,8 +49,9 @@ pub record Paging (s : Store) (probe : List ℤ) (p : Scope) (size out : ℕ) : 
   pub asking : Asking s probe p size out
   pub stored : snapshotOf (placeIn p) (s .table .count) ≤ s .table .count
 
-abbrev pub askFor : Table → List ℤ → Scope → ℕ → Ask
-askFor t probe p size = record { query = tableQuery t Near probe (p .reach); place = placeIn p; size = size }
+-- what an ask of an order says, of this table
+abbrev pub askFor : Order → Table → List ℤ → Scope → ℕ → Ask
+askFor order t probe p size = record { query = tableQuery t order probe (p .reach); place = placeIn p; size = size }
 
 -- the line of the page that is asked for
 abbrev pub pageLine : Ends.Table → Ask → Outcome (List ℕ)

@@ -1,6 +1,5 @@
 // The answer to an ask, as fields or as a line.
 ghost use lib.ListN.{length};
-ghost use Rattle.paper.specs.declared.orders.Order.the-variants.{Near};
 ghost use Rattle.paper.specs.Tree.{lent};
 ghost use Rattle.paper.specs.Ends.{tableOf, served};
 ghost use Rattle.paper.specs.Codec.{asked};
@@ -13,6 +12,7 @@ use paper::lines::Ask;
 use paper::lines::Scope;
 use paper::lines::Wrote;
 use paper::lines::place_of;
+use paper::orders::Order;
 use paper::tables::Table;
 use paper::tables::is_ours;
 
@@ -22,13 +22,14 @@ fn answer_here(
     references: &[u32],
     coordinates: &[i32],
     rooms: &[u64],
+    order: Order,
     probe: &[i32],
     p: Scope,
     size: u8,
     out: &mut [u8],
 ) -> Wrote
     requires { ⌜ Asking (lent t references coordinates rooms) (now probe) p size (length (now out)) ⌝ }
-    ensures { λ r. ⌜ Writes (pageReply (tableOf (lent t (references .entry) (coordinates .entry) (rooms .entry))) (askFor t (now (probe .entry)) p size)) (now (out .entry)) r (now (out .exit)) ⌝ }
+    ensures { λ r. ⌜ Writes (pageReply (tableOf (lent t (references .entry) (coordinates .entry) (rooms .entry))) (askFor order t (now (probe .entry)) p size)) (now (out .entry)) r (now (out .exit)) ⌝ }
 {
     let place = place_of(p);
     if !place.snapshot_holds(t.count) {
@@ -37,20 +38,31 @@ fn answer_here(
     if !walk::questions::mark_holds(t, coordinates, probe, p.reach, place) {
         return Wrote::Refused(8);
     }
-    tell_page(t, references, coordinates, rooms, probe, p, size, out)
+    tell_page(
+        t,
+        references,
+        coordinates,
+        rooms,
+        order,
+        probe,
+        p,
+        size,
+        out,
+    )
 }
 
-// Answers an ask that a reader gave.
+// Answers an ask that a reader gave, of the order that its kind tells.
 pub fn answer_ask(
     t: Table,
     references: &[u32],
     coordinates: &[i32],
     rooms: &[u64],
+    order: Order,
     ask: Ask,
     out: &mut [u8],
 ) -> Wrote
     requires { ⌜ Answering (lent t references coordinates rooms) ask (length (now out)) ⌝ }
-    ensures { λ r. ⌜ Writes (replyTo (tableOf (lent t (references .entry) (coordinates .entry) (rooms .entry))) (asked Near ask)) (now (out .entry)) r (now (out .exit)) ⌝ }
+    ensures { λ r. ⌜ Writes (replyTo (tableOf (lent t (references .entry) (coordinates .entry) (rooms .entry))) (asked order ask)) (now (out .entry)) r (now (out .exit)) ⌝ }
 {
     if !is_ours(t, ask.table, ask.measure, ask.d) {
         return Wrote::Refused(11);
@@ -63,6 +75,7 @@ pub fn answer_ask(
         references,
         coordinates,
         rooms,
+        order,
         &probe[..d],
         scope,
         ask.size,
@@ -87,5 +100,6 @@ pub fn answer_line(
         return Wrote::Refused(read.refusal);
     }
     let ask = read.ask;
-    answer_ask(t, references, coordinates, rooms, ask, out)
+    let near = Order::Near;
+    answer_ask(t, references, coordinates, rooms, near, ask, out)
 }

@@ -39,23 +39,23 @@ pub fn tell_page(
     references: &[u32],
     coordinates: &[i32],
     rooms: &[u64],
+    order: Order,
     probe: &[i32],
     p: Scope,
     size: u8,
     out: &mut [u8],
 ) -> Wrote
     requires { ⌜ Paging (lent t references coordinates rooms) (now probe) p size (length (now out)) ⌝ }
-    ensures { λ r. ⌜ Writes (pageLine (tableOf (lent t (references .entry) (coordinates .entry) (rooms .entry))) (askFor t (now (probe .entry)) p size)) (now (out .entry)) r (now (out .exit)) ⌝ }
+    ensures { λ r. ⌜ Writes (pageLine (tableOf (lent t (references .entry) (coordinates .entry) (rooms .entry))) (askFor order t (now (probe .entry)) p size)) (now (out .entry)) r (now (out .exit)) ⌝ }
 {
     let mut room = [0u64; ITEM_ROOM];
-    let near = Order::Near;
     let place = place_of(p);
     let paged = walk::questions::page_of(
         t,
         references,
         coordinates,
         rooms,
-        near,
+        order,
         probe,
         p.reach,
         place,

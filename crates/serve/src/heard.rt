@@ -11,6 +11,7 @@ use super::claims::Step;
 use super::claims::take_claim;
 use super::saying::refuse;
 use paper::limits::LONGEST_FRAME;
+use paper::orders::Order;
 use paper::tables::Table;
 
 // Serves the line whose frame is `src`.
@@ -32,7 +33,8 @@ fn serve_frame(
     }
     if lines::ask_ok(src, 1) {
         let ask = lines::ask_at(src);
-        let end = take_ask(t, references, coordinates, rooms, ask, out, at);
+        let near = Order::Near;
+        let end = take_ask(t, references, coordinates, rooms, near, ask, out, at);
         return Step { table: t, at: end };
     }
     let end = refuse(out, at, 10);

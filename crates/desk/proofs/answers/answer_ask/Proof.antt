@@ -16,7 +16,7 @@ is-ours-requires c κs = search needs
 returns : tie.Need-returns
 returns c =
     let a = c .before .before .before .before .before .args in
-    ask-11 (store (a .t) (a .references .now) (a .coordinates .now) (a .rooms .now)) (a .ask) _ (c .before .is-ours .ensures) _ (c .if1 .taken)
+    ask-11 (a .order) (store (a .t) (a .references .now) (a .coordinates .now) (a .rooms .now)) (a .ask) _ (c .before .is-ours .ensures) _ (c .if1 .taken)
 
 cast-d : tie.Need-cast-d
 cast-d c = search needs
@@ -34,8 +34,8 @@ slice-aggregate-answer-here c =
 answer-here-requires : tie.Need-answer-here-requires
 answer-here-requires c κs =
     let a = c .before .before .before .before .before .before .before .before .before .before .args in
-    let long : 7 < length (a .ask .probe) = search (needs, c .before .before .before .before .before .before .before .before .before .before .good .1 .1 .1 .1 .0) in
-    ask-ready (store (a .t) (a .references .now) (a .coordinates .now) (a .rooms .now)) (a .ask) _ (c .before .before .before .before .before .before .is-ours .ensures) (c .before .before .before .before .before .if1 .left) _ _ (c .before .before .before .before .before .before .before .before .before .before .pre) long refl
+    let long : 7 < length (a .ask .probe) = search (needs, c .before .before .before .before .before .before .before .before .before .before .good .1 .1 .1 .1 .1 .0) in
+    ask-ready (a .order) (store (a .t) (a .references .now) (a .coordinates .now) (a .rooms .now)) (a .ask) _ (c .before .before .before .before .before .before .is-ours .ensures) (c .before .before .before .before .before .if1 .left) _ _ (c .before .before .before .before .before .before .before .before .before .before .pre) long refl
 
 same-length : tie.Need-same-length
 same-length c = search needs
@@ -43,7 +43,7 @@ same-length c = search needs
 returns-2 : tie.Need-returns-2
 returns-2 c =
     let a = c .before .before .before .before .before .before .before .before .before .before .before .before .before .args in
-    ask-here (store (a .t) (a .references .now) (a .coordinates .now) (a .rooms .now)) (a .ask) _ (c .before .before .before .before .before .before .before .before .before .is-ours .ensures) (c .before .before .before .before .before .before .before .before .if1 .left) _ _ _ _ refl (c .before .before .answer-here .ensures)
+    ask-here (a .order) (store (a .t) (a .references .now) (a .coordinates .now) (a .rooms .now)) (a .ask) _ (c .before .before .before .before .before .before .before .before .before .is-ours .ensures) (c .before .before .before .before .before .before .before .before .if1 .left) _ _ _ _ refl (c .before .before .answer-here .ensures)
 
 pub answer-ask-spec : {M : Type 1} → statement M
 answer-ask-spec =

@@ -23,7 +23,7 @@ page-of-requires c κs =
     let a = c .before .before .before .before .before .args in
     let s = store (a .t) (a .references .now) (a .coordinates .now) (a .rooms .now) in (
       good-answerable s (c .before .before .before .before .before .pre .asking .isOpen .good) (a .probe .now) (c .before .before .before .before .before .pre .asking .aimed),
-      pageable s (a .probe .now) (a .p) (a .size) (length (a .out .now)) (c .before .before .before .before .before .pre) _ _ (c .before .place-of .ensures) (lit≤ tt),
+      pageable (a .order) s (a .probe .now) (a .p) (a .size) (length (a .out .now)) (c .before .before .before .before .before .pre) _ _ (c .before .place-of .ensures) (lit≤ tt),
     )
 
 cast-answer-scope : tie.Need-cast-answer-scope
@@ -35,7 +35,7 @@ answer-scope-requires c κs = scope-from (c .before .before .before .before .bef
 mul-n : tie.Need-mul-n
 mul-n c =
     let a = c .before .before .before .before .before .before .before .before .before .args in
-    let f = told-few (store (a .t) (a .references .now) (a .coordinates .now) (a .rooms .now)) (a .probe .now) (a .p) (a .size) (length (a .out .now)) (c .before .before .before .before .before .before .before .before .before .pre) _ _ _ _ (c .before .before .before .before .before .place-of .ensures) (c .before .before .before .page-of .ensures) in
+    let f = told-few (a .order) (store (a .t) (a .references .now) (a .coordinates .now) (a .rooms .now)) (a .probe .now) (a .p) (a .size) (length (a .out .now)) (c .before .before .before .before .before .before .before .before .before .pre) _ _ _ _ (c .before .before .before .before .before .place-of .ensures) (c .before .before .before .page-of .ensures) in
     omega arith
 
 cast-write-answer : tie.Need-cast-write-answer
@@ -47,20 +47,20 @@ flag-requires c κs = search needs
 cast-write-answer-2 : tie.Need-cast-write-answer-2
 cast-write-answer-2 c =
     let a = c .before .before .before .before .before .before .before .before .before .before .before .args in
-    let f = told-few (store (a .t) (a .references .now) (a .coordinates .now) (a .rooms .now)) (a .probe .now) (a .p) (a .size) (length (a .out .now)) (c .before .before .before .before .before .before .before .before .before .before .before .pre) _ _ _ _ (c .before .before .before .before .before .before .before .place-of .ensures) (c .before .before .before .before .before .page-of .ensures) in
+    let f = told-few (a .order) (store (a .t) (a .references .now) (a .coordinates .now) (a .rooms .now)) (a .probe .now) (a .p) (a .size) (length (a .out .now)) (c .before .before .before .before .before .before .before .before .before .before .before .pre) _ _ _ _ (c .before .before .before .before .before .before .before .place-of .ensures) (c .before .before .before .before .before .page-of .ensures) in
     omega arith
 
 array-share-prefix-room : tie.Need-array-share-prefix-room
 array-share-prefix-room c =
     let a = c .before .before .before .before .before .before .before .before .before .before .before .args in
-    let f = told-few (store (a .t) (a .references .now) (a .coordinates .now) (a .rooms .now)) (a .probe .now) (a .p) (a .size) (length (a .out .now)) (c .before .before .before .before .before .before .before .before .before .before .before .pre) _ _ _ _ (c .before .before .before .before .before .before .before .place-of .ensures) (c .before .before .before .before .before .page-of .ensures) in
+    let f = told-few (a .order) (store (a .t) (a .references .now) (a .coordinates .now) (a .rooms .now)) (a .probe .now) (a .p) (a .size) (length (a .out .now)) (c .before .before .before .before .before .before .before .before .before .before .before .pre) _ _ _ _ (c .before .before .before .before .before .before .before .place-of .ensures) (c .before .before .before .before .before .page-of .ensures) in
     let k = c .before .before .before .before .before .page-of .kept .1 .1 .1 .1 .1 .1 .1 .1 .1 .0 in
     omega arith
 
 slice-aggregate-write-answer : tie.Need-slice-aggregate-write-answer
 slice-aggregate-write-answer c =
     let a = c .before .before .before .before .before .before .before .before .before .before .before .before .args in
-    let f = told-few (store (a .t) (a .references .now) (a .coordinates .now) (a .rooms .now)) (a .probe .now) (a .p) (a .size) (length (a .out .now)) (c .before .before .before .before .before .before .before .before .before .before .before .before .pre) _ _ _ _ (c .before .before .before .before .before .before .before .before .place-of .ensures) (c .before .before .before .before .before .before .page-of .ensures) in
+    let f = told-few (a .order) (store (a .t) (a .references .now) (a .coordinates .now) (a .rooms .now)) (a .probe .now) (a .p) (a .size) (length (a .out .now)) (c .before .before .before .before .before .before .before .before .before .before .before .before .pre) _ _ _ _ (c .before .before .before .before .before .before .before .before .place-of .ensures) (c .before .before .before .before .before .before .page-of .ensures) in
     let k = c .before .before .before .before .before .before .page-of .kept .1 .1 .1 .1 .1 .1 .1 .1 .1 .0 in
     sym (length-take-le _ _ (omega arith))
 
@@ -73,7 +73,7 @@ same-length c = search needs
 returns : tie.Need-returns
 returns c =
     let a = c .before .before .before .before .before .before .before .before .before .before .before .before .before .before .before .before .args in
-    page-told (store (a .t) (a .references .now) (a .coordinates .now) (a .rooms .now)) (a .probe .now) (a .p) (a .size) (length (a .out .now)) (c .before .before .before .before .before .before .before .before .before .before .before .before .before .before .before .before .pre)
+    page-told (a .order) (store (a .t) (a .references .now) (a .coordinates .now) (a .rooms .now)) (a .probe .now) (a .p) (a .size) (length (a .out .now)) (c .before .before .before .before .before .before .before .before .before .before .before .before .before .before .before .before .pre)
     _ _ _ _ (c .before .before .before .before .before .before .before .before .before .before .before .before .place-of .ensures) (c .before .before .before .before .before .before .before .before .before .before .page-of .ensures) _ (c .before .before .before .before .before .before .before .answer-scope .ensures) _ (c .before .before .before .before .before .flag .ensures) _ refl (λ i. c .before .before .before .before .before .before .before .before .before .before .before .before .before .before .before .shared-slice-known .given i .fits)
     _ _ _ (c .before .before .before .before .before .before .before .before .before .before .before .before .before .before .before .before .pre .asking .isOpen .room) (c .before .before .write-answer .ensures)
 
