@@ -47,7 +47,7 @@ module _ (c : Codec) (law : Lawful c) (Elsewhere : List ℕ → Type 0) (w : Wor
 
   module _ (v : World) (l : Later c Elsewhere w v) (i size : ℕ) (alone : Unshared c Elsewhere (theList w i .query .table)) (may : MayAsk w i size) where
     pub answered : Answered c w v i size
-    answered = is-answered c law w v i size (ready w i size Later.now alone may) (ready v i size l alone may)
+    answered = is-answered c law w v i size (ready w i size Later.still alone may) (ready v i size l alone may)
 
     pub grows : (u : World) → Later c Elsewhere v u → theList u i ≡ theList w i → Grows c w v u i size
     grows u k stands =

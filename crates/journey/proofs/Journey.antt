@@ -19,7 +19,7 @@ use Rattle.paper.proofs.Outcomes.{must-test, must-rest, through, same-given}
 use Rattle.orders.proofs.Lists.{All, all-map, all-append, all-set, all-getD, all-mem}
 use Rattle.orders.proofs.Taking.{took, took-query, fits-present}
 use Rattle.orders.specs.Laws.{Typed, QueryOk, AskOk, AnswerOk, Lawful}
-use Rattle.journey.specs.World.{World, Event, enters, opens, asks, receives, takes, strays, noListing, theList, entering, entered, sent, added, moved, next, Allowed, TableOk, Reachable, begins, goes, Later, now, onwards, Unshared}
+use Rattle.journey.specs.World.{World, Event, enters, opens, asks, receives, takes, strays, noListing, theList, entering, entered, sent, added, moved, next, Allowed, TableOk, Reachable, begins, goes, Later, still, onwards, Unshared}
 use Rattle.journey.proofs.Kept.{Kept, Vouched, kept-fresh, Grown, grown-same, grown-trans, kept-grown, vouched-grown, kept-joined}
 use Rattle.journey.proofs.Answers.{asked-ok, answer-ok, replied, answer-vouched}
 
@@ -223,13 +223,13 @@ module _ (c : Codec) (law : Lawful c) (Elsewhere : List ℕ → Type 0) where
   next-onward w (strays s) = sent-onward w (gives s)
 
   pub later-grown : (w : World) {v : World} → Later c Elsewhere w v → Grown (w .table) (v .table)
-  later-grown w now = grown-same _
+  later-grown w still = grown-same _
   later-grown w (onwards {v} l e a) = grown-trans _ _ _ (later-grown w l) (next-onward v e .table)
 
   pub later-lists : (w : World) {v : World} → Later c Elsewhere w v → length (w .lists) ≤ length (v .lists)
-  later-lists w now = omega arith
+  later-lists w still = omega arith
   later-lists w (onwards {v} l e a) = omega (arith, later-lists w l, next-onward v e .lists)
 
   pub later-reachable : (w : World) {v : World} → Reachable c Elsewhere w → Later c Elsewhere w v → Reachable c Elsewhere v
-  later-reachable w r now = r
+  later-reachable w r still = r
   later-reachable w r (onwards l e a) = goes (later-reachable w r l) e a

@@ -94,7 +94,7 @@ pub data Reachable (c : Codec) (Elsewhere : List ℕ → Type 0) : World → Typ
 
 -- a later moment
 pub data Later (c : Codec) (Elsewhere : List ℕ → Type 0) (w : World) : World → Type 0 where
-  now : Later c Elsewhere w w
+  still : Later c Elsewhere w w
   onwards : {v : World} → Later c Elsewhere w v → (e : Event) → Allowed c Elsewhere v e → Later c Elsewhere w (next c v e)
 
 -- where no line comes from elsewhere

@@ -20,11 +20,11 @@ use Rattle.paper.specs.Limits.{longestAnswer, officeClaims, officePlaces, offic
 
 -- ---- a chunk
 
--- the office `now` at the sitting d still reads from the chunk what the office o would read of the whole
+-- the office `here` at the sitting d still reads from the chunk what the office o would read of the whole
 pub record Reading (o : Office) (chunk : List ℕ) (s : Store) (l : List ℕ) (d : Sitting) : Type 0 where
-  pub now : Office
-  pub stands : Stands s l d now
-  pub same : fed now (drop (d .at) chunk) ≡ fed o chunk
+  pub here : Office
+  pub stands : Stands s l d here
+  pub same : fed here (drop (d .at) chunk) ≡ fed o chunk
 
 -- what holds at each turn of `pump`
 pub record Pumping (chunk rf₀ : List ℕ) (ps₀ : List ℤ) (rs₀ l₀ out₀ : List ℕ) (d₀ : Sitting) (rf : List ℕ) (ps : List ℤ) (rs l b : List ℕ) (d : Sitting) : Type 0 where
@@ -42,7 +42,7 @@ pub pumping-start : (chunk rf : List ℕ) (ps : List ℤ) (rs l out : List ℕ) 
 pumping-start chunk rf ps rs l out d n e r =
     rw e
     (record {
-      reading = λ o st. record { now = o; stands = st; same = refl };
+      reading = λ o st. record { here = o; stands = st; same = refl };
       ready = r;
       written = refl;
       references = refl;
@@ -63,9 +63,9 @@ pump-turning d chunk out h w r = record { unread = h .0; left = h .1; room = ome
 reading-more : (o : Office) (chunk : List ℕ) (s s' : Store) (l l' out out' : List ℕ) (d d' : Sitting)
     → Reading o chunk s l d → ((x : Office) → Stands s l d x → Moved x chunk d out s' l' d' out') → Reading o chunk s' l' (emptiedOf d')
 reading-more o chunk s s' l l' out out' d d' r f =
-    let m = f (r .now) (r .stands) in
+    let m = f (r .here) (r .stands) in
     record {
-      now = m .after;
+      here = m .after;
       stands = record { books = m .stands .books; line = m .stands .line; left = m .stands .left };
       same = m .same ∙ r .same;
     }
@@ -94,10 +94,10 @@ pub reading-done : (o : Office) (chunk : List ℕ) (s : Store) (l : List ℕ) (d
     → Stands s l d (fed o chunk)
 unfolding fed
 reading-done o chunk s l d r w =
-    let e : r .now ≡ fed o chunk =
+    let e : r .here ≡ fed o chunk =
     ⊎-elim
-    (λ h. sym (ap (λ (x : List ℕ). fed (r .now) x) (drop-of-length-le chunk {i = d .at} h)) ∙ r .same)
-    (λ z. sym (fed-stop (drop (d .at) chunk) (r .now) (sym (r .stands .left) ∙ z)) ∙ r .same)
+    (λ h. sym (ap (λ (x : List ℕ). fed (r .here) x) (drop-of-length-le chunk {i = d .at} h)) ∙ r .same)
+    (λ z. sym (fed-stop (drop (d .at) chunk) (r .here) (sym (r .stands .left) ∙ z)) ∙ r .same)
     w in
     rw (← e) (r .stands)
 
