@@ -81,9 +81,9 @@ module _ (l : lists.List) (room : ℕ) (a : Bool) (ae : a ≡ inRange (l .measur
     way-unused h = rw (← ae, not-false a ha, ← be, not-true b h)
 
     module _ (hb : not b ≡ false) where
-      pub way-snapshot : mostClaims < l .snapshot → false ≡ fieldsHold l room
+      pub way-most-snapshot : mostClaims < l .snapshot → false ≡ fieldsHold l room
       unfolding fieldsHold
-      way-snapshot h = rw (← ae, not-false a ha, ← be, not-false b hb, lt-leb (l .snapshot) mostClaims h)
+      way-most-snapshot h = rw (← ae, not-false a ha, ← be, not-false b hb, lt-leb (l .snapshot) mostClaims h)
 
       module _ (hs : l .snapshot ≤ mostClaims) where
         pub way-room : room / 3 < l .count → false ≡ fieldsHold l room

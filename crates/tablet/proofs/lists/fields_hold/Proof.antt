@@ -2,7 +2,7 @@
 use Prim.Native.Nat.{_<_, _≤_}
 use native.Mathlib.Omega.{arith}
 use lib.ListN.{length}
-use Rattle.tablet.proofs.ListLaws.{range-d, way-range, way-unused, way-snapshot, way-room, way-started}
+use Rattle.tablet.proofs.ListLaws.{range-d, way-range, way-unused, way-most-snapshot, way-room, way-started}
 use borrow.Author.Needs.{needs}
 use Rattle.tablet.proofs.lists.fields_hold.Statement.{statement}
 use Rattle.tablet.proofs.lists.fields_hold.Tie as tie
@@ -26,7 +26,7 @@ returns-2 : tie.Need-returns-2
 returns-2 c = (way-unused _ _ _ (c .before .before .before .before .in-range .ensures) (c .before .before .before .if1 .left) _ (c .before .unused-zero .ensures) (c .if2 .taken), search needs)
 
 returns-3 : tie.Need-returns-3
-returns-3 c = (way-snapshot _ _ _ (c .before .before .before .before .before .before .in-range .ensures) (c .before .before .before .before .before .if1 .left) _ (c .before .before .before .unused-zero .ensures) (c .before .before .if2 .left) (c .if3 .taken), search needs)
+returns-3 c = (way-most-snapshot _ _ _ (c .before .before .before .before .before .before .in-range .ensures) (c .before .before .before .before .before .if1 .left) _ (c .before .before .before .unused-zero .ensures) (c .before .before .if2 .left) (c .if3 .taken), search needs)
 
 returns-4 : tie.Need-returns-4
 returns-4 c = (way-room _ _ _ (c .before .before .before .before .before .before .before .before .in-range .ensures) (c .before .before .before .before .before .before .before .if1 .left) _ (c .before .before .before .before .before .unused-zero .ensures) (c .before .before .before .before .if2 .left) (c .before .before .if3 .left) (c .if4 .taken), search needs)
