@@ -30,6 +30,7 @@ making-marked =
       references5 = refl;
       coordinates11 = refl;
       rooms35 = refl;
+      widest = refl;
     }
 
 pub entering-marked : EnteringMarked
@@ -49,6 +50,7 @@ entering-marked =
       first5 = refl;
       first2 = refl;
       first1 = refl;
+      fills0 = refl;
     }
 
 pub asking-marked : AskingMarked
@@ -83,6 +85,7 @@ asking-marked =
       first6 = refl;
       first7 = refl;
       first8 = refl;
+      atReach = refl;
     }
 
 pub office-marked : OfficeMarked

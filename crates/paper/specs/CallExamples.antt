@@ -2,7 +2,7 @@
 -- The claims, probe and reach are those of its marked examples. Definitions only.
 use Prim.Native.Nat.{ℕ, _+_, _-_, _*_}
 use mathlib.Core.Path.{_≡_}
-use mathlib.Core.Bool.{false}
+use mathlib.Core.Bool.{true, false}
 use mathlib.Core.List.{List, [], _∷_, _++_}
 use lib.IntN.{ℤ, pos}
 use lib.ListN.{replicate}
@@ -13,7 +13,7 @@ use Rattle.paper.specs.declared.tables.Table.{Table}
 use Rattle.paper.specs.Limits.{mostPlaces, mostClaims, mostPage, longestFrame, longestAnswer, longestAsk, longestClaim}
 use Rattle.paper.specs.Orders.{nothing, found}
 use Rattle.paper.specs.Tree.{Store, store}
-use Rattle.paper.specs.Outcomes.{Outcome, refused, gives}
+use Rattle.paper.specs.Outcomes.{Outcome, refused, gives, number}
 use Rattle.paper.specs.Frames.{lineOf}
 use Rattle.paper.specs.Runs.{makeCall, enterCall}
 use Rattle.paper.specs.Calls.{onTable, nearestCall, farthestCall, PageOf, pageCall, officeCall}
@@ -125,6 +125,8 @@ pub record MakingMarked : Type 0 where
   pub references5 : makeCall (empty 1 1 6 5 6 36) ≡ refused 1
   pub coordinates11 : makeCall (empty 1 2 6 6 11 36) ≡ refused 1
   pub rooms35 : makeCall (empty 1 1 6 6 6 35) ≡ refused 1
+  -- the last measure and the most coordinates
+  pub widest : makeCall (empty 3 8 6 6 48 36) ≡ gives (header 3 8 6 0 0)
 
 -- ---- entering: 1, 2, 5, 3, 4
 
@@ -145,6 +147,8 @@ pub record EnteringMarked : Type 0 where
   pub first5 : enterCall five (106 ∷ 107 ∷ []) (pos 4 ∷ []) ≡ refused 5
   pub first2 : enterCall changed (106 ∷ []) (pos 4 ∷ pos 4 ∷ []) ≡ refused 2
   pub first1 : enterCall short (106 ∷ []) (pos 4 ∷ []) ≡ refused 1
+  -- a run that just fills the table
+  pub fills0 : number (enterCall five (106 ∷ []) (pos 4 ∷ [])) ≡ 0
 
 -- ---- nearest and farthest: 1, 2, 5; a page: 1, 2, 5, 6, 7, 8, 12
 
@@ -180,6 +184,8 @@ pub record AskingMarked : Type 0 where
   pub first6 : pageAt five four (after 6 1 4) 0 6 ≡ refused 6
   pub first7 : pageAt five four (after 6 2 4) 2 6 ≡ refused 7
   pub first8 : pageAt five four (after 5 2 4) 2 5 ≡ refused 8
+  -- a mark just at the reach: nothing comes after it
+  pub atReach : pageAt five four (after 5 5 2) 2 6 ≡ gives (record { items = []; last = true })
 
 -- ---- the office: 12, 1, 2, 9, 10, 11, 7, 8
 
