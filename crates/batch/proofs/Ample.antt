@@ -1,20 +1,20 @@
 -- Room enough: an answer line has at most 573 characters, so with as many for each line, and a row, every line is answered. Assumes nothing.
 use Prim.Native.Nat.{ℕ, zero, suc, _+_, _*_, _-_, _<_, _≤_}
 use mathlib.Core.Path.{_≡_, refl, sym, ap, _∙_, subst}
-use mathlib.Core.Bool.{Bool, true, false, cond}
+use mathlib.Core.Bool.{Bool, true, false}
 use mathlib.Core.List.{List, _++_}
 use native.Mathlib.Omega.{arith}
 use native.Mathlib.Decide.{decLe}
 use lib.Dec.{leb}
 use lib.ListN.{length, take, drop, length-append, length-drop, length-take}
 use borrow.Author.Tests.{lt-ltb, le-leb}
-use Rattle.paper.specs.declared.orders.Order.the-variants.{Near}
 use Rattle.paper.specs.Orders.{flat, following, pageOf, snapshotHolds, markHolds}
 use Rattle.paper.specs.Outcomes.{gives, must, onto}
 use Rattle.paper.specs.Tree.{Store, fits}
 use Rattle.paper.specs.Tree as Tree
 use Rattle.paper.specs.Frames.{frameOf, sound}
-use Rattle.paper.specs.Lines.{askOk, askAt, answerFrame}
+use Rattle.paper.specs.Fields.{flagOf}
+use Rattle.paper.specs.Lines.{isAsk, askAt, answerFrame}
 use Rattle.paper.specs.Ends.{Ask, tableOf, matches, answerOf, answerTo, served}
 use Rattle.paper.specs.Ends as Ends
 use Rattle.paper.specs.Codec.{asked, answerLine, readAsk, scopeOf, lines}
@@ -36,8 +36,8 @@ answer-short t a narrow most =
     let items = take (a .size) (following (a .query) (t .claims) (a .place)) in
     let y = answerOf t a in
     let n = length-take (a .size) (following (a .query) (t .claims) (a .place)) in
-    let frame = answerFrame 2 (a .query .table) (a .query .measure) (a .query .d) (a .query .probe) (scopeOf (a .query .reach) (a .place) (y .snapshot)) (cond (y .last) 1 0) (length items) (flat items) in
-    let f = length-answer 2 (a .query .table) (a .query .measure) (a .query .d) (a .query .probe) (scopeOf (a .query .reach) (a .place) (y .snapshot)) (cond (y .last) 1 0) (length items) (flat items) (flat-length items) in
+    let frame = answerFrame (a .query) (scopeOf (a .place) (y .snapshot)) (flagOf (y .last)) (length items) (flat items) in
+    let f = length-answer (a .query) (scopeOf (a .place) (y .snapshot)) (flagOf (y .last)) (length items) (flat items) (flat-length items) in
     omega (arith, length-line frame, f, n)
 
 reply-short : (t : Ends.Table) (a : Ask) → length (a .query .probe) ≤ 8 → a .size ≤ mostPage → lengthSaid (onto (answerTo t a) (λ y. gives (answerLine y))) ≤ longestAnswer
@@ -52,14 +52,15 @@ reply-short t a narrow most = go (matches t (a .query)) (snapshotHolds (t .claim
 
 served-short : (t : Ends.Table) (line : List ℕ) → lengthSaid (served lines t line) ≤ longestAnswer
 unfolding served readAsk lengthSaid asked
-served-short t line = go (sound line) (askOk 1 (frameOf line)) refl
+served-short t line = go (sound line) (isAsk (frameOf line)) refl
   where
-    go : (x y : Bool) → askOk 1 (frameOf line) ≡ y
-        → lengthSaid (onto (must x 9 (must y 10 (gives (asked Near (askAt (frameOf line)))))) (λ a. onto (answerTo t a) (λ y. gives (answerLine y)))) ≤ longestAnswer
+    go : (x y : Bool) → isAsk (frameOf line) ≡ y
+        → lengthSaid (onto (must x 9 (must y 10 (gives (asked (askAt (frameOf line)))))) (λ a. onto (answerTo t a) (λ y. gives (answerLine y)))) ≤ longestAnswer
     go true true e =
         let g = ask-given (frameOf line) e in
-        let m = length-take (askAt (frameOf line) .d) (askAt (frameOf line) .probe) in
-        reply-short t (asked Near (askAt (frameOf line))) (omega (arith, m, g .narrow)) (g .most)
+        let q = askAt (frameOf line) .query in
+        let m = length-take (q .d) (q .probe) in
+        reply-short t (asked (askAt (frameOf line))) (omega (arith, m, g .narrow)) (g .most)
     go true false e = omega arith
     go false y e = omega arith
 

@@ -3,6 +3,10 @@ use Prim.Native.Nat.{ℕ}
 use mathlib.Core.Bool.{Bool, cond, not}
 use mathlib.Core.List.{List}
 use lib.Dec.{eqb}
+use lib.IntN.{ℤ}
+use Rattle.paper.specs.declared.lines.Scope.{Scope}
+use Rattle.paper.specs.declared.lines.AskRead.{AskRead}
+use Rattle.paper.specs.declared.lines.AnswerRead.{AnswerRead}
 use Rattle.paper.specs.declared.lines.Wrote.{Wrote}
 use Rattle.paper.specs.declared.lines.Wrote.the-variants.{Line, Refused}
 use Rattle.paper.specs.declared.lists.List as lists
@@ -10,12 +14,13 @@ use Rattle.paper.specs.declared.lists.Opened.{Opened}
 use Rattle.paper.specs.declared.lists.Taken.{Taken}
 use Rattle.paper.specs.declared.orders.Found.the-variants.{Nothing, Item as AnItem}
 use Rattle.paper.specs.declared.orders.Nearest as Answers
+use Rattle.paper.specs.declared.orders.Order.the-variants.{Near}
 use Rattle.paper.specs.declared.orders.Page as Pages
 use Rattle.paper.specs.declared.orders.Place.{Place}
 use Rattle.paper.specs.declared.orders.Place as Places
 use Rattle.paper.specs.declared.tables.Made.{Made}
 use Rattle.paper.specs.declared.tables.Entered.{Entered}
-use Rattle.paper.specs.Orders.{markAt}
+use Rattle.paper.specs.Orders.{Query, markAt}
 use Rattle.paper.specs.Outcomes.{Outcome, Promise}
 use Rattle.paper.specs.Runs.{emptyTable}
 use Rattle.paper.specs.Fields.{flagOf}
@@ -27,6 +32,9 @@ use Rattle.c_values.specs.declared.Item.{Item}
 use Rattle.c_values.specs.declared.Start.{Start}
 use Rattle.c_values.specs.declared.Filled.{Filled}
 use Rattle.c_values.specs.declared.Written.{Written}
+use Rattle.c_values.specs.declared.Extent.{Extent}
+use Rattle.c_values.specs.declared.AskShown.{AskShown}
+use Rattle.c_values.specs.declared.AnswerShown.{AnswerShown}
 use Rattle.c_values.specs.declared.Listing.{Listing}
 use Rattle.c_values.specs.declared.Listed.{Listed}
 
@@ -61,14 +69,22 @@ abbrev pub writtenOf : Wrote → Written
 writtenOf (Line n) = record { refusal = 0; length = n }
 writtenOf (Refused n) = record { refusal = n; length = 0 }
 
+-- a query of C: its order is near
+abbrev pub nearQuery : ℕ → ℕ → ℕ → List ℤ → ℕ → Query
+nearQuery table measure d probe reach =
+    record { order = Near; table = table; measure = measure; d = d; probe = probe; reach = reach }
+
 abbrev pub listIn : Listing → lists.List
 listIn l =
     record {
-      table = l .table;
-      measure = l .measure;
-      d = l .d;
-      probe = l .probe;
-      reach = l .reach;
+      query = record {
+        order = Near;
+        table = l .table;
+        measure = l .measure;
+        d = l .d;
+        probe = l .probe;
+        reach = l .reach;
+      };
       started = flagIn (l .started);
       snapshot = l .snapshot;
       count = l .count;
@@ -78,15 +94,52 @@ listIn l =
 abbrev pub listOut : lists.List → Listing
 listOut l =
     record {
-      table = l .table;
-      measure = l .measure;
+      table = l .query .table;
+      measure = l .query .measure;
       started = flagOf (l .started);
       complete = flagOf (l .complete);
-      d = l .d;
-      probe = l .probe;
-      reach = l .reach;
+      d = l .query .d;
+      probe = l .query .probe;
+      reach = l .query .reach;
       snapshot = l .snapshot;
       count = l .count;
+    }
+
+abbrev pub scopeIn : Extent → Scope
+scopeIn p = record { from = p .from; snapshot = p .snapshot; distance = p .distance; number = p .number }
+
+abbrev pub extentOut : ℕ → Scope → Extent
+extentOut reach p =
+    record { reach = reach; from = p .from; snapshot = p .snapshot; distance = p .distance; number = p .number }
+
+abbrev pub askOut : AskRead → AskShown
+askOut x =
+    record {
+      refusal = x .refusal;
+      ask = record {
+        table = x .ask .query .table;
+        measure = x .ask .query .measure;
+        d = x .ask .query .d;
+        probe = x .ask .query .probe;
+        scope = extentOut (x .ask .query .reach) (x .ask .scope);
+        size = x .ask .size;
+      };
+    }
+
+abbrev pub answerOut : AnswerRead → AnswerShown
+answerOut x =
+    record {
+      refusal = x .refusal;
+      answer = record {
+        table = x .answer .query .table;
+        measure = x .answer .query .measure;
+        d = x .answer .query .d;
+        probe = x .answer .query .probe;
+        scope = extentOut (x .answer .query .reach) (x .answer .scope);
+        last = x .answer .last;
+        count = x .answer .count;
+        items = x .answer .items;
+      };
     }
 
 abbrev pub openedOut : Opened → Listed

@@ -2,16 +2,24 @@
 // refused; where a case is not given its values are 0. A flag from C is off when it is 0 and on otherwise; a flag to C is 0 or 1.
 // This is a crate of its own so that wrong conversions are tried in seconds, apart from the exports.
 ghost use mathlib.Core.Path.{_≡_};
-ghost use Rattle.c_values.specs.Values.{noTable, madeOut, enteredOut, itemOut, filledOut, writtenOf, placeOf, listIn, listOut};
+ghost use Prim.Native.Nat.{_≤_};
+ghost use Rattle.paper.specs.Limits.{mostPlaces};
+ghost use Rattle.c_values.specs.Values.{noTable, madeOut, enteredOut, itemOut, filledOut, writtenOf, placeOf, listIn, listOut, scopeIn, extentOut, askOut, answerOut};
+use paper::limits::ITEM_ROOM;
 use paper::limits::MOST_PLACES;
+use paper::lines::AnswerRead;
+use paper::lines::AskRead;
+use paper::lines::Scope;
 use paper::lines::Wrote;
 use paper::lines::flag;
 use paper::lists::List;
 use paper::orders::Found;
 use paper::orders::Mark;
 use paper::orders::Nearest;
+use paper::orders::Order;
 use paper::orders::Page;
 use paper::orders::Place;
+use paper::queries::Query;
 use paper::tables::Entered;
 use paper::tables::Made;
 use paper::tables::Table;
@@ -57,7 +65,55 @@ pub struct Written {
     pub length: usize,
 }
 
-// A tablet's list: `paper::lists::List` with flags as numbers.
+// What an ask and an answer have behind the probe: the reach, and a scope.
+#[repr(C)]
+pub struct Extent {
+    pub reach: u64,
+    pub from: u8,
+    pub snapshot: u16,
+    pub distance: u64,
+    pub number: u16,
+}
+
+// The fields of an ask.
+#[repr(C)]
+pub struct AskFields {
+    pub table: u32,
+    pub measure: u8,
+    pub d: u8,
+    pub probe: [i32; MOST_PLACES],
+    pub scope: Extent,
+    pub size: u8,
+}
+
+// The fields of an answer.
+#[repr(C)]
+pub struct AnswerFields {
+    pub table: u32,
+    pub measure: u8,
+    pub d: u8,
+    pub probe: [i32; MOST_PLACES],
+    pub scope: Extent,
+    pub last: u8,
+    pub count: u8,
+    pub items: [u64; ITEM_ROOM],
+}
+
+// An ask's line, read.
+#[repr(C)]
+pub struct AskShown {
+    pub refusal: u8,
+    pub ask: AskFields,
+}
+
+// An answer's line, read.
+#[repr(C)]
+pub struct AnswerShown {
+    pub refusal: u8,
+    pub answer: AnswerFields,
+}
+
+// A tablet's list: its query and its fields side by side, with flags as numbers. Its order is near.
 #[repr(C)]
 pub struct Listing {
     pub table: u32,
@@ -194,12 +250,16 @@ pub fn list_in(l: Listing) -> List
     ensures { λ r. ⌜ r ≡ listIn l ⌝ }
 {
     let probe = l.probe;
-    List {
+    let query = Query {
+        order: Order::Near,
         table: l.table,
         measure: l.measure,
         d: l.d,
         probe,
         reach: l.reach,
+    };
+    List {
+        query,
         started: l.started != 0,
         snapshot: l.snapshot,
         count: l.count,
@@ -210,16 +270,87 @@ pub fn list_in(l: Listing) -> List
 pub fn list_out(l: List) -> Listing
     ensures { λ r. ⌜ r ≡ listOut l ⌝ }
 {
-    let probe = l.probe;
+    let query = l.query;
+    let probe = query.probe;
     Listing {
-        table: l.table,
-        measure: l.measure,
+        table: query.table,
+        measure: query.measure,
         started: flag(l.started),
         complete: flag(l.complete),
-        d: l.d,
+        d: query.d,
         probe,
-        reach: l.reach,
+        reach: query.reach,
         snapshot: l.snapshot,
         count: l.count,
+    }
+}
+
+pub fn scope_in(p: Extent) -> Scope
+    ensures { λ r. ⌜ r ≡ scopeIn p ⌝ }
+{
+    Scope {
+        from: p.from,
+        snapshot: p.snapshot,
+        distance: p.distance,
+        number: p.number,
+    }
+}
+
+fn extent_of(reach: u64, p: Scope) -> Extent
+    ensures { λ r. ⌜ r ≡ extentOut reach p ⌝ }
+{
+    Extent {
+        reach,
+        from: p.from,
+        snapshot: p.snapshot,
+        distance: p.distance,
+        number: p.number,
+    }
+}
+
+pub fn ask_out(x: AskRead) -> AskShown
+    requires { ⌜ x .ask .query .d ≤ mostPlaces ⌝ }
+    ensures { λ r. ⌜ r ≡ askOut x ⌝ }
+{
+    let a = x.ask;
+    let query = a.query;
+    let probe = query.probe;
+    let scope = a.scope;
+    let ask = AskFields {
+        table: query.table,
+        measure: query.measure,
+        d: query.d as u8,
+        probe,
+        scope: extent_of(query.reach, scope),
+        size: a.size,
+    };
+    AskShown {
+        refusal: x.refusal,
+        ask,
+    }
+}
+
+pub fn answer_out(x: AnswerRead) -> AnswerShown
+    requires { ⌜ x .answer .query .d ≤ mostPlaces ⌝ }
+    ensures { λ r. ⌜ r ≡ answerOut x ⌝ }
+{
+    let y = x.answer;
+    let query = y.query;
+    let probe = query.probe;
+    let scope = y.scope;
+    let items = y.items;
+    let answer = AnswerFields {
+        table: query.table,
+        measure: query.measure,
+        d: query.d as u8,
+        probe,
+        scope: extent_of(query.reach, scope),
+        last: y.last,
+        count: y.count,
+        items,
+    };
+    AnswerShown {
+        refusal: x.refusal,
+        answer,
     }
 }

@@ -1,31 +1,30 @@
 -- A page of a sound table fits an answer's line, and what is written of it is the line that the paper says. Assumes nothing.
 use Prim.Native.Nat.{ℕ, zero, suc, _-_, _*_, _≤_, _<_}
-use mathlib.Core.Path.{_≡_, refl, ap}
-use mathlib.Core.Bool.{Bool, true, false, cond}
+use mathlib.Core.Path.{_≡_, refl, sym, ap, subst}
+use mathlib.Core.Bool.{Bool, true, false, cond, _&&_}
 use mathlib.Core.List.{List, [], _∷_}
 use native.Mathlib.Omega.{arith}
-use lib.Dec.{leb}
-use lib.IntN.{ℤ}
+use lib.Dec.{leb, eqb}
 use lib.ListN.{length, getD, take, length-take}
 use lib.Seq.{take-at}
-use borrow.Author.Tests.{eq-eqb, le-leb, lt-ltb, leb-true}
+use borrow.Author.Tests.{eq-eqb, le-leb, lt-ltb, leb-true, eqb-true}
 use Rattle.paper.specs.declared.lines.Scope.{Scope}
 use Rattle.paper.specs.declared.lines.Wrote.{Wrote}
 use Rattle.paper.specs.declared.orders.Order.{Order}
 use Rattle.paper.specs.declared.orders.Paged.{Paged}
 use Rattle.paper.specs.declared.orders.Place.{Place}
+use Rattle.paper.specs.declared.queries.Query as queries
 use Rattle.paper.specs.Points.{Claim}
-use Rattle.paper.specs.Orders.{Item, Query, snapshotOf, earlier, insert, itemOf, listed, follows, rest, following, pageOf, flat, fronted}
+use Rattle.paper.specs.Orders.{Item, Query, queryIn, snapshotOf, earlier, insert, itemOf, listed, follows, rest, following, pageOf, flat, fronted}
 use Rattle.paper.specs.Tree.{Store, claimsIn}
 use Rattle.paper.specs.Outcomes.{gives}
 use Rattle.paper.specs.Frames.{lineOf}
 use Rattle.lines.proofs.Ways.{bare-fits}
 use Rattle.paper.specs.Fields.{flagOf, scopeOk, numbersOk, referencesOk}
-use Rattle.paper.specs.Lines.{Writes, bareLine, answerFrame, answerRanges, answerFits}
-use Rattle.paper.specs.Ends.{answerOf, tableOf}
+use Rattle.paper.specs.Lines.{Writes, bareLine, queryFits, answerFrame, answerRanges, answerFits}
+use Rattle.paper.specs.Ends.{answerOf, tableOf, matches}
 use Rattle.paper.specs.Codec.{placeIn, scopeOf, answerLine}
-use Rattle.paper.proofs.Tests.{and-first, and-both}
-use Rattle.tree.specs.Soundness.{Good}
+use Rattle.paper.proofs.Tests.{and-first, and-second, and-both}
 use Rattle.paper.proofs.Ranges.{is-range}
 use Rattle.paper.proofs.Places.{place-start, place-after}
 use Rattle.tree.proofs.Known.{good-few}
@@ -35,7 +34,7 @@ use Rattle.tree.proofs.Places.{claims-length}
 use Rattle.orders.proofs.Rooms.{flat-length}
 use Rattle.walk.proofs.Bridge.{claims-at}
 use Rattle.walk.proofs.Answers.{good-measurable}
-use Rattle.desk.specs.Desk.{Paging, askFor, pageLine}
+use Rattle.desk.specs.Desk.{Asking, Paging, askIn, pageLine}
 use Rattle.paper.specs.Limits.{itemRoom, longestAnswer, mostClaims, mostNumber, mostPage}
 
 -- ---- items that an answer can tell
@@ -97,30 +96,61 @@ unfolding scopeOk
 scope-from p e = leb-true (p .from) 1 (and-first (leb (p .from) 1) _ e)
 
 pub scope-start : (p : Scope) (n : ℕ) → p .from ≡ 0
-    → record { reach = p .reach; from = 0; snapshot = n; distance = 0; number = 0 } ≡ scopeOf (p .reach) (placeIn p) (snapshotOf (placeIn p) n)
+    → record { from = 0; snapshot = n; distance = 0; number = 0 } ≡ scopeOf (placeIn p) (snapshotOf (placeIn p) n)
 unfolding scopeOf
 scope-start p n e = rw (place-start p e)
 
-pub scope-after : (p : Scope) (n : ℕ) → p .from ≤ 1 → (p .from ≡ 0 → ⊥) → p ≡ scopeOf (p .reach) (placeIn p) (snapshotOf (placeIn p) n)
+pub scope-after : (p : Scope) (n : ℕ) → p .from ≤ 1 → (p .from ≡ 0 → ⊥) → p ≡ scopeOf (placeIn p) (snapshotOf (placeIn p) n)
 unfolding scopeOf
 scope-after p n h e =
     let q : p .from ≡ 1 = omega arith in
     rw (place-after p e)
-    (ap (λ (k : ℕ). record { reach = p .reach; from = k; snapshot = p .snapshot; distance = p .distance; number = p .number }) q)
+    (ap (λ (k : ℕ). record { from = k; snapshot = p .snapshot; distance = p .distance; number = p .number }) q)
 
-scope-repeats : (p : Scope) (n : ℕ) → scopeOk p ≡ true → n ≤ mostClaims → scopeOk (scopeOf (p .reach) (placeIn p) (snapshotOf (placeIn p) n)) ≡ true
+scope-repeats : (p : Scope) (n : ℕ) → scopeOk p ≡ true → n ≤ mostClaims → scopeOk (scopeOf (placeIn p) (snapshotOf (placeIn p) n)) ≡ true
 unfolding scopeOk
 scope-repeats p n e h = go (p .from) refl
   where
-    go : (k : ℕ) → p .from ≡ k → scopeOk (scopeOf (p .reach) (placeIn p) (snapshotOf (placeIn p) n)) ≡ true
+    go : (k : ℕ) → p .from ≡ k → scopeOk (scopeOf (placeIn p) (snapshotOf (placeIn p) n)) ≡ true
     go zero q = rw (← scope-start p n q, le-leb n mostClaims h)
     go (suc k) q = rw (← scope-after p n (scope-from p e) (λ z. omega arith)) e
 
--- ---- what the walk asks of the table
+-- ---- a query of this table, as the walk and a line have it
 
-pub markable : (s : Store) (probe : List ℤ) → Good s → length probe ≡ s .table .d → (p : Scope) (place : Place) → place ≡ placeIn p
-    → snapshotOf (placeIn p) (s .table .count) ≤ s .table .count → Markable (s .table) (s .coordinates) probe place
-markable s probe g aim p place e h = record { measurable = good-measurable s g probe aim; stored = rw e h }
+module _ (s : Store) (q : queries.Query) (p : Scope) (size out : ℕ) (h : Asking s q p size out) where
+  same-header : (q .table ≡ s .table .number) × ((q .measure ≡ s .table .measure) × (q .d ≡ s .table .d))
+  unfolding matches
+  same-header =
+      let t = eqb (q .table) (s .table .number) in
+      let m = eqb (q .measure) (s .table .measure) in
+      let d = eqb (q .d) (s .table .d) in
+      let rest = and-second t (m && d) (h .ours) in
+      (eqb-true _ _ (and-first t (m && d) (h .ours)), (eqb-true _ _ (and-first m d rest), eqb-true _ _ (and-second m d rest)))
+
+  pub own-query : queryIn q ≡ tableQuery (s .table) (q .order) (take (q .d) (q .probe)) (q .reach)
+  own-query =
+      λ i. record {
+        order = q .order;
+        table = same-header .0 i;
+        measure = same-header .1 .0 i;
+        d = same-header .1 .1 i;
+        probe = take (q .d) (q .probe);
+        reach = q .reach;
+      }
+
+  module _ (eight : 7 < length (q .probe)) where
+    pub aimed : length (take (q .d) (q .probe)) ≡ s .table .d
+    aimed = simp length-take (omega (arith, h .ask .narrow, same-header .1 .1))
+
+    pub markable : (place : Place) → place ≡ placeIn p → snapshotOf (placeIn p) (s .table .count) ≤ s .table .count
+        → Markable (s .table) (s .coordinates) (take (q .d) (q .probe)) place
+    markable place e k = record { measurable = good-measurable s (h .isOpen .good) (take (q .d) (q .probe)) aimed; stored = rw e k }
+
+    query-fits : queryFits (queryIn q) ≡ true
+    unfolding queryFits
+    query-fits =
+        subst (λ (x : Query). queryFits x ≡ true) (sym own-query)
+        (and-both _ _ (h .ask .known) (and-both _ _ (is-range (s .table .measure) (s .table .d) (h .isOpen .good .fit .range)) (eq-eqb _ _ aimed)))
 
 -- ---- the page, written
 
@@ -132,23 +162,23 @@ flag-small : (b : Bool) → flagOf b ≤ 1
 flag-small true = omega arith
 flag-small false = omega arith
 
-module _ (order : Order) (s : Store) (probe : List ℤ) (p : Scope) (size out : ℕ) (h : Paging s probe p size out) where
+module _ (s : Store) (q : queries.Query) (p : Scope) (size out : ℕ) (h : Paging s q p size out) where
   abbrev Page : List Item
-  Page = pageOf (tableQuery (s .table) order probe (p .reach)) (claimsIn s) (placeIn p) size
+  Page = pageOf (queryIn q) (claimsIn s) (placeIn p) size
 
   abbrev Scoped : Scope
-  Scoped = scopeOf (p .reach) (placeIn p) (snapshotOf (placeIn p) (s .table .count))
+  Scoped = scopeOf (placeIn p) (snapshotOf (placeIn p) (s .table .count))
 
   pub pageable : (place : Place) (room : List ℕ) → place ≡ placeIn p → itemRoom ≤ length room → Pageable (s .table) place size room
   pageable place room e l =
-      record { stored = rw e (h .stored); some = omega (arith, h .asking .some); long = omega (arith, h .asking .most) }
+      record { stored = rw e (h .stored); some = omega (arith, h .asking .ask .some); long = omega (arith, h .asking .ask .most) }
 
   page-few : length Page ≤ size
   unfolding pageOf
   page-few = simp length-take (omega arith)
 
   item-small : ((i : ℕ) → getD (s .references) i 0 < 4294967296) → (k : ℕ) → k < snapshotOf (placeIn p) (s .table .count)
-      → Small (itemOf (tableQuery (s .table) order probe (p .reach)) (claimsIn s) k)
+      → Small (itemOf (queryIn q) (claimsIn s) k)
   unfolding itemOf
   item-small known k l =
       let few = good-few s (h .asking .isOpen .good) in
@@ -163,40 +193,40 @@ module _ (order : Order) (s : Store) (probe : List ℤ) (p : Scope) (size out : 
 
   -- what was written is the line of the page
   module _ (place : Place) (room room' : List ℕ) (r : Paged) (at : place ≡ placeIn p)
-      (is : PageIs (tableQuery (s .table) order probe (p .reach)) (claimsIn s) place size room room' r) where
-    is-page : PageIs (tableQuery (s .table) order probe (p .reach)) (claimsIn s) (placeIn p) size room room' r
-    is-page = rw at at is
+      (is : PageIs (tableQuery (s .table) (q .order) (take (q .d) (q .probe)) (q .reach)) (claimsIn s) place size room room' r) where
+    is-page : PageIs (queryIn q) (claimsIn s) (placeIn p) size room room' r
+    is-page =
+        subst (λ (x : Query). PageIs x (claimsIn s) (placeIn p) size room room' r) (sym (own-query s q p size out (h .asking))) (rw at at is)
 
     pub told-few : r .count ≤ mostPage
-    told-few = omega (arith, is-page .count, page-few, h .asking .most)
+    told-few = omega (arith, is-page .count, page-few, h .asking .ask .most)
 
     module _ (scope : Scope) (told : scope ≡ Scoped) (last : ℕ) (flag : last ≡ flagOf (r .last)) (n : ℕ) (three : n ≡ 3 * r .count)
-        (known : (i : ℕ) → getD (s .references) i 0 < 4294967296) where
+        (known : (i : ℕ) → getD (s .references) i 0 < 4294967296) (eight : 7 < length (q .probe)) where
       told-items : take n room' ≡ flat Page
       unfolding fronted
       told-items =
           let k : n ≡ length (flat Page) = omega (arith, flat-length Page, is-page .count) in
           rw (is-page .room, k) (take-at (flat Page) _ (length (flat Page)) refl)
 
-      fits : answerFits (s .table .measure) (s .table .d) probe Scoped (flagOf (r .last)) (length Page) (flat Page) ≡ true
+      fits : answerFits (queryIn q) Scoped (flagOf (r .last)) (length Page) (flat Page) ≡ true
       unfolding answerFits answerRanges
       fits =
-          let g = h .asking .isOpen .good in
+          let a = h .asking in
           let all = page-small known in
-          and-both _ _ (is-range (s .table .measure) (s .table .d) (g .fit .range)) (and-both _ _ (eq-eqb _ _ (h .asking .aimed))
-          (and-both _ _ (and-both _ _ (scope-repeats p (s .table .count) (h .asking .scope) (good-few s g))
-          (and-both _ _ (le-leb (flagOf (r .last)) 1 (flag-small (r .last))) (le-leb (length Page) mostPage (omega (arith, page-few, h .asking .most)))))
-          (and-both _ _ (eq-eqb _ _ (flat-length Page)) (and-both _ _ (flat-references Page all) (flat-numbers Page all)))))
+          and-both _ _ (query-fits s q p size out a eight)
+          (and-both _ _ (and-both _ _ (scope-repeats p (s .table .count) (a .ask .scope) (good-few s (a .isOpen .good)))
+          (and-both _ _ (le-leb (flagOf (r .last)) 1 (flag-small (r .last))) (le-leb (length Page) mostPage (omega (arith, page-few, a .ask .most)))))
+          (and-both _ _ (eq-eqb _ _ (flat-length Page)) (and-both _ _ (flat-references Page all) (flat-numbers Page all))))
 
-      line-is : lineOf (answerFrame 2 (s .table .number) (s .table .measure) (s .table .d) probe Scoped (flagOf (r .last)) (length Page) (flat Page))
-          ≡ answerLine (answerOf (tableOf s) (askFor order (s .table) probe p size))
+      line-is : lineOf (answerFrame (queryIn q) Scoped (flagOf (r .last)) (length Page) (flat Page)) ≡ answerLine (answerOf (tableOf s) (askIn q p size))
       unfolding answerLine answerOf
       line-is = rw (claims-length (s .table .d) (s .table .count) (s .references) (s .coordinates), is-page .last)
 
       pub page-told : (before : List ℕ) (w : Wrote) (after : List ℕ) → longestAnswer ≤ length before
-          → Writes (bareLine (answerFits (s .table .measure) (s .table .d) probe scope last (r .count) (take n room')) longestAnswer
-          (answerFrame 2 (s .table .number) (s .table .measure) (s .table .d) probe scope last (r .count) (take n room')) (length before)) before w after
-          → Writes (pageLine (tableOf s) (askFor order (s .table) probe p size)) before w after
+          → Writes (bareLine (answerFits (queryIn q) scope last (r .count) (take n room')) longestAnswer
+          (answerFrame (queryIn q) scope last (r .count) (take n room')) (length before)) before w after
+          → Writes (pageLine (tableOf s) (askIn q p size)) before w after
       page-told before w after long x =
           let y = rw (told, flag, told-items, is-page .count) at x in
           rw line-is at (line-told _ _ before w after fits long y)

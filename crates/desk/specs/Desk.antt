@@ -3,26 +3,24 @@ use Prim.Native.Nat.{ℕ, _≤_}
 use mathlib.Core.Path.{_≡_}
 use mathlib.Core.Bool.{true}
 use mathlib.Core.List.{List}
-use lib.IntN.{ℤ}
-use lib.ListN.{length}
 use Rattle.paper.specs.declared.lines.Ask as lines-Ask
 use Rattle.paper.specs.declared.lines.Scope.{Scope}
-use Rattle.paper.specs.declared.orders.Order.{Order}
-use Rattle.paper.specs.declared.tables.Table.{Table}
-use Rattle.paper.specs.Orders.{snapshotOf, snapshotHolds, markHolds}
+use Rattle.paper.specs.declared.queries.Query as queries
+use Rattle.paper.specs.Orders.{queryIn, snapshotOf, snapshotHolds, markHolds}
 use Rattle.paper.specs.Tree.{Store}
 use Rattle.paper.specs.Outcomes.{Outcome, must, gives}
 use Rattle.paper.specs.Fields.{scopeOk}
-use Rattle.paper.specs.Ends.{Ask, answerOf}
+use Rattle.paper.specs.Lines.{spoken}
+use Rattle.paper.specs.Ends.{Ask, tableOf, matches, answerOf}
 use Rattle.paper.specs.Ends as Ends
 use Rattle.paper.specs.Codec.{placeIn, answerLine}
 use Rattle.tree.specs.Soundness.{Good}
-use Rattle.paper.specs.Calls.{tableQuery}
 use Rattle.paper.specs.Limits.{longestAnswer, mostPage, mostPlaces}
 
 -- an ask that a reader gives
 pub record Given (a : lines-Ask.Ask) : Type 0 where
-  pub narrow : a .d ≤ mostPlaces
+  pub known : spoken (a .query .order) ≡ true
+  pub narrow : a .query .d ≤ mostPlaces
   pub scope : scopeOk (a .scope) ≡ true
   pub some : 1 ≤ a .size
   pub most : a .size ≤ mostPage
@@ -37,21 +35,19 @@ pub record Answering (s : Store) (a : lines-Ask.Ask) (out : ℕ) : Type 0 where
   pub ask : Given a
 
 -- an ask to this very table
-pub record Asking (s : Store) (probe : List ℤ) (p : Scope) (size out : ℕ) : Type 0 where
+pub record Asking (s : Store) (q : queries.Query) (p : Scope) (size out : ℕ) : Type 0 where
   pub isOpen : Open s out
-  pub aimed : length probe ≡ s .table .d
-  pub scope : scopeOk p ≡ true
-  pub some : 1 ≤ size
-  pub most : size ≤ mostPage
+  pub ask : Given (record { query = q; scope = p; size = size })
+  pub ours : matches (tableOf s) (queryIn q) ≡ true
 
 -- whose snapshot is not over the count
-pub record Paging (s : Store) (probe : List ℤ) (p : Scope) (size out : ℕ) : Type 0 where
-  pub asking : Asking s probe p size out
+pub record Paging (s : Store) (q : queries.Query) (p : Scope) (size out : ℕ) : Type 0 where
+  pub asking : Asking s q p size out
   pub stored : snapshotOf (placeIn p) (s .table .count) ≤ s .table .count
 
--- what an ask of an order says, of this table
-abbrev pub askFor : Order → Table → List ℤ → Scope → ℕ → Ask
-askFor order t probe p size = record { query = tableQuery t order probe (p .reach); place = placeIn p; size = size }
+-- what an ask of these fields says
+abbrev pub askIn : queries.Query → Scope → ℕ → Ask
+askIn q p size = record { query = queryIn q; place = placeIn p; size = size }
 
 -- the line of the page that is asked for
 abbrev pub pageLine : Ends.Table → Ask → Outcome (List ℕ)

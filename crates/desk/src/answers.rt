@@ -6,13 +6,13 @@ ghost use Rattle.paper.specs.Codec.{asked};
 ghost use Rattle.paper.specs.Codec.{lines as Codec·lines};
 ghost use Rattle.paper.specs.Program.{replyTo};
 ghost use Rattle.paper.specs.Lines.{Writes};
-ghost use Rattle.desk.specs.Desk.{Open, Answering, Asking, askFor, pageReply};
+ghost use Rattle.desk.specs.Desk.{Open, Answering, Asking, askIn, pageReply};
 use super::pages::tell_page;
 use paper::lines::Ask;
 use paper::lines::Scope;
 use paper::lines::Wrote;
 use paper::lines::place_of;
-use paper::orders::Order;
+use paper::queries::Query;
 use paper::tables::Table;
 use paper::tables::is_ours;
 
@@ -22,65 +22,44 @@ fn answer_here(
     references: &[u32],
     coordinates: &[i32],
     rooms: &[u64],
-    order: Order,
-    probe: &[i32],
+    q: Query,
     p: Scope,
     size: u8,
     out: &mut [u8],
 ) -> Wrote
-    requires { ⌜ Asking (lent t references coordinates rooms) (now probe) p size (length (now out)) ⌝ }
-    ensures { λ r. ⌜ Writes (pageReply (tableOf (lent t (references .entry) (coordinates .entry) (rooms .entry))) (askFor order t (now (probe .entry)) p size)) (now (out .entry)) r (now (out .exit)) ⌝ }
+    requires { ⌜ Asking (lent t references coordinates rooms) q p size (length (now out)) ⌝ }
+    ensures { λ r. ⌜ Writes (pageReply (tableOf (lent t (references .entry) (coordinates .entry) (rooms .entry))) (askIn q p size)) (now (out .entry)) r (now (out .exit)) ⌝ }
 {
     let place = place_of(p);
     if !place.snapshot_holds(t.count) {
         return Wrote::Refused(7);
     }
-    if !walk::questions::mark_holds(t, coordinates, probe, p.reach, place) {
+    let d = q.d;
+    let probe = q.probe;
+    if !walk::questions::mark_holds(t, coordinates, &probe[..d], q.reach, place) {
         return Wrote::Refused(8);
     }
-    tell_page(
-        t,
-        references,
-        coordinates,
-        rooms,
-        order,
-        probe,
-        p,
-        size,
-        out,
-    )
+    tell_page(t, references, coordinates, rooms, q, p, size, out)
 }
 
-// Answers an ask that a reader gave, of the order that its kind tells.
+// Answers an ask that a reader gave.
 pub fn answer_ask(
     t: Table,
     references: &[u32],
     coordinates: &[i32],
     rooms: &[u64],
-    order: Order,
     ask: Ask,
     out: &mut [u8],
 ) -> Wrote
     requires { ⌜ Answering (lent t references coordinates rooms) ask (length (now out)) ⌝ }
-    ensures { λ r. ⌜ Writes (replyTo (tableOf (lent t (references .entry) (coordinates .entry) (rooms .entry))) (asked order ask)) (now (out .entry)) r (now (out .exit)) ⌝ }
+    ensures { λ r. ⌜ Writes (replyTo (tableOf (lent t (references .entry) (coordinates .entry) (rooms .entry))) (asked ask)) (now (out .entry)) r (now (out .exit)) ⌝ }
 {
-    if !is_ours(t, ask.table, ask.measure, ask.d) {
+    let q = ask.query;
+    if !is_ours(t, q.table, q.measure, q.d) {
         return Wrote::Refused(11);
     }
-    let probe = ask.probe;
     let scope = ask.scope;
-    let d = ask.d as usize;
-    answer_here(
-        t,
-        references,
-        coordinates,
-        rooms,
-        order,
-        &probe[..d],
-        scope,
-        ask.size,
-        out,
-    )
+    answer_here(t, references, coordinates, rooms, q, scope, ask.size, out)
 }
 
 // Answers an ask line.
@@ -100,6 +79,5 @@ pub fn answer_line(
         return Wrote::Refused(read.refusal);
     }
     let ask = read.ask;
-    let near = Order::Near;
-    answer_ask(t, references, coordinates, rooms, near, ask, out)
+    answer_ask(t, references, coordinates, rooms, ask, out)
 }

@@ -7,23 +7,22 @@ ghost use Rattle.paper.specs.Tree.{lent};
 ghost use Rattle.paper.specs.Ends.{tableOf};
 ghost use Rattle.paper.specs.Codec.{placeIn, scopeOf};
 ghost use Rattle.paper.specs.Lines.{Writes};
-ghost use Rattle.desk.specs.Desk.{Paging, askFor, pageLine};
+ghost use Rattle.desk.specs.Desk.{Paging, askIn, pageLine};
 use paper::limits::ITEM_ROOM;
 use paper::lines::Scope;
 use paper::lines::Wrote;
 use paper::lines::flag;
 use paper::lines::place_of;
-use paper::orders::Order;
+use paper::queries::Query;
 use paper::tables::Table;
 
 // The fields that the answer repeats, with the snapshot that it used.
 fn answer_scope(p: Scope, count: u16) -> Scope
     requires { ⌜ p .from ≤ 1 ⌝ }
-    ensures { λ r. ⌜ r ≡ scopeOf (p .reach) (placeIn p) (snapshotOf (placeIn p) count) ⌝ }
+    ensures { λ r. ⌜ r ≡ scopeOf (placeIn p) (snapshotOf (placeIn p) count) ⌝ }
 {
     if p.from == 0 {
         return Scope {
-            reach: p.reach,
             from: 0,
             snapshot: count,
             distance: 0,
@@ -39,16 +38,18 @@ pub fn tell_page(
     references: &[u32],
     coordinates: &[i32],
     rooms: &[u64],
-    order: Order,
-    probe: &[i32],
+    q: Query,
     p: Scope,
     size: u8,
     out: &mut [u8],
 ) -> Wrote
-    requires { ⌜ Paging (lent t references coordinates rooms) (now probe) p size (length (now out)) ⌝ }
-    ensures { λ r. ⌜ Writes (pageLine (tableOf (lent t (references .entry) (coordinates .entry) (rooms .entry))) (askFor order t (now (probe .entry)) p size)) (now (out .entry)) r (now (out .exit)) ⌝ }
+    requires { ⌜ Paging (lent t references coordinates rooms) q p size (length (now out)) ⌝ }
+    ensures { λ r. ⌜ Writes (pageLine (tableOf (lent t (references .entry) (coordinates .entry) (rooms .entry))) (askIn q p size)) (now (out .entry)) r (now (out .exit)) ⌝ }
 {
     let mut room = [0u64; ITEM_ROOM];
+    let order = q.order;
+    let d = q.d;
+    let probe = q.probe;
     let place = place_of(p);
     let paged = walk::questions::page_of(
         t,
@@ -56,8 +57,8 @@ pub fn tell_page(
         coordinates,
         rooms,
         order,
-        probe,
-        p.reach,
+        &probe[..d],
+        q.reach,
         place,
         size as usize,
         &mut room,
@@ -65,15 +66,5 @@ pub fn tell_page(
     let scope = answer_scope(p, t.count as u16);
     let count = paged.count;
     let n = 3 * count;
-    lines::write_answer(
-        t.number,
-        t.measure,
-        t.d as u8,
-        probe,
-        scope,
-        flag(paged.last),
-        count as u8,
-        &room[..n],
-        out,
-    )
+    lines::write_answer(q, scope, flag(paged.last), count as u8, &room[..n], out)
 }

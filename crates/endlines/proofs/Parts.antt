@@ -1,4 +1,4 @@
--- The parts of the ends' lines: ranges, places as scopes, probes and items as the fields of a line. Assumes nothing.
+-- The parts of the ends' lines: places as scopes, queries and items as the fields of a line. Assumes nothing.
 use Prim.Native.Nat.{ℕ, zero, suc, _^_, _<_, _≤_}
 use mathlib.Core.Path.{_≡_, refl, sym, ap}
 use mathlib.Core.Bool.{Bool, true, false, cond, _||_}
@@ -16,33 +16,28 @@ use Rattle.paper.specs.declared.orders.Place.{Place}
 use Rattle.paper.specs.declared.orders.Place.the-variants.{Start, After}
 use Rattle.paper.specs.Frames.{num}
 use Rattle.paper.specs.Fields.{coordsIn, scopeOk, itemsIn, numbersOk, referencesOk}
-use Rattle.paper.specs.Orders.{Item, snapshotOf, flat}
+use Rattle.paper.specs.Orders.{Item, Query, snapshotOf, flat}
 use Rattle.paper.specs.Lists as lists
 use Rattle.paper.specs.Codec.{scopeOf, placeIn}
 use Rattle.digits.proofs.Laws.{Bytes, bytes-drop, num-lt}
-use Rattle.fields.proofs.Round.{Fit, ScopeFit}
+use Rattle.fields.proofs.Round.{Fit, QueryFit, ScopeFit}
 use Rattle.fields.proofs.ItemLaws.{Distances}
-use Rattle.orders.specs.Laws.{PlaceOk, ItemOk}
+use Rattle.orders.specs.Laws.{QueryOk, PlaceOk, ItemOk}
 use Rattle.paper.proofs.Tests.{and-first, and-second, and-both}
+use Rattle.paper.proofs.Ranges.{range-is}
 use Rattle.orders.proofs.Lists.{All}
 use Rattle.paper.specs.Limits.{mostClaims, mostNumber}
 
--- "measure 1 to 3, d 1 to 8", in a call and in a line
 -- a place's scope, and the place of a scope
-pub scope-reach : (reach : ℕ) (p : Place) (s : ℕ) → scopeOf reach p s .reach ≡ reach
-unfolding scopeOf
-scope-reach reach Start s = refl
-scope-reach reach (After n m) s = refl
-
-pub scope-place : (reach : ℕ) (p : Place) (s : ℕ) → snapshotOf p s ≡ s → placeIn (scopeOf reach p s) ≡ p
+pub scope-place : (p : Place) (s : ℕ) → snapshotOf p s ≡ s → placeIn (scopeOf p s) ≡ p
 unfolding scopeOf placeIn
-scope-place reach Start s e = refl
-scope-place reach (After n m) s e = ap (λ (k : ℕ). After k m) (sym e)
+scope-place Start s e = refl
+scope-place (After n m) s e = ap (λ (k : ℕ). After k m) (sym e)
 
-pub scope-snapshot : (reach : ℕ) (p : Place) (s : ℕ) → scopeOf reach p s .snapshot ≡ s
+pub scope-snapshot : (p : Place) (s : ℕ) → scopeOf p s .snapshot ≡ s
 unfolding scopeOf
-scope-snapshot reach Start s = refl
-scope-snapshot reach (After n m) s = refl
+scope-snapshot Start s = refl
+scope-snapshot (After n m) s = refl
 
 -- the snapshot of an ask: its place's, or 0 from the start
 pub asked-small : (p : Place) → PlaceOk p → snapshotOf p 0 ≤ mostClaims
@@ -53,24 +48,22 @@ pub asked-used : (p : Place) → snapshotOf p (snapshotOf p 0) ≡ snapshotOf p 
 asked-used Start = refl
 asked-used (After n m) = refl
 
-pub scope-ok : (reach : ℕ) (p : Place) (s : ℕ) → PlaceOk p → s ≤ mostClaims → scopeOk (scopeOf reach p s) ≡ true
+pub scope-ok : (p : Place) (s : ℕ) → PlaceOk p → s ≤ mostClaims → scopeOk (scopeOf p s) ≡ true
 unfolding scopeOf scopeOk
-scope-ok reach Start s ok h = rw (le-leb s mostClaims h)
-scope-ok reach (After n m) s ok h =
+scope-ok Start s ok h = rw (le-leb s mostClaims h)
+scope-ok (After n m) s ok h =
     let k : m .number ≤ mostNumber = omega (arith, ok .number) in
     rw (le-leb s mostClaims h, le-leb (m .number) mostNumber k)
 
-pub scope-fit : (reach : ℕ) (p : Place) (s : ℕ) → reach < 2 ^ 64 → PlaceOk p → s ≤ mostClaims → ScopeFit (scopeOf reach p s)
+pub scope-fit : (p : Place) (s : ℕ) → PlaceOk p → s ≤ mostClaims → ScopeFit (scopeOf p s)
 unfolding scopeOf
-scope-fit reach Start s r ok h = record { reach = r; from = lit< tt; snapshot = omega arith; distance = lit< tt; number = lit< tt }
-scope-fit reach (After n m) s r ok h =
-    record { reach = r; from = lit< tt; snapshot = omega arith; distance = ok .distance; number = omega (arith, ok .number) }
+scope-fit Start s ok h = record { from = lit< tt; snapshot = omega arith; distance = lit< tt; number = lit< tt }
+scope-fit (After n m) s ok h = record { from = lit< tt; snapshot = omega arith; distance = ok .distance; number = omega (arith, ok .number) }
 
-pub scope-asks : (reach : ℕ) (p : Place)
-    → (eqb (scopeOf reach p (snapshotOf p 0) .from) 1 || eqb (scopeOf reach p (snapshotOf p 0) .snapshot) 0) ≡ true
+pub scope-asks : (p : Place) → (eqb (scopeOf p (snapshotOf p 0) .from) 1 || eqb (scopeOf p (snapshotOf p 0) .snapshot) 0) ≡ true
 unfolding scopeOf
-scope-asks reach Start = refl
-scope-asks reach (After n m) = refl
+scope-asks Start = refl
+scope-asks (After n m) = refl
 
 pub place-ok : (s : Scope) → scopeOk s ≡ true → s .distance < 2 ^ 64 → PlaceOk (placeIn s)
 unfolding scopeOk placeIn
@@ -97,7 +90,7 @@ unfolding scopeOk
 scope-small s e = leb-true _ _ (and-first _ _ (and-second (leb (s .from) 1) _ e))
 
 -- coordinates of 32 bits
-pub probe-fit : (cs : List ℤ) → ((x : ℤ) → List·Memᴰ x cs → mag x < 2 ^ 31) → Fit cs
+probe-fit : (cs : List ℤ) → ((x : ℤ) → List·Memᴰ x cs → mag x < 2 ^ 31) → Fit cs
 probe-fit [] f = tt
 probe-fit (x ∷ cs) f = (record { sfits = f x (List·Memᴰ·head refl) }, probe-fit cs (λ y m. f y (List·Memᴰ·tail m)))
 
@@ -105,6 +98,19 @@ pub probe-read : (d : ℕ) (f : List ℕ) → Bytes f → All (λ x. mag x < 2 ^
 unfolding coordsIn
 probe-read zero f b = tt
 probe-read (suc d) f b = (sfits-toZ {w = w32} {n = num 4 f} (record { fits = num-lt 4 f b }) .sfits, probe-read d (drop 4 f) (bytes-drop 4 f b))
+
+-- a query in range has the bits that a line gives it: "measure 1 to 3, d 1 to 8"
+pub query-fit : (q : Query) → QueryOk q → QueryFit q
+query-fit q ok =
+    let r = range-is (q .measure) (q .d) (ok .range) in
+    record {
+      table = ok .typed .table;
+      measure = omega (arith, r .last);
+      dim = omega (arith, r .narrow);
+      long = ok .long;
+      probe = probe-fit (q .probe) (ok .typed .probe);
+      reach = ok .typed .reach;
+    }
 
 -- items as numbers, three for each
 pub flat-numbers : (l : List Item) → All ItemOk l → numbersOk (flat l) ≡ true

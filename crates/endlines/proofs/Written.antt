@@ -1,139 +1,125 @@
--- What is written reads back. Assumes nothing.
+-- What is written reads back, and begins with its order's kind. Assumes nothing.
 use Prim.Native.Nat.{ℕ, _-_, _*_, _≤_}
-use mathlib.Core.Path.{_≡_, refl, sym, ap, _∙_}
-use mathlib.Core.Bool.{Bool, true, false, cond}
-use mathlib.Core.List.{List}
+use mathlib.Core.Path.{_≡_, refl, ap, _∙_}
+use mathlib.Core.Bool.{Bool, true, false}
 use native.Mathlib.Omega.{arith}
-use lib.Dec.{eqb, lit<}
-use lib.IntN.{ℤ, pos}
-use lib.ListN.{length, take, replicate}
-use lib.Seq.{take-at}
+use lib.Dec.{eqb}
+use lib.ListN.{length, replicate}
 use borrow.Author.Tests.{eq-eqb, le-leb}
 use Rattle.paper.specs.declared.lines.Scope.{Scope}
-use Rattle.paper.specs.declared.orders.Order.{Order}
-use Rattle.paper.specs.declared.orders.Order.the-variants.{Near, Far}
-use Rattle.paper.specs.Fields.{places, itemPlaces}
-use Rattle.paper.specs.Lines.{askRanges, askFits, anAsk, askOf, answerRanges, answerFits, anAnswer, answerOf}
+use Rattle.paper.specs.Frames.{num, frameOf}
+use Rattle.paper.specs.Fields.{inPlaces, flagOf, itemPlaces}
+use Rattle.paper.specs.Lines.{askKind, answerKind, spoken, queryFits, askFrame, askRanges, askFits, anAsk, answerFrame, answerRanges, answerFits, anAnswer}
 use Rattle.paper.specs.Orders.{Query, snapshotOf, flat}
 use Rattle.paper.specs.Outcomes.{gives}
 use Rattle.paper.specs.Ends.{Ask, Answer}
-use Rattle.paper.specs.Codec.{scopeOf, askLine, answerLine, queryIn, asked, answered, readAsk, readAnswer, isNear}
+use Rattle.paper.specs.Codec.{scopeOf, askLine, answerLine, asked, answered, readAsk, readAnswer}
 use Rattle.paper.proofs.Reading.{ask-by-refusal, answer-by-refusal}
+use Rattle.digits.proofs.Laws.{frame-line}
+use Rattle.fields.proofs.Round.{ScopeFit, front-read}
+use Rattle.paper.proofs.LineKinds.{ask-small, answer-small}
+use Rattle.lines.proofs.Tests.{bytes-ask, bytes-answer}
 use Rattle.lines.proofs.AskRound.{ask-reads-back}
 use Rattle.lines.proofs.AnswerRound.{answer-reads-back}
-use Rattle.orders.specs.Laws.{QueryOk, AskOk, AnswerOk}
-use Rattle.paper.proofs.Tests.{no-way, and-both}
-use Rattle.orders.proofs.Lists.{all-of-mem}
-use Rattle.orders.proofs.Rooms.{read-flat, flat-length}
-use Rattle.endlines.proofs.Parts.{scope-reach, scope-place, scope-snapshot, asked-small, asked-used, scope-ok, scope-fit, scope-asks, probe-fit, flat-numbers, flat-references, flat-distances}
+use Rattle.orders.specs.Laws.{QueryOk, AskOk, ItemOk, AnswerOk}
+use Rattle.paper.proofs.Tests.{and-both}
+use Rattle.orders.proofs.Lists.{All, all-of-mem}
+use Rattle.orders.proofs.Rooms.{read-flat, flat-length, query-placed}
+use Rattle.endlines.proofs.Parts.{scope-place, scope-snapshot, asked-small, asked-used, scope-ok, scope-fit, scope-asks, query-fit, flat-numbers, flat-references, flat-distances}
 use Rattle.paper.specs.Limits.{itemRoom, mostPage}
 
-near : (o : Order) → isNear o ≡ true → Near ≡ o
-near Near e = refl
-near Far e = absurd (no-way (sym e))
+flag-back : (b : Bool) → eqb (flagOf b) 1 ≡ b
+flag-back true = refl
+flag-back false = refl
 
-probe-back : (d : ℕ) (cs : List ℤ) → length cs ≡ d → take d (places d cs) ≡ cs
-unfolding places
-probe-back d cs e = take-at cs (replicate (8 - d) (pos 0)) d e
+flag-small : (b : Bool) → flagOf b ≤ 1
+flag-small true = omega arith
+flag-small false = omega arith
 
-abbrev bit : Bool → ℕ
-bit b = cond b 1 0
-
-bit-back : (b : Bool) → eqb (bit b) 1 ≡ b
-bit-back true = refl
-bit-back false = refl
-
-bit-small : (b : Bool) → bit b ≤ 1
-bit-small true = omega arith
-bit-small false = omega arith
-
-query-back : (q : Query) (s : Scope) → QueryOk q → isNear (q .order) ≡ true → s .reach ≡ q .reach
-    → queryIn Near (q .table) (q .measure) (q .d) (places (q .d) (q .probe)) s ≡ q
-query-back q s ok o r =
-    let p = probe-back (q .d) (q .probe) (ok .long) in
-    let n = near (q .order) o in
-    λ i. record { order = n i; table = q .table; measure = q .measure; d = q .d; probe = p i; reach = r i }
+-- a query in range fits where its order has lines
+query-fits : (q : Query) → QueryOk q → spoken (q .order) ≡ true → queryFits q ≡ true
+unfolding queryFits
+query-fits q ok o = and-both _ _ o (and-both _ _ (ok .range) (eq-eqb _ _ (ok .long)))
 
 -- an ask's fields, as its reader gives them
 module _ (a : Ask) (ok : AskOk a) where
+  -- the snapshot that it carries
+  abbrev carried : ℕ
+  carried = snapshotOf (a .place) 0
+
   abbrev scope : Scope
-  scope = scopeOf (a .query .reach) (a .place) (snapshotOf (a .place) 0)
+  scope = scopeOf (a .place) carried
 
-  pub ask-reads : askOf 1 (askLine a)
-      ≡ anAsk (record { table = a .query .table; measure = a .query .measure; d = a .query .d; probe = places (a .query .d) (a .query .probe); scope = scope; size = a .size })
-  unfolding askLine
-  ask-reads =
-      let fits : askFits (a .query .measure) (a .query .d) (a .query .probe) scope (a .size) ≡ true =
-      unfold askFits askRanges in
-      and-both _ _ (ok .query .range) (and-both _ _ (eq-eqb _ _ (ok .query .long))
-      (and-both _ _ (scope-ok (a .query .reach) (a .place) (snapshotOf (a .place) 0) (ok .place) (asked-small (a .place) (ok .place)))
-      (and-both _ _ (scope-asks (a .query .reach) (a .place)) (and-both _ _ (le-leb 1 (a .size) (ok .one)) (le-leb (a .size) mostPage (ok .most)))))) in
-      ask-reads-back 1 _ _ _ _ _ _ fits (lit< tt) (ok .query .typed .table) (probe-fit _ (ok .query .typed .probe))
-      (scope-fit (a .query .reach) (a .place) (snapshotOf (a .place) 0) (ok .query .typed .reach) (ok .place) (asked-small (a .place) (ok .place)))
+  scope-fits : ScopeFit scope
+  scope-fits = scope-fit (a .place) carried (ok .place) (asked-small (a .place) (ok .place))
 
-  ask-same : isNear (a .query .order) ≡ true
-      → asked Near (record { table = a .query .table; measure = a .query .measure; d = a .query .d; probe = places (a .query .d) (a .query .probe); scope = scope; size = a .size }) ≡ a
+  ask-fits : spoken (a .query .order) ≡ true → askFits (a .query) scope (a .size) ≡ true
+  unfolding askFits askRanges
+  ask-fits o =
+      and-both _ _ (query-fits (a .query) (ok .query) o)
+      (and-both _ _ (scope-ok (a .place) carried (ok .place) (asked-small (a .place) (ok .place)))
+      (and-both _ _ (scope-asks (a .place)) (and-both _ _ (le-leb 1 (a .size) (ok .one)) (le-leb (a .size) mostPage (ok .most)))))
+
+  ask-same : asked (record { query = inPlaces (a .query); scope = scope; size = a .size }) ≡ a
   unfolding asked
-  ask-same o =
-      let q = query-back (a .query) scope (ok .query) o (scope-reach (a .query .reach) (a .place) (snapshotOf (a .place) 0)) in
-      let p = scope-place (a .query .reach) (a .place) (snapshotOf (a .place) 0) (asked-used (a .place)) in
+  ask-same =
+      let q = query-placed (a .query) (ok .query .long) in
+      let p = scope-place (a .place) carried (asked-used (a .place)) in
       λ i. record { query = q i; place = p i; size = a .size }
 
-  pub ask-back : isNear (a .query .order) ≡ true → readAsk (askLine a) ≡ gives a
-  unfolding anAsk
-  ask-back o = ask-by-refusal (askLine a) ∙ rw ask-reads (ap gives (ask-same o))
+  pub ask-back : spoken (a .query .order) ≡ true → readAsk (askLine a) ≡ gives a
+  unfolding askLine anAsk
+  ask-back o =
+      ask-by-refusal (askLine a)
+      ∙ rw (ask-reads-back (a .query) scope (a .size) (ask-fits o) (query-fit (a .query) (ok .query)) scope-fits) (ap gives ask-same)
+
+  -- also where its order has no lines
+  pub ask-begins : num 1 (frameOf (askLine a)) ≡ askKind (a .query .order)
+  unfolding askLine askFrame
+  ask-begins =
+      ap (num 1) (frame-line _ (bytes-ask (a .query) scope (a .size)))
+      ∙ front-read _ _ (a .query) scope _ refl (ask-small (a .query .order)) (query-fit (a .query) (ok .query)) scope-fits .kind
 
 -- an answer's
 module _ (y : Answer) (ok : AnswerOk y) where
   abbrev around : Scope
-  around = scopeOf (y .query .reach) (y .place) (y .snapshot)
+  around = scopeOf (y .place) (y .snapshot)
 
   abbrev pages : ℕ
   pages = length (y .items)
 
-  answer-reads : answerOf 2 (answerLine y)
-      ≡ anAnswer (record {
-        table = y .query .table;
-        measure = y .query .measure;
-        d = y .query .d;
-        probe = places (y .query .d) (y .query .probe);
-        scope = around;
-        last = bit (y .last);
-        count = pages;
-        items = itemPlaces pages (flat (y .items));
-      })
-  unfolding answerLine
-  answer-reads =
-      let all = all-of-mem _ (y .items) (ok .items) in
-      let fits : answerFits (y .query .measure) (y .query .d) (y .query .probe) around (bit (y .last)) pages (flat (y .items)) ≡ true =
-      unfold answerFits answerRanges in
-      and-both _ _ (ok .query .range) (and-both _ _ (eq-eqb _ _ (ok .query .long))
-      (and-both _ _ (and-both _ _ (scope-ok (y .query .reach) (y .place) (y .snapshot) (ok .place) (ok .snapshot))
-      (and-both _ _ (le-leb (bit (y .last)) 1 (bit-small (y .last))) (le-leb pages mostPage (ok .few))))
-      (and-both _ _ (eq-eqb _ _ (flat-length (y .items))) (and-both _ _ (flat-references (y .items) all) (flat-numbers (y .items) all))))) in
-      answer-reads-back 2 _ _ _ _ _ _ _ _ fits (lit< tt) (ok .query .typed .table) (probe-fit _ (ok .query .typed .probe))
-      (scope-fit (y .query .reach) (y .place) (y .snapshot) (ok .query .typed .reach) (ok .place) (ok .snapshot)) (flat-distances (y .items) all)
+  around-fits : ScopeFit around
+  around-fits = scope-fit (y .place) (y .snapshot) (ok .place) (ok .snapshot)
 
-  answer-same : isNear (y .query .order) ≡ true
-      → answered Near (record {
-        table = y .query .table;
-        measure = y .query .measure;
-        d = y .query .d;
-        probe = places (y .query .d) (y .query .probe);
-        scope = around;
-        last = bit (y .last);
-        count = pages;
-        items = itemPlaces pages (flat (y .items));
-      }) ≡ y
+  all-ok : All ItemOk (y .items)
+  all-ok = all-of-mem _ (y .items) (ok .items)
+
+  answer-fits : spoken (y .query .order) ≡ true → answerFits (y .query) around (flagOf (y .last)) pages (flat (y .items)) ≡ true
+  unfolding answerFits answerRanges
+  answer-fits o =
+      and-both _ _ (query-fits (y .query) (ok .query) o)
+      (and-both _ _ (and-both _ _ (scope-ok (y .place) (y .snapshot) (ok .place) (ok .snapshot))
+      (and-both _ _ (le-leb (flagOf (y .last)) 1 (flag-small (y .last))) (le-leb pages mostPage (ok .few))))
+      (and-both _ _ (eq-eqb _ _ (flat-length (y .items))) (and-both _ _ (flat-references (y .items) all-ok) (flat-numbers (y .items) all-ok))))
+
+  answer-same : answered (record { query = inPlaces (y .query); scope = around; last = flagOf (y .last); count = pages; items = itemPlaces pages (flat (y .items)) }) ≡ y
   unfolding answered itemPlaces
-  answer-same o =
-      let q = query-back (y .query) around (ok .query) o (scope-reach (y .query .reach) (y .place) (y .snapshot)) in
-      let p = scope-place (y .query .reach) (y .place) (y .snapshot) (ok .used) in
-      let s = scope-snapshot (y .query .reach) (y .place) (y .snapshot) in
-      let l = bit-back (y .last) in
+  answer-same =
+      let q = query-placed (y .query) (ok .query .long) in
+      let p = scope-place (y .place) (y .snapshot) (ok .used) in
+      let s = scope-snapshot (y .place) (y .snapshot) in
+      let l = flag-back (y .last) in
       let m = read-flat (y .items) (replicate (itemRoom - 3 * pages) 0) in
       λ i. record { query = q i; place = p i; snapshot = s i; last = l i; items = m i }
 
-  pub answer-back : isNear (y .query .order) ≡ true → readAnswer Near (answerLine y) ≡ gives y
-  unfolding anAnswer
-  answer-back o = answer-by-refusal (answerLine y) ∙ rw answer-reads (ap gives (answer-same o))
+  pub answer-back : spoken (y .query .order) ≡ true → readAnswer (y .query .order) (answerLine y) ≡ gives y
+  unfolding answerLine anAnswer
+  answer-back o =
+      answer-by-refusal (y .query .order) (answerLine y)
+      ∙ rw (answer-reads-back (y .query) around (flagOf (y .last)) pages (flat (y .items)) (answer-fits o) (query-fit (y .query) (ok .query)) around-fits (flat-distances (y .items) all-ok)) (ap gives answer-same)
+
+  pub answer-begins : num 1 (frameOf (answerLine y)) ≡ answerKind (y .query .order)
+  unfolding answerLine answerFrame
+  answer-begins =
+      ap (num 1) (frame-line _ (bytes-answer (y .query) around (flagOf (y .last)) pages (flat (y .items))))
+      ∙ front-read _ _ (y .query) around _ refl (answer-small (y .query .order)) (query-fit (y .query) (ok .query)) around-fits .kind

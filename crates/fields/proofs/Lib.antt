@@ -1,3 +1,4 @@
 pub mod PartLaws
 pub mod ItemLaws
+pub mod PadLaws
 pub mod Round

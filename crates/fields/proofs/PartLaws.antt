@@ -8,15 +8,16 @@ use mathlib.Core.Bool.{true, _&&_, _||_}
 use mathlib.Core.List.{List, [], _∷_, _++_, append-assoc}
 use lib.ListN.{length, getD, drop, set, replicate, length-append}
 use lib.Seq.{drop-cons, drop-drop, set-at}
-use lib.Dec.{eqb}
+use lib.Dec.{leb, eqb}
 use lib.IntN.{ℤ, pos}
 use mir.Syntax.{w32}
 use mir.Val.{ofZ, toZ}
 use Rattle.paper.specs.Frames.{be, num}
 use Rattle.digits.specs.Places.{over}
 use Rattle.digits.proofs.Laws.{Bytes, bytes-append, bytes-be, length-be, over-append, and-both}
-use borrow.Author.Tests.{le-leb, eqb-true, eq-eqb}
+use borrow.Author.Tests.{le-leb, leb-true, eqb-true, eq-eqb}
 use Rattle.paper.specs.Points.{inRange, InRange}
+use Rattle.paper.specs.Orders.{Query}
 use Rattle.paper.proofs.Ranges.{range-is}
 use Rattle.paper.specs.Fields.{head, front, coordBytes, coordsIn, scopeBytes, scopeOk}
 use Rattle.paper.specs.Lines.{headOk}
@@ -39,14 +40,14 @@ over-be o o' at at' w n g p h e =
 pub over-to : (o o' : List ℕ) (at at' : ℕ) (f g : List ℕ) → at + length f ≡ at' → 2 * at' ≤ length o → o' ≡ over o at f → over o at (f ++ g) ≡ over o' at' g
 over-to o o' at at' f g p h e = over-append o at f g (omega arith) ∙ ap (λ (k : ℕ). over (over o at f) k g) p ∙ ap (λ (x : List ℕ). over x at' g) (sym e)
 
-pub length-scope : (p : Scope) → length (scopeBytes p) ≡ 21
+pub length-scope : (reach : ℕ) (p : Scope) → length (scopeBytes reach p) ≡ 21
 unfolding scopeBytes
-length-scope p = simp (length-append, length-be)
+length-scope reach p = simp (length-append, length-be)
 
-pub bytes-scope : (p : Scope) → Bytes (scopeBytes p)
+pub bytes-scope : (reach : ℕ) (p : Scope) → Bytes (scopeBytes reach p)
 unfolding scopeBytes
-bytes-scope p =
-    bytes-append (be 8 (p .reach)) (be 1 (p .from) ++ (be 2 (p .snapshot) ++ (be 8 (p .distance) ++ be 2 (p .number)))) (bytes-be 8 (p .reach))
+bytes-scope reach p =
+    bytes-append (be 8 reach) (be 1 (p .from) ++ (be 2 (p .snapshot) ++ (be 8 (p .distance) ++ be 2 (p .number)))) (bytes-be 8 reach)
     (bytes-append (be 1 (p .from)) (be 2 (p .snapshot) ++ (be 8 (p .distance) ++ be 2 (p .number))) (bytes-be 1 (p .from))
     (bytes-append (be 2 (p .snapshot)) (be 8 (p .distance) ++ be 2 (p .number)) (bytes-be 2 (p .snapshot))
     (bytes-append (be 8 (p .distance)) (be 2 (p .number)) (bytes-be 8 (p .distance)) (bytes-be 2 (p .number)))))
@@ -71,15 +72,15 @@ unfolding coordBytes
 bytes-coordBytes [] = tt
 bytes-coordBytes (z ∷ cs) = bytes-append (be 4 (ofZ w32 z)) (coordBytes cs) (bytes-be 4 (ofZ w32 z)) (bytes-coordBytes cs)
 
-pub length-front : (k t m d : ℕ) (cs : List ℤ) (p : Scope) → length (front k t m d cs p) ≡ 28 + 4 * length cs
+pub length-front : (k : ℕ) (q : Query) (p : Scope) → length (front k q p) ≡ 28 + 4 * length (q .probe)
 unfolding front
-length-front k t m d cs p = simp (length-append, length-head, length-coordBytes, length-scope) (omega arith)
+length-front k q p = simp (length-append, length-head, length-coordBytes, length-scope) (omega arith)
 
-pub bytes-front : (k t m d : ℕ) (cs : List ℤ) (p : Scope) → Bytes (front k t m d cs p)
+pub bytes-front : (k : ℕ) (q : Query) (p : Scope) → Bytes (front k q p)
 unfolding front
-bytes-front k t m d cs p =
-    bytes-append (head k t m d) (coordBytes cs ++ scopeBytes p) (bytes-head k t m d)
-    (bytes-append (coordBytes cs) (scopeBytes p) (bytes-coordBytes cs) (bytes-scope p))
+bytes-front k q p =
+    bytes-append (head k (q .table) (q .measure) (q .d)) (coordBytes (q .probe) ++ scopeBytes (q .reach) p) (bytes-head k (q .table) (q .measure) (q .d))
+    (bytes-append (coordBytes (q .probe)) (scopeBytes (q .reach) p) (bytes-coordBytes (q .probe)) (bytes-scope (q .reach) p))
 
 -- one coordinate of those that are left to write
 pub coord-step : (o : List ℕ) (at i : ℕ) (cs : List ℤ) → i < length cs → 2 * (at + 4 * i + 4) ≤ length o
@@ -120,6 +121,7 @@ scope-rule p a b c = rw (le-leb (p .from) 1 a, le-leb (p .snapshot) mostClaims b
 
 -- what a head of kind k is known for
 pub record Headed (k : ℕ) (f : List ℕ) : Type 0 where
+  pub some : 1 ≤ k
   pub kind : num 1 f ≡ k
   pub test : inRange (num 1 (drop 5 f)) (num 1 (drop 6 f)) ≡ true
   pub range : InRange (num 1 (drop 5 f)) (num 1 (drop 6 f))
@@ -127,9 +129,15 @@ pub record Headed (k : ℕ) (f : List ℕ) : Type 0 where
 pub is-head : (k : ℕ) (f : List ℕ) → headOk k f ≡ true → Headed k f
 unfolding headOk
 is-head k f e =
-    let p = and-both (eqb (num 1 f) k) (inRange (num 1 (drop 5 f)) (num 1 (drop 6 f))) e in
-    record { kind = eqb-true (num 1 f) k (p .0); test = p .1; range = range-is (num 1 (drop 5 f)) (num 1 (drop 6 f)) (p .1) }
+    let o = and-both (leb 1 k) (eqb (num 1 f) k && inRange (num 1 (drop 5 f)) (num 1 (drop 6 f))) e in
+    let p = and-both (eqb (num 1 f) k) (inRange (num 1 (drop 5 f)) (num 1 (drop 6 f))) (o .1) in
+    record {
+      some = leb-true 1 k (o .0);
+      kind = eqb-true (num 1 f) k (p .0);
+      test = p .1;
+      range = range-is (num 1 (drop 5 f)) (num 1 (drop 6 f)) (p .1);
+    }
 
-pub head-rule : (k m d : ℕ) (f : List ℕ) → num 1 f ≡ k → num 1 (drop 5 f) ≡ m → num 1 (drop 6 f) ≡ d → inRange m d ≡ true → headOk k f ≡ true
+pub head-rule : (k m d : ℕ) (f : List ℕ) → 1 ≤ k → num 1 f ≡ k → num 1 (drop 5 f) ≡ m → num 1 (drop 6 f) ≡ d → inRange m d ≡ true → headOk k f ≡ true
 unfolding headOk
-head-rule k m d f a b c e = rw (a, b, c, eq-eqb k k refl) e
+head-rule k m d f h a b c e = rw (a, b, c, le-leb 1 k h, eq-eqb k k refl) e

@@ -12,9 +12,11 @@ use mir.Val.{ofZ, SFits}
 use mir.Facts.{toZ-ofZ, ofZ-toZ, fits-ofZ}
 use Rattle.paper.specs.Frames.{be, num}
 use Rattle.digits.proofs.Laws.{Bytes, bytes-drop, length-be, num-be, be-num, num-lt, field-read, field-back}
-use Rattle.paper.specs.Fields.{head, front, coordBytes, coordsIn, places, scopeBytes, scopeIn}
+use Rattle.paper.specs.Orders.{Query, queryIn}
+use Rattle.paper.specs.Fields.{head, front, coordBytes, coordsIn, places, inPlaces, scopeBytes, scopeIn}
 use Rattle.paper.specs.declared.lines.Scope.{Scope}
-use Rattle.paper.specs.Lines.{behind}
+use Rattle.paper.specs.declared.orders.Order.{Order}
+use Rattle.paper.specs.Lines.{behind, queryAt}
 use Rattle.fields.specs.Fronts.{Begun}
 use Rattle.fields.proofs.PartLaws.{length-coordsIn, length-coordBytes}
 
@@ -71,33 +73,38 @@ pub take-places : (d : ℕ) (f : List ℕ) → take d (places d (coordsIn d f)) 
 unfolding places
 take-places d f = take-at (coordsIn d f) (replicate (8 - d) (pos 0)) d (length-coordsIn d f)
 
--- ---- the scope
+-- ---- the scope, behind the reach
 
 pub record ScopeFit (p : Scope) : Type 0 where
-  pub reach : p .reach < 2 ^ 64
   pub from : p .from < 2 ^ 8
   pub snapshot : p .snapshot < 2 ^ 16
   pub distance : p .distance < 2 ^ 64
   pub number : p .number < 2 ^ 16
 
-pub scope-read : (p : Scope) (g : List ℕ) → ScopeFit p → (scopeIn (scopeBytes p ++ g) ≡ p) × (drop 21 (scopeBytes p ++ g) ≡ g)
+-- what a frame that begins with a reach and a scope says
+pub record Scoped (f : List ℕ) (x : ℕ) (p : Scope) (g : List ℕ) : Type 0 where
+  pub reach : num 8 f ≡ x
+  pub scope : scopeIn f ≡ p
+  pub rest : drop 21 f ≡ g
+
+pub scope-read : (reach : ℕ) (p : Scope) (g : List ℕ) → reach < 2 ^ 64 → ScopeFit p → Scoped (scopeBytes reach p ++ g) reach p g
 unfolding scopeBytes scopeIn
-scope-read p g h =
-    let a = be 8 (p .reach) in
+scope-read reach p g hr h =
+    let a = be 8 reach in
     let b = be 1 (p .from) in
     let c = be 2 (p .snapshot) in
     let d = be 8 (p .distance) in
     let e = be 2 (p .number) in
     let f = (a ++ (b ++ (c ++ (d ++ e)))) ++ g in
     let s : f ≡ a ++ (b ++ (c ++ (d ++ (e ++ g)))) = simp append-assoc in
-    let p1 = field-read f 0 8 (p .reach) (b ++ (c ++ (d ++ (e ++ g)))) s (h .reach) in
+    let p1 = field-read f 0 8 reach (b ++ (c ++ (d ++ (e ++ g)))) s hr in
     let p2 = field-read f 8 1 (p .from) (c ++ (d ++ (e ++ g))) (p1 .1) (h .from) in
     let p3 = field-read f 9 2 (p .snapshot) (d ++ (e ++ g)) (p2 .1) (h .snapshot) in
     let p4 = field-read f 11 8 (p .distance) (e ++ g) (p3 .1) (h .distance) in
     let p5 = field-read f 19 2 (p .number) g (p4 .1) (h .number) in
-    (rw (p1 .0, p2 .0, p3 .0, p4 .0, p5 .0), p5 .1)
+    record { reach = p1 .0; scope = rw (p2 .0, p3 .0, p4 .0, p5 .0); rest = p5 .1 }
 
-pub scope-back : (f : List ℕ) → Bytes f → 21 ≤ length f → scopeBytes (scopeIn f) ++ drop 21 f ≡ f
+pub scope-back : (f : List ℕ) → Bytes f → 21 ≤ length f → scopeBytes (num 8 f) (scopeIn f) ++ drop 21 f ≡ f
 unfolding scopeBytes scopeIn
 scope-back f p h =
     simp append-assoc
@@ -106,43 +113,60 @@ scope-back f p h =
 
 -- ---- what an ask and an answer begin with
 
+-- a query whose fields have the bits that a line gives them
+pub record QueryFit (q : Query) : Type 0 where
+  pub table : q .table < 2 ^ 32
+  pub measure : q .measure < 256
+  pub dim : q .d < 256
+  pub long : length (q .probe) ≡ q .d
+  pub probe : Fit (q .probe)
+  pub reach : q .reach < 2 ^ 64
+
 -- what a frame that begins so says
-pub record Fronts (f : List ℕ) (k t m d : ℕ) (cs : List ℤ) (p : Scope) (g : List ℕ) : Type 0 where
+pub record Fronts (f : List ℕ) (k : ℕ) (q : Query) (p : Scope) (g : List ℕ) : Type 0 where
   pub kind : num 1 f ≡ k
-  pub table : num 4 (drop 1 f) ≡ t
-  pub measure : num 1 (drop 5 f) ≡ m
-  pub dim : num 1 (drop 6 f) ≡ d
-  pub probe : coordsIn d (drop 7 f) ≡ cs
+  pub measure : num 1 (drop 5 f) ≡ q .measure
+  pub dim : num 1 (drop 6 f) ≡ q .d
+  pub query : queryAt (q .order) f ≡ inPlaces q
   pub scope : scopeIn (behind f) ≡ p
   pub rest : drop 21 (behind f) ≡ g
 
-pub front-read : (f : List ℕ) (k t m d : ℕ) (cs : List ℤ) (p : Scope) (g : List ℕ) → f ≡ front k t m d cs p ++ g
-    → k < 256 → t < 2 ^ 32 → m < 256 → d < 256 → length cs ≡ d → Fit cs → ScopeFit p → Fronts f k t m d cs p g
-unfolding front behind
-front-read f k t m d cs p g e hk ht hm hd n hc hp =
-    let s : f ≡ head k t m d ++ (coordBytes cs ++ (scopeBytes p ++ g)) = e ∙ simp append-assoc in
-    let h = head-read f k t m d (coordBytes cs ++ (scopeBytes p ++ g)) s hk ht hm hd in
-    let b : drop (7 + 4 * num 1 (drop 6 f)) f ≡ scopeBytes p ++ g =
+pub front-read : (f : List ℕ) (k : ℕ) (q : Query) (p : Scope) (g : List ℕ) → f ≡ front k q p ++ g
+    → k < 256 → QueryFit q → ScopeFit p → Fronts f k q p g
+unfolding front behind queryAt inPlaces
+front-read f k q p g e hk hq hp =
+    let cs = q .probe in
+    let tail = scopeBytes (q .reach) p ++ g in
+    let s : f ≡ head k (q .table) (q .measure) (q .d) ++ (coordBytes cs ++ tail) = e ∙ simp append-assoc in
+    let h = head-read f k (q .table) (q .measure) (q .d) (coordBytes cs ++ tail) s hk (hq .table) (hq .measure) (hq .dim) in
+    let b : drop (7 + 4 * num 1 (drop 6 f)) f ≡ tail =
     rw (h .dim)
-    (sym (drop-drop (4 * d) 7 f) ∙ ap (drop (4 * d)) (h .rest)
-    ∙ drop-at (coordBytes cs) (scopeBytes p ++ g) (4 * d) (length-coordBytes cs ∙ ap (λ (k : ℕ). 4 * k) n)) in
-    let q = scope-read p g hp in
-    let c : coordsIn d (drop 7 f) ≡ cs = rw (h .rest, ← n) (coords-read cs (scopeBytes p ++ g) hc) in
-    record { kind = h .kind; table = h .table; measure = h .measure; dim = h .dim; probe = c; scope = rw b (q .0); rest = rw b (q .1) }
+    (sym (drop-drop (4 * q .d) 7 f) ∙ ap (drop (4 * q .d)) (h .rest)
+    ∙ drop-at (coordBytes cs) tail (4 * q .d) (length-coordBytes cs ∙ ap (λ (k : ℕ). 4 * k) (hq .long))) in
+    let r = scope-read (q .reach) p g (hq .reach) hp in
+    let c : coordsIn (q .d) (drop 7 f) ≡ cs = rw (h .rest, ← hq .long) (coords-read cs tail (hq .probe)) in
+    record {
+      kind = h .kind;
+      measure = h .measure;
+      dim = h .dim;
+      query = rw (h .table, h .measure, b, h .dim, c, r .reach);
+      scope = rw b (r .scope);
+      rest = rw b (r .rest);
+    }
 
 pub behind-eq : (f : List ℕ) → behind f ≡ drop (7 + 4 * num 1 (drop 6 f)) f
 unfolding behind
 behind-eq f = refl
 
-pub front-back : (f : List ℕ) → Bytes f → Begun f
-    → front (num 1 f) (num 4 (drop 1 f)) (num 1 (drop 5 f)) (num 1 (drop 6 f)) (coordsIn (num 1 (drop 6 f)) (drop 7 f)) (scopeIn (behind f)) ++ drop 21 (behind f) ≡ f
-unfolding front
-front-back f p h =
+pub front-back : (o : Order) (f : List ℕ) → Bytes f → Begun f → front (num 1 f) (queryIn (queryAt o f)) (scopeIn (behind f)) ++ drop 21 (behind f) ≡ f
+unfolding front queryAt
+front-back o f p h =
     let d = num 1 (drop 6 f) in
     let b : behind f ≡ drop (4 * d) (drop 7 f) = behind-eq f ∙ sym (drop-drop (4 * d) 7 f) in
     let l7 : length (drop 7 f) ≡ length f - 7 = length-drop 7 f in
     let lb : length (drop (4 * d) (drop 7 f)) ≡ length (drop 7 f) - 4 * d = length-drop (4 * d) (drop 7 f) in
     let long : 28 + 4 * d ≤ length f = h .long in
-    simp append-assoc
+    rw (take-places d (drop 7 f))
+    (simp append-assoc
     (rw (b, scope-back (drop (4 * d) (drop 7 f)) (bytes-drop (4 * d) (drop 7 f) (bytes-drop 7 f p)) (omega arith), coords-back d (drop 7 f) (bytes-drop 7 f p) (omega arith))
-    (head-back f p (omega arith)))
+    (head-back f p (omega arith))))

@@ -1,14 +1,13 @@
 // The parts that the kinds of line are made of, written into a line and read from a frame.
 mod items;
 mod parts;
+mod queries;
 
 pub use items::items_at;
 pub use items::items_fit;
 pub use items::numbers_ok;
 pub use items::put_items;
-pub use parts::Front;
 pub use parts::coords_at;
-pub use parts::front_at;
 pub use parts::head_ok;
 pub use parts::kind;
 pub use parts::put_coords;
@@ -16,3 +15,6 @@ pub use parts::put_front;
 pub use parts::put_head;
 pub use parts::scope_at;
 pub use parts::scope_ok;
+pub use queries::query_at;
+pub use queries::query_fits;
+pub use queries::query_of;

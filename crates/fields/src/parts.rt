@@ -5,13 +5,14 @@ ghost use lib.ListN.{length, drop};
 ghost use Rattle.paper.specs.Frames.{num};
 ghost use Rattle.paper.specs.Fields.{head, coordBytes, coordsIn, places, scopeBytes, scopeIn, scopeOk};
 ghost use Rattle.paper.specs.Fields.{front as Fields·front};
+ghost use Rattle.paper.specs.Orders.{queryIn};
 ghost use Rattle.paper.specs.Lines.{headOk};
 ghost use Rattle.digits.specs.Places.{held, over};
-ghost use Rattle.fields.specs.Fronts.{Begun, frontAt};
 ghost use Rattle.paper.specs.Limits.{mostPlaces};
 use paper::limits::MOST_PLACES;
 use paper::lines::Scope;
 use paper::points::in_range;
+use paper::queries::Query;
 
 // The kind of the frame that `src` holds.
 pub fn kind(src: &[u8]) -> u64
@@ -26,6 +27,9 @@ pub fn head_ok(src: &[u8], kind: u8) -> bool
     requires { ⌜ 7 ≤ length (held (now src)) ⌝ }
     ensures { λ r. ⌜ r ≡ headOk kind (held (now (src .entry))) ⌝ }
 {
+    if kind == 0 {
+        return false;
+    }
     if digits::number(src, 0, 1) == kind as u64 {
         return in_range(
             digits::number(src, 5, 1) as u8,
@@ -90,23 +94,24 @@ pub fn scope_ok(p: Scope) -> bool
     false
 }
 
-pub fn put_scope(out: &mut [u8], at: usize, p: Scope)
+// Writes the reach and the scope behind it.
+fn put_scope(out: &mut [u8], at: usize, reach: u64, p: Scope)
     requires { ⌜ 2 * (at + 21) ≤ length (now out) ⌝ }
-    ensures { λ _. ⌜ now (out .exit) ≡ over (now (out .entry)) at (scopeBytes p) ⌝ }
+    ensures { λ _. ⌜ now (out .exit) ≡ over (now (out .entry)) at (scopeBytes reach p) ⌝ }
 {
-    digits::put(out, at, 8, p.reach);
+    digits::put(out, at, 8, reach);
     digits::put(out, at + 8, 1, p.from as u64);
     digits::put(out, at + 9, 2, p.snapshot as u64);
     digits::put(out, at + 11, 8, p.distance);
     digits::put(out, at + 19, 2, p.number as u64);
 }
 
+// The scope behind the reach that stands at byte `at`.
 pub fn scope_at(src: &[u8], at: usize) -> Scope
     requires { ⌜ at + 21 ≤ length (held (now src)) ⌝ }
     ensures { λ r. ⌜ r ≡ scopeIn (drop at (held (now (src .entry)))) ⌝ }
 {
     Scope {
-        reach: digits::number(src, at, 8),
         from: digits::number(src, at + 8, 1) as u8,
         snapshot: digits::number(src, at + 9, 2) as u16,
         distance: digits::number(src, at + 11, 8),
@@ -114,36 +119,14 @@ pub fn scope_at(src: &[u8], at: usize) -> Scope
     }
 }
 
-// What an ask and an answer begin with, as values.
-pub struct Front {
-    pub table: u32,
-    pub measure: u8,
-    pub d: u8,
-    pub probe: [i32; MOST_PLACES],
-    pub scope: Scope,
-}
-
-pub fn put_front(out: &mut [u8], kind: u8, table: u32, measure: u8, d: u8, probe: &[i32], p: Scope)
-    requires { ⌜ 2 * (28 + 4 * length (now probe)) ≤ length (now out) ⌝ }
-    ensures { λ _. ⌜ now (out .exit) ≡ over (now (out .entry)) 0 (Fields·front kind table measure d (now (probe .entry)) p) ⌝ }
+// Writes what an ask and an answer begin with.
+pub fn put_front(out: &mut [u8], kind: u8, q: Query, p: Scope)
+    requires { ⌜ (q .d ≤ mostPlaces) × (2 * (28 + 4 * q .d) ≤ length (now out)) ⌝ }
+    ensures { λ _. ⌜ now (out .exit) ≡ over (now (out .entry)) 0 (Fields·front kind (queryIn q) p) ⌝ }
 {
-    put_head(out, kind, table, measure, d);
-    put_coords(out, 7, probe);
-    put_scope(out, 7 + 4 * probe.len(), p);
-}
-
-pub fn front_at(src: &[u8]) -> Front
-    requires { ⌜ Begun (held (now src)) ⌝ }
-    ensures { λ r. ⌜ r ≡ frontAt (held (now (src .entry))) ⌝ }
-{
-    let d = digits::number(src, 6, 1);
-    let probe = coords_at(src, 7, d as usize);
-    let scope = scope_at(src, 7 + 4 * d as usize);
-    Front {
-        table: digits::number(src, 1, 4) as u32,
-        measure: digits::number(src, 5, 1) as u8,
-        d: d as u8,
-        probe,
-        scope,
-    }
+    let d = q.d;
+    let probe = q.probe;
+    put_head(out, kind, q.table, q.measure, d as u8);
+    put_coords(out, 7, &probe[..d]);
+    put_scope(out, 7 + 4 * d, q.reach, p);
 }

@@ -7,9 +7,9 @@ use mathlib.Core.List.{List, [], _∷_, _++_, List·Memᴰ}
 use lib.Dec.{leb, eqb}
 use lib.ListN.{length, getD, set}
 use Rattle.paper.specs.declared.orders.Order.{Order}
-use Rattle.paper.specs.declared.orders.Order.the-variants.{Near}
 use Rattle.paper.specs.Points.{Claim}
-use Rattle.paper.specs.Orders.{Query}
+use Rattle.paper.specs.Orders.{Query, queryIn}
+use Rattle.paper.specs.Lines.{noQuery}
 use Rattle.paper.specs.Outcomes.{Outcome, refused, gives, must}
 use Rattle.paper.specs.Ends.{Answer, Codec, Table, count, office, Listing, fresh, opening, every, asking, taking}
 use Rattle.orders.specs.Laws.{Typed}
@@ -36,7 +36,7 @@ pub data Event : Type 0 where
 
 -- a list that stands nowhere
 abbrev pub noListing : Listing
-noListing = fresh (record { order = Near; table = 0; measure = 0; d = 0; probe = []; reach = 0 })
+noListing = fresh (queryIn noQuery)
 
 abbrev pub theList : World → ℕ → Listing
 theList w i = getD (w .lists) i noListing

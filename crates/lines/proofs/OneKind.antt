@@ -4,36 +4,44 @@ use mathlib.Core.Path.{_≡_, refl, sym, _∙_}
 use mathlib.Core.Bool.{Bool, true}
 use mathlib.Core.List.{List}
 use Rattle.paper.specs.Frames.{num, frameOf, sound}
-use Rattle.paper.specs.Lines.{reading, askOk, askAt, anAsk, noAsk, askOf, answerOk, answerAt, anAnswer, noAnswer, answerOf, claimOk, claimAt, aClaim, noClaim, claimOf}
+use Rattle.paper.specs.Lines.{askKind, answerKind, askOrder, reading, isAsk, askAt, anAsk, noAsk, askOf, answerOk, answerAt, anAnswer, noAnswer, answerOf, claimOk, claimAt, aClaim, noClaim, claimOf}
+use Rattle.paper.specs.declared.orders.Order.{Order}
 use Rattle.paper.specs.declared.lines.AskRead.{AskRead}
 use Rattle.paper.specs.declared.lines.AnswerRead.{AnswerRead}
 use Rattle.paper.specs.declared.lines.ClaimRead.{ClaimRead}
 use Rattle.paper.proofs.Tests.{refuted}
 use Rattle.lines.proofs.Ways.{reads-10, accepted}
-use Rattle.lines.proofs.Tests.{is-ask, is-answer, is-claim}
+use Rattle.lines.proofs.Tests.{any-ask, is-answer, is-claim}
 
 -- a sound line whose frame has kind k
 pub record OfKind (k : ℕ) (l : List ℕ) : Type 0 where
   pub sure : sound l ≡ true
   pub kind : num 1 (frameOf l) ≡ k
 
--- whatever the test, as long as it asks for a kind
-apart : {A : Type 0} (ok : List ℕ → Bool) (value : List ℕ → A) (none : ℕ → A) (k j : ℕ) (l : List ℕ)
-    → ((f : List ℕ) → ok f ≡ true → num 1 f ≡ j) → OfKind k l → (k ≡ j → ⊥) → reading ok value none l ≡ none 10
-apart ok value none k j l h p q =
-    reads-10 ok value none l (p .sure) (refuted (ok (frameOf l)) (λ e. q (sym (p .kind) ∙ h (frameOf l) e)))
+-- whatever the test, as long as it refuses that kind
+apart : {A : Type 0} (ok : List ℕ → Bool) (value : List ℕ → A) (none : ℕ → A) (k : ℕ) (l : List ℕ)
+    → ((f : List ℕ) → ok f ≡ true → num 1 f ≡ k → ⊥) → OfKind k l → reading ok value none l ≡ none 10
+apart ok value none k l h p = reads-10 ok value none l (p .sure) (refuted (ok (frameOf l)) (λ e. h (frameOf l) e (p .kind)))
 
-pub ask-kind : (k : ℕ) (l : List ℕ) → askOf k l .refusal ≡ 0 → OfKind k l
+-- the order whose asks are of a line's kind
+abbrev orderIn : List ℕ → Order
+orderIn l = askOrder (num 1 (frameOf l))
+
+-- the kind of an ask's frame
+kind-of : (f : List ℕ) → isAsk f ≡ true → num 1 f ≡ askKind (askOrder (num 1 f))
+kind-of f e = any-ask f e .headed .kind
+
+pub ask-kind : (l : List ℕ) → askOf l .refusal ≡ 0 → OfKind (askKind (orderIn l)) l
 unfolding askOf
-ask-kind k l e =
-    let p = accepted (askOk k) (λ f. anAsk (askAt f)) noAsk (λ (x : AskRead). x .refusal) l (unfold noAsk in λ n. refl) e in
-    record { sure = p .0; kind = is-ask k (frameOf l) (p .1) .headed .kind }
+ask-kind l e =
+    let p = accepted isAsk (λ f. anAsk (askAt f)) noAsk (λ (x : AskRead). x .refusal) l (unfold noAsk in λ n. refl) e in
+    record { sure = p .0; kind = kind-of (frameOf l) (p .1) }
 
-pub answer-kind : (k : ℕ) (l : List ℕ) → answerOf k l .refusal ≡ 0 → OfKind k l
+pub answer-kind : (o : Order) (l : List ℕ) → answerOf o l .refusal ≡ 0 → OfKind (answerKind o) l
 unfolding answerOf
-answer-kind k l e =
-    let p = accepted (answerOk k) (λ f. anAnswer (answerAt f)) noAnswer (λ (x : AnswerRead). x .refusal) l (unfold noAnswer in λ n. refl) e in
-    record { sure = p .0; kind = is-answer k (frameOf l) (p .1) .headed .kind }
+answer-kind o l e =
+    let p = accepted (answerOk (answerKind o)) (λ f. anAnswer (answerAt o f)) noAnswer (λ (x : AnswerRead). x .refusal) l (unfold noAnswer in λ n. refl) e in
+    record { sure = p .0; kind = is-answer (answerKind o) (frameOf l) (p .1) .headed .kind }
 
 pub claim-kind : (l : List ℕ) → claimOf l .refusal ≡ 0 → OfKind 3 l
 unfolding claimOf
@@ -41,14 +49,14 @@ claim-kind l e =
     let p = accepted claimOk (λ f. aClaim (claimAt f)) noClaim (λ (x : ClaimRead). x .refusal) l (unfold noClaim in λ n. refl) e in
     record { sure = p .0; kind = is-claim (frameOf l) (p .1) .headed .kind }
 
-pub not-ask : (k j : ℕ) (l : List ℕ) → OfKind k l → (k ≡ j → ⊥) → askOf j l ≡ noAsk 10
+pub not-ask : (k : ℕ) (l : List ℕ) → OfKind k l → ((o : Order) → k ≡ askKind o → ⊥) → askOf l ≡ noAsk 10
 unfolding askOf
-not-ask k j l = apart (askOk j) (λ f. anAsk (askAt f)) noAsk k j l (λ f e. is-ask j f e .headed .kind)
+not-ask k l p q = apart isAsk (λ f. anAsk (askAt f)) noAsk k l (λ f e n. q (askOrder (num 1 f)) (sym n ∙ kind-of f e)) p
 
-pub not-answer : (k j : ℕ) (l : List ℕ) → OfKind k l → (k ≡ j → ⊥) → answerOf j l ≡ noAnswer 10
+pub not-answer : (k : ℕ) (o : Order) (l : List ℕ) → OfKind k l → (k ≡ answerKind o → ⊥) → answerOf o l ≡ noAnswer 10
 unfolding answerOf
-not-answer k j l = apart (answerOk j) (λ f. anAnswer (answerAt f)) noAnswer k j l (λ f e. is-answer j f e .headed .kind)
+not-answer k o l p q = apart (answerOk (answerKind o)) (λ f. anAnswer (answerAt o f)) noAnswer k l (λ f e n. q (sym n ∙ is-answer (answerKind o) f e .headed .kind)) p
 
 pub not-claim : (k : ℕ) (l : List ℕ) → OfKind k l → (k ≡ 3 → ⊥) → claimOf l ≡ noClaim 10
 unfolding claimOf
-not-claim k l = apart claimOk (λ f. aClaim (claimAt f)) noClaim k 3 l (λ f e. is-claim f e .headed .kind)
+not-claim k l p q = apart claimOk (λ f. aClaim (claimAt f)) noClaim k l (λ f e n. q (sym n ∙ is-claim f e .headed .kind)) p

@@ -14,14 +14,16 @@ use Rattle.paper.specs.Ends.{sizeHolds}
 use Rattle.paper.specs.Points.{inRange, InRange}
 use Rattle.paper.proofs.Ranges.{range-is}
 use Rattle.paper.specs.Fields.{head, front, coordBytes, scopeIn, scopeOk, itemBytes, itemsIn, itemPlaces, numbersOk, referencesOk}
-use Rattle.paper.specs.Lines.{headOk, behind, askFrame, askRanges, askFits, askOk, askAt, answerFrame, answerRanges, answerFits, countIn, answerOk, answerAt, claimFrame, claimFits, claimOk}
+use Rattle.paper.specs.Orders.{Query, queryIn}
+use Rattle.paper.specs.Lines.{askKind, answerKind, spoken, askOrder, headOk, behind, queryAt, queryFits, askFrame, askRanges, askFits, askOk, isAsk, askAt, answerFrame, answerRanges, answerFits, countIn, answerOk, answerAt, claimFrame, claimFits, claimOk}
 use Rattle.paper.specs.declared.lines.Scope.{Scope}
+use Rattle.paper.specs.declared.orders.Order.{Order}
+use Rattle.paper.specs.declared.queries.Query as queries
 use Rattle.digits.proofs.Laws.{and-false, and-both, Bytes, bytes-append, bytes-be, length-be}
-use Rattle.fields.specs.Fronts.{Begun, frontAt}
-use Rattle.fields.specs.declared.parts.Front.{Front}
-use Rattle.fields.proofs.PartLaws.{Headed, is-head, length-front, bytes-front, length-head, bytes-head, length-coordBytes, bytes-coordBytes}
+use Rattle.fields.specs.Fronts.{Begun}
+use Rattle.fields.proofs.PartLaws.{Headed, is-head, length-front, bytes-front, length-head, bytes-head, length-coordBytes, bytes-coordBytes, length-coordsIn}
 use Rattle.fields.proofs.ItemLaws.{length-items, bytes-items}
-use Rattle.fields.proofs.Round.{behind-eq}
+use Rattle.fields.proofs.Round.{behind-eq, take-places}
 use Rattle.paper.specs.Limits.{mostPage}
 
 and-true : (t : Bool) → t && true ≡ t
@@ -33,15 +35,35 @@ pub last-at : (f : List ℕ) (at : ℕ) → at ≡ 28 + 4 * num 1 (drop 6 f) →
 unfolding behind
 last-at f at e = let q : at ≡ 7 + 4 * num 1 (drop 6 f) + 21 = omega arith in rw (drop-drop, q)
 
+-- ---- what a query that fits is known for
+
+pub record QueryFits (q : Query) : Type 0 where
+  pub known : spoken (q .order) ≡ true
+  pub test : inRange (q .measure) (q .d) ≡ true
+  pub range : InRange (q .measure) (q .d)
+  pub count : length (q .probe) ≡ q .d
+
+pub query-fits : (q : Query) → queryFits q ≡ true → QueryFits q
+unfolding queryFits
+query-fits q e =
+    let a = and-both (spoken (q .order)) (inRange (q .measure) (q .d) && eqb (length (q .probe)) (q .d)) e in
+    let b = and-both (inRange (q .measure) (q .d)) (eqb (length (q .probe)) (q .d)) (a .1) in
+    record { known = a .0; test = b .0; range = range-is (q .measure) (q .d) (b .0); count = eqb-true (length (q .probe)) (q .d) (b .1) }
+
+-- a query that was read fits
+pub read-fits : (o : Order) (f : List ℕ) → spoken o ≡ true → inRange (num 1 (drop 5 f)) (num 1 (drop 6 f)) ≡ true → queryFits (queryIn (queryAt o f)) ≡ true
+unfolding queryFits queryAt
+read-fits o f s e = rw (s, e, take-places (num 1 (drop 6 f)) (drop 7 f), eq-eqb _ _ (length-coordsIn (num 1 (drop 6 f)) (drop 7 f)))
+
 -- ---- ask
 
-pub length-ask : (k t m d : ℕ) (cs : List ℤ) (p : Scope) (s : ℕ) → length (askFrame k t m d cs p s) ≡ 29 + 4 * length cs
+pub length-ask : (q : Query) (p : Scope) (s : ℕ) → length (askFrame q p s) ≡ 29 + 4 * length (q .probe)
 unfolding askFrame
-length-ask k t m d cs p s = simp (length-append, length-front, length-be) (omega arith)
+length-ask q p s = simp (length-append, length-front, length-be) (omega arith)
 
-pub bytes-ask : (k t m d : ℕ) (cs : List ℤ) (p : Scope) (s : ℕ) → Bytes (askFrame k t m d cs p s)
+pub bytes-ask : (q : Query) (p : Scope) (s : ℕ) → Bytes (askFrame q p s)
 unfolding askFrame
-bytes-ask k t m d cs p s = bytes-append (front k t m d cs p) (be 1 s) (bytes-front k t m d cs p) (bytes-be 1 s)
+bytes-ask q p s = bytes-append (front (askKind (q .order)) q p) (be 1 s) (bytes-front (askKind (q .order)) q p) (bytes-be 1 s)
 
 pub page-size : (p : Scope) (s : ℕ) → askRanges p s ≡ true → s ≤ mostPage
 unfolding askRanges
@@ -51,18 +73,13 @@ page-size p s e =
     leb-true s mostPage (and-both (leb 1 s) (leb s mostPage) (b .1) .1)
 
 -- what the writer's test says
-pub record AskFits (m d : ℕ) (cs : List ℤ) (p : Scope) (s : ℕ) : Type 0 where
-  pub test : inRange m d ≡ true
-  pub range : InRange m d
-  pub count : length cs ≡ d
+pub record AskFits (q : Query) (p : Scope) (s : ℕ) : Type 0 where
+  pub query : QueryFits q
   pub rest : askRanges p s ≡ true
 
-pub ask-fits : (m d : ℕ) (cs : List ℤ) (p : Scope) (s : ℕ) → askFits m d cs p s ≡ true → AskFits m d cs p s
+pub ask-fits : (q : Query) (p : Scope) (s : ℕ) → askFits q p s ≡ true → AskFits q p s
 unfolding askFits
-ask-fits m d cs p s e =
-    let a = and-both (inRange m d) (eqb (length cs) d && askRanges p s) e in
-    let b = and-both (eqb (length cs) d) (askRanges p s) (a .1) in
-    record { test = a .0; range = range-is m d (a .0); count = eqb-true (length cs) d (b .0); rest = b .1 }
+ask-fits q p s e = let a = and-both (queryFits q) (askRanges p s) e in record { query = query-fits q (a .0); rest = a .1 }
 
 -- what the reader's test says
 pub record AskFrame (k : ℕ) (f : List ℕ) : Type 0 where
@@ -79,16 +96,22 @@ is-ask k f e =
     let q = and-both size last (p .1) in
     record { headed = is-head k f (p .0); size = eqb-true (length f) (29 + 4 * num 1 (drop 6 f)) (q .0); rest = q .1 }
 
-pub ask-begun : (k : ℕ) (f : List ℕ) → askOk k f ≡ true → Begun f
-ask-begun k f e = let p = is-ask k f e in record { few = p .headed .range .narrow; long = omega arith }
+pub any-ask : (f : List ℕ) → isAsk f ≡ true → AskFrame (askKind (askOrder (num 1 f))) f
+unfolding isAsk
+any-ask f e = is-ask (askKind (askOrder (num 1 f))) f e
+
+pub ask-begun : (k : ℕ) (f : List ℕ) → AskFrame k f → Begun f
+ask-begun k f p = record { few = p .headed .range .narrow; long = omega arith }
 
 -- the ask that a frame holds, from its parts
-pub ask-value : (f : List ℕ) (x : Front) (at s : ℕ) → x ≡ frontAt f → at ≡ 28 + 4 * x .d → s ≡ num 1 (drop at f)
-    → record { table = x .table; measure = x .measure; d = x .d; probe = x .probe; scope = x .scope; size = s } ≡ askAt f
-unfolding askAt frontAt
-ask-value f x at s e q v =
-    let h : at ≡ 28 + 4 * num 1 (drop 6 f) = q ∙ ap (λ (y : Front). 28 + 4 * y .d) e in
-    rw (e, v, last-at f at h)
+pub ask-value : (f : List ℕ) (x : queries.Query) (p : Scope) (at s : ℕ) → x ≡ queryAt (askOrder (num 1 f)) f → at ≡ 7 + 4 * x .d → p ≡ scopeIn (drop at f) → s ≡ num 1 (drop (at + 21) f)
+    → record { query = x; scope = p; size = s } ≡ askAt f
+unfolding askAt
+ask-value f x p at s e q u v =
+    let h : at ≡ 7 + 4 * num 1 (drop 6 f) = q ∙ ap (λ (y : queries.Query). 7 + 4 * y .d) e ∙ (unfold queryAt in refl) in
+    let b : drop at f ≡ behind f = ap (λ (n : ℕ). drop n f) h ∙ sym (behind-eq f) in
+    let c : drop (at + 21) f ≡ drop 21 (behind f) = sym (drop-drop 21 at f) ∙ ap (drop 21) b in
+    rw (e, u, v, b, c)
 
 -- the rules behind a scope that is in range, one after the other
 module _ (p : Scope) (s : ℕ) (e : scopeOk p ≡ true) where
@@ -114,24 +137,22 @@ ask-rule k f d h e l = rw (h, ← e, l, eq-eqb (29 + 4 * d) (29 + 4 * d) refl, d
 
 -- ---- answer
 
-pub length-answer : (k t m d : ℕ) (cs : List ℤ) (p : Scope) (last n : ℕ) (ns : List ℕ) → length ns ≡ 3 * n
-    → length (answerFrame k t m d cs p last n ns) ≡ 30 + 4 * length cs + 14 * n
+pub length-answer : (q : Query) (p : Scope) (last n : ℕ) (ns : List ℕ) → length ns ≡ 3 * n
+    → length (answerFrame q p last n ns) ≡ 30 + 4 * length (q .probe) + 14 * n
 unfolding answerFrame
-length-answer k t m d cs p last n ns e =
+length-answer q p last n ns e =
     let l = length-items n ns e in
     simp (length-append, length-front, length-be) (omega arith)
 
-pub bytes-answer : (k t m d : ℕ) (cs : List ℤ) (p : Scope) (last n : ℕ) (ns : List ℕ) → Bytes (answerFrame k t m d cs p last n ns)
+pub bytes-answer : (q : Query) (p : Scope) (last n : ℕ) (ns : List ℕ) → Bytes (answerFrame q p last n ns)
 unfolding answerFrame
-bytes-answer k t m d cs p last n ns =
-    bytes-append (front k t m d cs p) (be 1 last ++ (be 1 n ++ itemBytes ns)) (bytes-front k t m d cs p)
+bytes-answer q p last n ns =
+    bytes-append (front (answerKind (q .order)) q p) (be 1 last ++ (be 1 n ++ itemBytes ns)) (bytes-front (answerKind (q .order)) q p)
     (bytes-append (be 1 last) (be 1 n ++ itemBytes ns) (bytes-be 1 last) (bytes-append (be 1 n) (itemBytes ns) (bytes-be 1 n) (bytes-items ns)))
 
 -- what the writer's test says
-pub record AnswerFits (m d : ℕ) (cs : List ℤ) (p : Scope) (last n : ℕ) (ns : List ℕ) : Type 0 where
-  pub test : inRange m d ≡ true
-  pub range : InRange m d
-  pub probe : length cs ≡ d
+pub record AnswerFits (q : Query) (p : Scope) (last n : ℕ) (ns : List ℕ) : Type 0 where
+  pub query : QueryFits q
   pub rest : answerRanges p last n ≡ true
   pub last-high : last ≤ 1
   pub few : n ≤ mostPage
@@ -146,22 +167,18 @@ few-items p last n e =
     let b = and-both (leb last 1) (leb n mostPage) (a .1) in
     (leb-true last 1 (b .0), leb-true n mostPage (b .1))
 
-pub answer-fits : (m d : ℕ) (cs : List ℤ) (p : Scope) (last n : ℕ) (ns : List ℕ) → answerFits m d cs p last n ns ≡ true → AnswerFits m d cs p last n ns
+pub answer-fits : (q : Query) (p : Scope) (last n : ℕ) (ns : List ℕ) → answerFits q p last n ns ≡ true → AnswerFits q p last n ns
 unfolding answerFits
-answer-fits m d cs p last n ns e =
+answer-fits q p last n ns e =
     let t5 = referencesOk ns && numbersOk ns in
     let t4 = eqb (length ns) (3 * n) && t5 in
-    let t3 = answerRanges p last n && t4 in
-    let a = and-both (inRange m d) (eqb (length cs) d && t3) e in
-    let b = and-both (eqb (length cs) d) t3 (a .1) in
-    let r = and-both (answerRanges p last n) t4 (b .1) in
+    let a = and-both (queryFits q) (answerRanges p last n && t4) e in
+    let r = and-both (answerRanges p last n) t4 (a .1) in
     let s = and-both (eqb (length ns) (3 * n)) t5 (r .1) in
     let u = and-both (referencesOk ns) (numbersOk ns) (s .1) in
     let w = few-items p last n (r .0) in
     record {
-      test = a .0;
-      range = range-is m d (a .0);
-      probe = eqb-true (length cs) d (b .0);
+      query = query-fits q (a .0);
       rest = r .0;
       last-high = w .0;
       few = w .1;
@@ -211,13 +228,15 @@ unfolding behind
 items-from f at e = let q : at + 2 ≡ 7 + 4 * num 1 (drop 6 f) + 23 = omega arith in rw (drop-drop, q)
 
 -- the answer that a frame holds, from its parts
-pub answer-value : (f : List ℕ) (x : Front) (at last n : ℕ) (ns : List ℕ) → x ≡ frontAt f → at ≡ 28 + 4 * x .d → last ≡ num 1 (drop at f) → n ≡ num 1 (drop (at + 1) f) → ns ≡ itemPlaces n (itemsIn n (drop (at + 2) f))
-    → record { table = x .table; measure = x .measure; d = x .d; probe = x .probe; scope = x .scope; last = last; count = n; items = ns } ≡ answerAt f
-unfolding answerAt frontAt
-answer-value f x at last n ns e q v w z =
-    let h : at ≡ 28 + 4 * num 1 (drop 6 f) = q ∙ ap (λ (y : Front). 28 + 4 * y .d) e in
+pub answer-value : (o : Order) (f : List ℕ) (x : queries.Query) (p : Scope) (at last n : ℕ) (ns : List ℕ) → x ≡ queryAt o f → at ≡ 28 + 4 * x .d → p ≡ scopeIn (drop (at - 21) f) → last ≡ num 1 (drop at f) → n ≡ num 1 (drop (at + 1) f) → ns ≡ itemPlaces n (itemsIn n (drop (at + 2) f))
+    → record { query = x; scope = p; last = last; count = n; items = ns } ≡ answerAt o f
+unfolding answerAt
+answer-value o f x p at last n ns e q u v w z =
+    let h : at ≡ 28 + 4 * num 1 (drop 6 f) = q ∙ ap (λ (y : queries.Query). 28 + 4 * y .d) e ∙ (unfold queryAt in refl) in
+    let m : at - 21 ≡ 7 + 4 * num 1 (drop 6 f) = omega arith in
+    let b : drop (at - 21) f ≡ behind f = ap (λ (n : ℕ). drop n f) m ∙ sym (behind-eq f) in
     let c : n ≡ countIn f = w ∙ sym (count-at f at h) in
-    rw (e, z, v, last-at f at h, items-from f at h, c)
+    rw (e, z, v, u, b, last-at f at h, items-from f at h, c)
 
 -- what is left to test where the head and the length are right
 pub answer-rule : (k : ℕ) (f : List ℕ) (at n : ℕ) → headOk k f ≡ true → at ≡ 28 + 4 * num 1 (drop 6 f) → n ≡ num 1 (drop (at + 1) f) → length f ≡ at + 2 + 14 * n

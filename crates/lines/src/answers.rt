@@ -1,4 +1,4 @@
-// The answer line, kind 02. Whoever lays out another kind like it hands over that kind's number.
+// The answer line: a list's order tells its kind.
 ghost use mathlib.Core.Path.{_≡_};
 ghost use mathlib.Core.Bool.{_&&_};
 ghost use mathlib.Core.List.{_++_};
@@ -6,6 +6,7 @@ ghost use Prim.Native.Nat.{_+_, _-_, _*_, _≤_};
 ghost use lib.ListN.{length, drop};
 ghost use Rattle.paper.specs.Frames.{be, num, lineOf, written};
 ghost use Rattle.paper.specs.Fields.{scopeIn, itemBytes, itemsIn, numbersOk};
+ghost use Rattle.paper.specs.Orders.{queryIn};
 ghost use Rattle.paper.specs.Lines.{Writes, bareLine, answerFrame, answerRanges, answerFits, answerOk, answerAt, noAnswer, answerOf};
 ghost use Rattle.digits.specs.Places.{held, over};
 ghost use Rattle.lines.specs.Kinds.{IsAnswer};
@@ -14,12 +15,13 @@ use paper::limits::ITEM_ROOM;
 use paper::limits::LONGEST_ANSWER;
 use paper::limits::LONGEST_FRAME;
 use paper::limits::MOST_PAGE;
-use paper::limits::MOST_PLACES;
 use paper::lines::Answer;
 use paper::lines::AnswerRead;
 use paper::lines::Scope;
 use paper::lines::Wrote;
-use paper::points::in_range;
+use paper::lines::answer_kind;
+use paper::orders::Order;
+use paper::queries::Query;
 
 fn answer_ranges(p: Scope, last: u64, count: u64) -> bool
     ensures { λ r. ⌜ r ≡ answerRanges p last count ⌝ }
@@ -33,22 +35,12 @@ fn answer_ranges(p: Scope, last: u64, count: u64) -> bool
     false
 }
 
-fn answer_fits(
-    measure: u8,
-    d: u8,
-    probe: &[i32],
-    p: Scope,
-    last: u8,
-    count: u8,
-    items: &[u64],
-) -> bool
-    ensures { λ r. ⌜ r ≡ answerFits measure d (now (probe .entry)) p last count (now (items .entry)) ⌝ }
+fn answer_fits(q: Query, p: Scope, last: u8, count: u8, items: &[u64]) -> bool
+    ensures { λ r. ⌜ r ≡ answerFits (queryIn q) p last count (now (items .entry)) ⌝ }
 {
-    if in_range(measure, d as usize) {
-        if probe.len() == d as usize {
-            if answer_ranges(p, last as u64, count as u64) {
-                return fields::items_fit(items, count);
-            }
+    if fields::query_fits(q) {
+        if answer_ranges(p, last as u64, count as u64) {
+            return fields::items_fit(items, count);
         }
     }
     false
@@ -65,66 +57,30 @@ fn put_tail(out: &mut [u8], at: usize, last: u8, count: u8, items: &[u64])
 }
 
 // Writes the answer's line into a room that is large enough, and gives its length.
-fn fill_answer(
-    kind: u8,
-    table: u32,
-    measure: u8,
-    d: u8,
-    probe: &[i32],
-    p: Scope,
-    last: u8,
-    count: u8,
-    items: &[u64],
-    out: &mut [u8],
-) -> usize
-    requires { ⌜ (length (now probe) ≤ mostPlaces) × ((length (now items) ≡ 3 * count) × ((count ≤ mostPage) × (longestAnswer ≤ length (now out)))) ⌝ }
-    ensures { λ r. ⌜ (r ≡ length (lineOf (answerFrame kind table measure d (now (probe .entry)) p last count (now (items .entry))))) × (now (out .exit) ≡ written (answerFrame kind table measure d (now (probe .entry)) p last count (now (items .entry))) (now (out .entry))) ⌝ }
+fn fill_answer(q: Query, p: Scope, last: u8, count: u8, items: &[u64], out: &mut [u8]) -> usize
+    requires { ⌜ (q .d ≤ mostPlaces) × ((length (now items) ≡ 3 * count) × ((count ≤ mostPage) × (longestAnswer ≤ length (now out)))) ⌝ }
+    ensures { λ r. ⌜ (r ≡ length (lineOf (answerFrame (queryIn q) p last count (now (items .entry))))) × (now (out .exit) ≡ written (answerFrame (queryIn q) p last count (now (items .entry))) (now (out .entry))) ⌝ }
 {
-    fields::put_front(out, kind, table, measure, d, probe, p);
-    put_tail(out, 28 + 4 * probe.len(), last, count, items);
-    let n = 60 + 8 * probe.len() + 28 * count as usize;
+    let d = q.d;
+    let order = q.order;
+    fields::put_front(out, answer_kind(order), q, p);
+    put_tail(out, 28 + 4 * d, last, count, items);
+    let n = 60 + 8 * d + 28 * count as usize;
     out[n] = 10;
     n + 1
 }
 
-pub fn write_answer_as(
-    kind: u8,
-    table: u32,
-    measure: u8,
-    d: u8,
-    probe: &[i32],
-    p: Scope,
-    last: u8,
-    count: u8,
-    items: &[u64],
-    out: &mut [u8],
-) -> Wrote
-    ensures { λ r. ⌜ Writes (bareLine (answerFits measure d (now (probe .entry)) p last count (now (items .entry))) longestAnswer (answerFrame kind table measure d (now (probe .entry)) p last count (now (items .entry))) (length (now (out .entry)))) (now (out .entry)) r (now (out .exit)) ⌝ }
+pub fn write_answer(q: Query, p: Scope, last: u8, count: u8, items: &[u64], out: &mut [u8]) -> Wrote
+    ensures { λ r. ⌜ Writes (bareLine (answerFits (queryIn q) p last count (now (items .entry))) longestAnswer (answerFrame (queryIn q) p last count (now (items .entry))) (length (now (out .entry)))) (now (out .entry)) r (now (out .exit)) ⌝ }
 {
-    if answer_fits(measure, d, probe, p, last, count, items) {
+    if answer_fits(q, p, last, count, items) {
         if out.len() < LONGEST_ANSWER {
             return Wrote::Refused(12);
         }
-        let n = fill_answer(kind, table, measure, d, probe, p, last, count, items, out);
+        let n = fill_answer(q, p, last, count, items, out);
         return Wrote::Line(n);
     }
     Wrote::Refused(10)
-}
-
-pub fn write_answer(
-    table: u32,
-    measure: u8,
-    d: u8,
-    probe: &[i32],
-    p: Scope,
-    last: u8,
-    count: u8,
-    items: &[u64],
-    out: &mut [u8],
-) -> Wrote
-    ensures { λ r. ⌜ Writes (bareLine (answerFits measure d (now (probe .entry)) p last count (now (items .entry))) longestAnswer (answerFrame 2 table measure d (now (probe .entry)) p last count (now (items .entry))) (length (now (out .entry)))) (now (out .entry)) r (now (out .exit)) ⌝ }
-{
-    write_answer_as(2, table, measure, d, probe, p, last, count, items, out)
 }
 
 // Whether what stands behind the probe is in range, with `count` items from byte at + 2 on.
@@ -139,7 +95,7 @@ fn tail_ok(src: &[u8], at: usize, count: u64) -> bool
     false
 }
 
-pub fn answer_ok(src: &[u8], kind: u8) -> bool
+fn answer_ok(src: &[u8], kind: u8) -> bool
     ensures { λ r. ⌜ r ≡ answerOk kind (held (now (src .entry))) ⌝ }
 {
     let n = digits::size(src);
@@ -159,21 +115,17 @@ pub fn answer_ok(src: &[u8], kind: u8) -> bool
     false
 }
 
-pub fn answer_at(src: &[u8]) -> Answer
+fn answer_at(order: Order, src: &[u8]) -> Answer
     requires { ⌜ IsAnswer (held (now src)) ⌝ }
-    ensures { λ r. ⌜ r ≡ answerAt (held (now (src .entry))) ⌝ }
+    ensures { λ r. ⌜ r ≡ answerAt order (held (now (src .entry))) ⌝ }
 {
-    let front = fields::front_at(src);
-    let probe = front.probe;
-    let scope = front.scope;
-    let at = 28 + 4 * front.d as usize;
+    let query = fields::query_at(order, src);
+    let at = 28 + 4 * query.d;
+    let scope = fields::scope_at(src, at - 21);
     let count = digits::number(src, at + 1, 1);
     let items = fields::items_at(src, at + 2, count as usize);
     Answer {
-        table: front.table,
-        measure: front.measure,
-        d: front.d,
-        probe,
+        query,
         scope,
         last: digits::number(src, at, 1) as u8,
         count: count as u8,
@@ -184,19 +136,9 @@ pub fn answer_at(src: &[u8]) -> Answer
 fn no_answer(n: u8) -> AnswerRead
     ensures { λ r. ⌜ r ≡ noAnswer n ⌝ }
 {
-    let scope = Scope {
-        reach: 0,
-        from: 0,
-        snapshot: 0,
-        distance: 0,
-        number: 0,
-    };
     let answer = Answer {
-        table: 0,
-        measure: 0,
-        d: 0,
-        probe: [0i32; MOST_PLACES],
-        scope,
+        query: Query::NONE,
+        scope: Scope::NONE,
         last: 0,
         count: 0,
         items: [0u64; ITEM_ROOM],
@@ -204,8 +146,8 @@ fn no_answer(n: u8) -> AnswerRead
     AnswerRead { refusal: n, answer }
 }
 
-pub fn read_answer_as(kind: u8, line: &[u8]) -> AnswerRead
-    ensures { λ r. ⌜ r ≡ answerOf kind (now (line .entry)) ⌝ }
+pub fn read_answer(order: Order, line: &[u8]) -> AnswerRead
+    ensures { λ r. ⌜ r ≡ answerOf order (now (line .entry)) ⌝ }
 {
     let mut frame = [0u8; LONGEST_FRAME];
     let n = digits::frame_of(line, &mut frame);
@@ -213,15 +155,9 @@ pub fn read_answer_as(kind: u8, line: &[u8]) -> AnswerRead
         return no_answer(9);
     }
     let src = &frame[..n];
-    if answer_ok(src, kind) {
-        let answer = answer_at(src);
+    if answer_ok(src, answer_kind(order)) {
+        let answer = answer_at(order, src);
         return AnswerRead { refusal: 0, answer };
     }
     no_answer(10)
-}
-
-pub fn read_answer(line: &[u8]) -> AnswerRead
-    ensures { λ r. ⌜ r ≡ answerOf 2 (now (line .entry)) ⌝ }
-{
-    read_answer_as(2, line)
 }

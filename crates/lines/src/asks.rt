@@ -1,21 +1,23 @@
-// The ask line, kind 01. Whoever lays out another kind like it hands over that kind's number.
+// The ask line: a list's order tells its kind, and its kind its order.
 ghost use mathlib.Core.Path.{_≡_};
+ghost use mathlib.Core.Bool.{true};
 ghost use Prim.Native.Nat.{_≤_};
 ghost use lib.ListN.{length};
 ghost use Rattle.paper.specs.Frames.{lineOf, written};
-ghost use Rattle.paper.specs.Lines.{Writes, bareLine, askFrame, askRanges, askFits, askOk, askAt, noAsk, askOf};
+ghost use Rattle.paper.specs.Lines.{Writes, bareLine, askFrame, askRanges, askFits, askOk, isAsk, askAt, noAsk, askOf};
+ghost use Rattle.paper.specs.Orders.{queryIn};
 ghost use Rattle.digits.specs.Places.{held};
-ghost use Rattle.lines.specs.Kinds.{IsAsk};
 ghost use Rattle.paper.specs.Limits.{longestAsk, mostPlaces};
 use paper::limits::LONGEST_ASK;
 use paper::limits::LONGEST_FRAME;
-use paper::limits::MOST_PLACES;
 use paper::lines::Ask;
 use paper::lines::AskRead;
 use paper::lines::Scope;
 use paper::lines::Wrote;
+use paper::lines::ask_kind;
+use paper::lines::ask_order;
 use paper::orders::size_holds;
-use paper::points::in_range;
+use paper::queries::Query;
 
 fn ask_ranges(p: Scope, size: u64) -> bool
     ensures { λ r. ⌜ r ≡ askRanges p size ⌝ }
@@ -32,75 +34,43 @@ fn ask_ranges(p: Scope, size: u64) -> bool
     false
 }
 
-fn ask_fits(measure: u8, d: u8, probe: &[i32], p: Scope, size: u8) -> bool
-    ensures { λ r. ⌜ r ≡ askFits measure d (now (probe .entry)) p size ⌝ }
+fn ask_fits(q: Query, p: Scope, size: u8) -> bool
+    ensures { λ r. ⌜ r ≡ askFits (queryIn q) p size ⌝ }
 {
-    if in_range(measure, d as usize) {
-        if probe.len() == d as usize {
-            return ask_ranges(p, size as u64);
-        }
+    if fields::query_fits(q) {
+        return ask_ranges(p, size as u64);
     }
     false
 }
 
 // Writes the ask's line into a room that is large enough, and gives its length.
-fn fill_ask(
-    kind: u8,
-    table: u32,
-    measure: u8,
-    d: u8,
-    probe: &[i32],
-    p: Scope,
-    size: u8,
-    out: &mut [u8],
-) -> usize
-    requires { ⌜ (length (now probe) ≤ mostPlaces) × (longestAsk ≤ length (now out)) ⌝ }
-    ensures { λ r. ⌜ (r ≡ length (lineOf (askFrame kind table measure d (now (probe .entry)) p size))) × (now (out .exit) ≡ written (askFrame kind table measure d (now (probe .entry)) p size) (now (out .entry))) ⌝ }
+fn fill_ask(q: Query, p: Scope, size: u8, out: &mut [u8]) -> usize
+    requires { ⌜ (q .d ≤ mostPlaces) × (longestAsk ≤ length (now out)) ⌝ }
+    ensures { λ r. ⌜ (r ≡ length (lineOf (askFrame (queryIn q) p size))) × (now (out .exit) ≡ written (askFrame (queryIn q) p size) (now (out .entry))) ⌝ }
 {
-    fields::put_front(out, kind, table, measure, d, probe, p);
-    digits::put(out, 28 + 4 * probe.len(), 1, size as u64);
-    let n = 58 + 8 * probe.len();
+    let d = q.d;
+    let order = q.order;
+    fields::put_front(out, ask_kind(order), q, p);
+    digits::put(out, 28 + 4 * d, 1, size as u64);
+    let n = 58 + 8 * d;
     out[n] = 10;
     n + 1
 }
 
-pub fn write_ask_as(
-    kind: u8,
-    table: u32,
-    measure: u8,
-    d: u8,
-    probe: &[i32],
-    p: Scope,
-    size: u8,
-    out: &mut [u8],
-) -> Wrote
-    ensures { λ r. ⌜ Writes (bareLine (askFits measure d (now (probe .entry)) p size) longestAsk (askFrame kind table measure d (now (probe .entry)) p size) (length (now (out .entry)))) (now (out .entry)) r (now (out .exit)) ⌝ }
+pub fn write_ask(q: Query, p: Scope, size: u8, out: &mut [u8]) -> Wrote
+    ensures { λ r. ⌜ Writes (bareLine (askFits (queryIn q) p size) longestAsk (askFrame (queryIn q) p size) (length (now (out .entry)))) (now (out .entry)) r (now (out .exit)) ⌝ }
 {
-    if ask_fits(measure, d, probe, p, size) {
+    if ask_fits(q, p, size) {
         if out.len() < LONGEST_ASK {
             return Wrote::Refused(12);
         }
-        let n = fill_ask(kind, table, measure, d, probe, p, size, out);
+        let n = fill_ask(q, p, size, out);
         return Wrote::Line(n);
     }
     Wrote::Refused(10)
 }
 
-pub fn write_ask(
-    table: u32,
-    measure: u8,
-    d: u8,
-    probe: &[i32],
-    p: Scope,
-    size: u8,
-    out: &mut [u8],
-) -> Wrote
-    ensures { λ r. ⌜ Writes (bareLine (askFits measure d (now (probe .entry)) p size) longestAsk (askFrame 1 table measure d (now (probe .entry)) p size) (length (now (out .entry)))) (now (out .entry)) r (now (out .exit)) ⌝ }
-{
-    write_ask_as(1, table, measure, d, probe, p, size, out)
-}
-
-pub fn ask_ok(src: &[u8], kind: u8) -> bool
+fn is_kind(src: &[u8], kind: u8) -> bool
     ensures { λ r. ⌜ r ≡ askOk kind (held (now (src .entry))) ⌝ }
 {
     let n = digits::size(src);
@@ -118,47 +88,45 @@ pub fn ask_ok(src: &[u8], kind: u8) -> bool
     false
 }
 
+// Whether a frame is an ask, of the order that its kind tells.
+pub fn ask_ok(src: &[u8]) -> bool
+    ensures { λ r. ⌜ r ≡ isAsk (held (now (src .entry))) ⌝ }
+{
+    if digits::size(src) == 0 {
+        return false;
+    }
+    let order = ask_order(fields::kind(src));
+    is_kind(src, ask_kind(order))
+}
+
 pub fn ask_at(src: &[u8]) -> Ask
-    requires { ⌜ IsAsk (held (now src)) ⌝ }
+    requires { ⌜ isAsk (held (now src)) ≡ true ⌝ }
     ensures { λ r. ⌜ r ≡ askAt (held (now (src .entry))) ⌝ }
 {
-    let front = fields::front_at(src);
-    let probe = front.probe;
-    let scope = front.scope;
-    let at = 28 + 4 * front.d as usize;
+    let order = ask_order(fields::kind(src));
+    let query = fields::query_at(order, src);
+    let at = 7 + 4 * query.d;
+    let scope = fields::scope_at(src, at);
     Ask {
-        table: front.table,
-        measure: front.measure,
-        d: front.d,
-        probe,
+        query,
         scope,
-        size: digits::number(src, at, 1) as u8,
+        size: digits::number(src, at + 21, 1) as u8,
     }
 }
 
 fn no_ask(n: u8) -> AskRead
     ensures { λ r. ⌜ r ≡ noAsk n ⌝ }
 {
-    let scope = Scope {
-        reach: 0,
-        from: 0,
-        snapshot: 0,
-        distance: 0,
-        number: 0,
-    };
     let ask = Ask {
-        table: 0,
-        measure: 0,
-        d: 0,
-        probe: [0i32; MOST_PLACES],
-        scope,
+        query: Query::NONE,
+        scope: Scope::NONE,
         size: 0,
     };
     AskRead { refusal: n, ask }
 }
 
-pub fn read_ask_as(kind: u8, line: &[u8]) -> AskRead
-    ensures { λ r. ⌜ r ≡ askOf kind (now (line .entry)) ⌝ }
+pub fn read_ask(line: &[u8]) -> AskRead
+    ensures { λ r. ⌜ r ≡ askOf (now (line .entry)) ⌝ }
 {
     let mut frame = [0u8; LONGEST_FRAME];
     let n = digits::frame_of(line, &mut frame);
@@ -166,15 +134,9 @@ pub fn read_ask_as(kind: u8, line: &[u8]) -> AskRead
         return no_ask(9);
     }
     let src = &frame[..n];
-    if ask_ok(src, kind) {
+    if ask_ok(src) {
         let ask = ask_at(src);
         return AskRead { refusal: 0, ask };
     }
     no_ask(10)
-}
-
-pub fn read_ask(line: &[u8]) -> AskRead
-    ensures { λ r. ⌜ r ≡ askOf 1 (now (line .entry)) ⌝ }
-{
-    read_ask_as(1, line)
 }

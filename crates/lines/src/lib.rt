@@ -3,18 +3,12 @@ mod answers;
 mod asks;
 mod claims;
 
-pub use answers::answer_at;
-pub use answers::answer_ok;
 pub use answers::read_answer;
-pub use answers::read_answer_as;
 pub use answers::write_answer;
-pub use answers::write_answer_as;
 pub use asks::ask_at;
 pub use asks::ask_ok;
 pub use asks::read_ask;
-pub use asks::read_ask_as;
 pub use asks::write_ask;
-pub use asks::write_ask_as;
 pub use claims::claim_at;
 pub use claims::claim_ok;
 pub use claims::read_claim;

@@ -9,14 +9,13 @@ use lib.ListN.{length}
 use borrow.Author.Tests.{le-leb, lt-leb, not-true}
 use Rattle.paper.specs.declared.lines.Wrote.{Wrote}
 use Rattle.paper.specs.declared.lines.Wrote.the-variants.{Refused}
-use Rattle.paper.specs.declared.orders.Order.the-variants.{Near}
 use Rattle.paper.specs.declared.orders.Found as answers
 use Rattle.paper.specs.declared.orders.Nearest as Answers
 use Rattle.paper.specs.Orders.{Found, told, foundShown}
 use Rattle.paper.specs.Outcomes.{Outcome, refused, gives, must}
 use Rattle.paper.specs.Tree.{Store}
 use Rattle.paper.specs.Ends.{tableOf, served, soundIn, asking, taking}
-use Rattle.paper.specs.Lists.{Takes, Held, listing, roomFor, unusedZero, soundHeld, askingHeld, takingHeld}
+use Rattle.paper.specs.Lists.{Takes, Held, listing, roomFor, heldWell, soundHeld, askingHeld, takingHeld}
 use Rattle.paper.specs.Codec.{lines}
 use Rattle.paper.specs.Calls.{tableRefusal, aimed, nearestShown, officeCall}
 use Rattle.paper.specs.Lines.{Writes}
@@ -77,15 +76,15 @@ two : {A : Type 0} (a b : Bool) (x : Outcome A) → (a && b) ≡ false → must 
 two true b x h = must-stop b 2 x h
 two false b x h = refl
 
-module _ (s : Held) (a : Bool) (ae : a ≡ soundHeld Near s) (h : not a ≡ true) where
-  unsound : (unusedZero (s .list .d) (s .list .probe) && soundIn (roomFor s) (listing Near s)) ≡ false
+module _ (s : Held) (a : Bool) (ae : a ≡ soundHeld s) (h : not a ≡ true) where
+  unsound : (heldWell (s .list .query) && soundIn (roomFor s) (listing s)) ≡ false
   unfolding soundHeld
   unsound = sym ae ∙ not-true a h
 
-  pub ask-unsound : (size : ℕ) (out : List ℕ) → Writes (askingHeld lines Near s size (length out)) out (Refused 2) out
+  pub ask-unsound : (size : ℕ) (out : List ℕ) → Writes (askingHeld lines s size (length out)) out (Refused 2) out
   unfolding askingHeld asking
-  ask-unsound size out = writes-refused _ 2 out (two (unusedZero (s .list .d) (s .list .probe)) (soundIn (roomFor s) (listing Near s)) _ unsound)
+  ask-unsound size out = writes-refused _ 2 out (two (heldWell (s .list .query)) (soundIn (roomFor s) (listing s)) _ unsound)
 
-  pub take-unsound : (line : List ℕ) → Takes (s .list) (takingHeld lines Near s line) (s .room) (record { refusal = 2; list = s .list }) (s .room)
+  pub take-unsound : (line : List ℕ) → Takes (s .list) (takingHeld lines s line) (s .room) (record { refusal = 2; list = s .list }) (s .room)
   unfolding takingHeld taking
-  take-unsound line = takes-refused (s .list) _ 2 (s .room) _ (two (unusedZero (s .list .d) (s .list .probe)) (soundIn (roomFor s) (listing Near s)) _ unsound) refl
+  take-unsound line = takes-refused (s .list) _ 2 (s .room) _ (two (heldWell (s .list .query)) (soundIn (roomFor s) (listing s)) _ unsound) refl

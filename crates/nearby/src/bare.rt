@@ -1,6 +1,8 @@
-// The bare writers and readers of the three kinds of line.
+// The bare writers and readers of the three kinds of line. Of a query's probe the first d places are written.
 ghost use mathlib.Core.Path.{_≡_};
 ghost use lib.ListN.{length};
+ghost use Rattle.paper.specs.declared.orders.Order.the-variants.{Near};
+ghost use Rattle.paper.specs.Orders.{queryIn};
 ghost use Rattle.paper.specs.Lines.{Writes, bareLine, askFits, askFrame, askOf, answerFits, answerFrame, answerOf, claimFits, claimFrame, claimOf};
 ghost use Rattle.paper.specs.Limits.{longestAnswer, longestAsk, longestClaim};
 use paper::lines::AnswerRead;
@@ -8,37 +10,28 @@ use paper::lines::AskRead;
 use paper::lines::ClaimRead;
 use paper::lines::Scope;
 use paper::lines::Wrote;
+use paper::orders::Order;
+use paper::queries::Query;
 
 // Refusals 10, 12.
-pub fn write_ask_line(
-    table: u32,
-    measure: u8,
-    d: u8,
-    probe: &[i32],
-    p: Scope,
-    size: u8,
-    out: &mut [u8],
-) -> Wrote
-    ensures { λ r. ⌜ Writes (bareLine (askFits measure d (now (probe .entry)) p size) longestAsk (askFrame 1 table measure d (now (probe .entry)) p size) (length (now (out .entry)))) (now (out .entry)) r (now (out .exit)) ⌝ }
+pub fn write_ask_line(q: Query, p: Scope, size: u8, out: &mut [u8]) -> Wrote
+    ensures { λ r. ⌜ Writes (bareLine (askFits (queryIn q) p size) longestAsk (askFrame (queryIn q) p size) (length (now (out .entry)))) (now (out .entry)) r (now (out .exit)) ⌝ }
 {
-    lines::write_ask(table, measure, d, probe, p, size, out)
+    lines::write_ask(q, p, size, out)
 }
 
 // Refusals 10, 12.
 pub fn write_answer_line(
-    table: u32,
-    measure: u8,
-    d: u8,
-    probe: &[i32],
+    q: Query,
     p: Scope,
     last: u8,
     count: u8,
     items: &[u64],
     out: &mut [u8],
 ) -> Wrote
-    ensures { λ r. ⌜ Writes (bareLine (answerFits measure d (now (probe .entry)) p last count (now (items .entry))) longestAnswer (answerFrame 2 table measure d (now (probe .entry)) p last count (now (items .entry))) (length (now (out .entry)))) (now (out .entry)) r (now (out .exit)) ⌝ }
+    ensures { λ r. ⌜ Writes (bareLine (answerFits (queryIn q) p last count (now (items .entry))) longestAnswer (answerFrame (queryIn q) p last count (now (items .entry))) (length (now (out .entry)))) (now (out .entry)) r (now (out .exit)) ⌝ }
 {
-    lines::write_answer(table, measure, d, probe, p, last, count, items, out)
+    lines::write_answer(q, p, last, count, items, out)
 }
 
 // Refusals 10, 12.
@@ -57,16 +50,17 @@ pub fn write_claim_line(
 
 // Refusals 9, 10.
 pub fn read_ask_line(line: &[u8]) -> AskRead
-    ensures { λ r. ⌜ r ≡ askOf 1 (now (line .entry)) ⌝ }
+    ensures { λ r. ⌜ r ≡ askOf (now (line .entry)) ⌝ }
 {
     lines::read_ask(line)
 }
 
 // Refusals 9, 10.
 pub fn read_answer_line(line: &[u8]) -> AnswerRead
-    ensures { λ r. ⌜ r ≡ answerOf 2 (now (line .entry)) ⌝ }
+    ensures { λ r. ⌜ r ≡ answerOf Near (now (line .entry)) ⌝ }
 {
-    lines::read_answer(line)
+    let near = Order::Near;
+    lines::read_answer(near, line)
 }
 
 // Refusals 9, 10.

@@ -4,7 +4,6 @@ ghost use lib.ListN.{length};
 ghost use Rattle.paper.specs.declared.orders.Order.the-variants.{Near};
 ghost use Rattle.paper.specs.Lists.{Takes, held, openingHeld, openedTold, askingHeld, takingHeld};
 ghost use Rattle.paper.specs.Codec.{lines};
-ghost use Rattle.tablet.specs.Holding.{asNear};
 ghost use Rattle.paper.specs.Lines.{Writes};
 use paper::lines::Wrote;
 use paper::lists::List;
@@ -14,17 +13,17 @@ use paper::orders::Order;
 
 // Refusals 1, 5.
 pub fn open_list(table: u32, measure: u8, d: usize, probe: &[i32], reach: u64) -> Opened
-    ensures { λ r. ⌜ r ≡ openedTold (openingHeld (asNear table measure d (now (probe .entry)) reach)) ⌝ }
+    ensures { λ r. ⌜ r ≡ openedTold (openingHeld (record { order = Near; table = table; measure = measure; d = d; probe = now (probe .entry); reach = reach })) ⌝ }
 {
-    tablet::open_list(table, measure, d, probe, reach)
+    let near = Order::Near;
+    tablet::open_list(near, table, measure, d, probe, reach)
 }
 
 // Refusals 2, 16, 6, 12.
 pub fn write_ask(l: List, room: &[u64], size: usize, out: &mut [u8]) -> Wrote
-    ensures { λ r. ⌜ Writes (askingHeld lines Near (held l (now (room .entry))) size (length (now (out .entry)))) (now (out .entry)) r (now (out .exit)) ⌝ }
+    ensures { λ r. ⌜ Writes (askingHeld lines (held l (now (room .entry))) size (length (now (out .entry)))) (now (out .entry)) r (now (out .exit)) ⌝ }
 {
-    let near = Order::Near;
-    if !tablet::is_sound(near, l, room) {
+    if !tablet::is_sound(l, room) {
         return Wrote::Refused(2);
     }
     tablet::write_ask(l, room, size, out)
@@ -32,10 +31,9 @@ pub fn write_ask(l: List, room: &[u64], size: usize, out: &mut [u8]) -> Wrote
 
 // Refusals 2, 9, 10, 16, 13, 14, 15.
 pub fn take(l: List, room: &mut [u64], line: &[u8]) -> Taken
-    ensures { λ r. ⌜ Takes l (takingHeld lines Near (held l (now (room .entry))) (now (line .entry))) (now (room .entry)) r (now (room .exit)) ⌝ }
+    ensures { λ r. ⌜ Takes l (takingHeld lines (held l (now (room .entry))) (now (line .entry))) (now (room .entry)) r (now (room .exit)) ⌝ }
 {
-    let near = Order::Near;
-    if !tablet::is_sound(near, l, room) {
+    if !tablet::is_sound(l, room) {
         return Taken {
             refusal: 2,
             list: l,

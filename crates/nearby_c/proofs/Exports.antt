@@ -1,14 +1,31 @@
 -- What a call of `nearby` promises, with its cases as numbers. Assumes nothing.
-use Prim.Native.Nat.{ℕ}
-use mathlib.Core.Path.{_≡_, ap, subst, _∙_}
+use Prim.Native.Nat.{ℕ, _≤_}
+use mathlib.Core.Path.{_≡_, refl, sym, ap, subst, _∙_}
+use mathlib.Core.Bool.{Bool, true, false, cond, not, _&&_}
 use mathlib.Core.List.{List}
+use lib.Dec.{leb, eqb, lit≤}
+use lib.ListN.{length}
+use borrow.Author.Tests.{le-leb, leb-true, eq-eqb, eqb-true, not-true, not-false}
+use Rattle.paper.specs.declared.lines.Scope.{Scope}
+use Rattle.paper.specs.declared.lines.Wrote.{Wrote}
+use Rattle.paper.specs.declared.orders.Order.{Order}
+use Rattle.paper.specs.declared.queries.Query as queries
 use Rattle.paper.specs.declared.lists.List as lists
 use Rattle.paper.specs.declared.lists.Taken.{Taken}
 use Rattle.paper.specs.Outcomes.{Outcome, Promise}
 use Rattle.paper.specs.Lists.{Takes, takenAs, putItems}
 use Rattle.paper.specs.Ends as Ends
 use Rattle.c_values.specs.declared.Listed.{Listed}
-use Rattle.c_values.specs.Values.{takenOut, TakesOut}
+use Rattle.c_values.specs.declared.Written.{Written}
+use Rattle.c_values.specs.Values.{takenOut, TakesOut, writtenOf, WritesOut}
+use Rattle.paper.specs.Orders.{Query, queryIn}
+use Rattle.paper.specs.Fields.{inPlaces}
+use Rattle.paper.specs.Frames.{frameOf, sound}
+use Rattle.paper.specs.Lines.{Writes, wroteOf, putLine, reading, queryAt, answerKind, askFits, isAsk, askAt, anAsk, noAsk, askOf, answerFits, answerOk, answerAt, anAnswer, noAnswer, answerOf}
+use Rattle.paper.specs.Limits.{mostPlaces}
+use Rattle.paper.proofs.Tests.{and-first, and-second, and-both, refuted, never}
+use Rattle.lines.proofs.Tests.{QueryFits, ask-fits, any-ask, answer-fits, is-answer}
+use Rattle.orders.proofs.Rooms.{query-placed}
 
 -- a promise, with its result as numbers
 pub shown-as : {A R S M : Type 0} (f : R → S) (shown : Outcome A → R) (put : A → M → M) (o : Outcome A) (before after : M) (r : R) (x : S)
@@ -25,3 +42,54 @@ pub taken-from : (call : lists.List → Outcome Ends.Listing) (l x : lists.List)
     → x ≡ l → Takes x (call x) before t after → r ≡ takenOut t → TakesOut l (call l) before r after
 taken-from call l x t r before after e w h =
     subst (λ (y : lists.List). TakesOut y (call y) before r after) e (shown-as takenOut (takenAs x) putItems (call x) before after t r w h)
+
+-- ---- lines
+
+-- the same of a line's writer, whose query and scope C hands over in parts
+pub line-from : (call : Query → Scope → Outcome (List ℕ)) (q x : Query) (p y : Scope) (before after : List ℕ) (w : Wrote) (r : Written)
+    → x ≡ q → y ≡ p → Writes (call x y) before w after → r ≡ writtenOf w → WritesOut (call q p) before r after
+line-from call q x p y before after w r e f h k =
+    shown-as writtenOf wroteOf putLine (call q p) before after w r
+    (subst (λ (u : Scope). Writes (call q u) before w after) f (subst (λ (u : Query). Writes (call u y) before w after) e h)) k
+
+-- a probe that has no places is refused by whoever writes
+module _ (q : Query) (p : Scope) (b : Bool) (be : b ≡ eqb (length (q .probe)) (q .d) && leb (q .d) mostPlaces) where
+  module _ (h : not b ≡ true) where
+    misplaced : QueryFits q → ⊥
+    misplaced w = never b (be ∙ and-both _ _ (eq-eqb _ _ (w .count)) (le-leb (q .d) mostPlaces (w .range .narrow))) (not-true b h)
+
+    pub ask-misplaced : (s : ℕ) → askFits q p s ≡ false
+    ask-misplaced s = refuted (askFits q p s) (λ e. misplaced (ask-fits q p s e .query))
+
+    pub answer-misplaced : (last n : ℕ) (ns : List ℕ) → answerFits q p last n ns ≡ false
+    answer-misplaced last n ns = refuted (answerFits q p last n ns) (λ e. misplaced (answer-fits q p last n ns e .query))
+
+  module _ (h : not b ≡ false) where
+    both : (eqb (length (q .probe)) (q .d) && leb (q .d) mostPlaces) ≡ true
+    both = sym be ∙ not-false b h
+
+    pub placed : (length (q .probe) ≡ q .d) × (q .d ≤ mostPlaces)
+    placed = (eqb-true _ _ (and-first _ _ both), leb-true _ _ (and-second (eqb (length (q .probe)) (q .d)) _ both))
+
+    pub placed-query : (x : queries.Query) → x ≡ inPlaces q → queryIn x ≡ q
+    placed-query x e = ap queryIn e ∙ query-placed q (placed .0)
+
+-- what a reader gives has at most eight coordinates
+pub ask-narrow : (l : List ℕ) → askOf l .ask .query .d ≤ mostPlaces
+unfolding askOf reading
+ask-narrow l = go (sound l) (isAsk (frameOf l)) refl
+  where
+    go : (a b : Bool) → isAsk (frameOf l) ≡ b → cond a (cond b (anAsk (askAt (frameOf l))) (noAsk 10)) (noAsk 9) .ask .query .d ≤ mostPlaces
+    go true true e = unfold anAsk in unfold askAt in unfold queryAt in any-ask (frameOf l) e .headed .range .narrow
+    go true false e = unfold noAsk in lit≤ tt
+    go false b e = unfold noAsk in lit≤ tt
+
+pub answer-narrow : (o : Order) (l : List ℕ) → answerOf o l .answer .query .d ≤ mostPlaces
+unfolding answerOf reading
+answer-narrow o l = go (sound l) (answerOk (answerKind o) (frameOf l)) refl
+  where
+    go : (a b : Bool) → answerOk (answerKind o) (frameOf l) ≡ b
+        → cond a (cond b (anAnswer (answerAt o (frameOf l))) (noAnswer 10)) (noAnswer 9) .answer .query .d ≤ mostPlaces
+    go true true e = unfold anAnswer in unfold answerAt in unfold queryAt in is-answer (answerKind o) (frameOf l) e .headed .range .narrow
+    go true false e = unfold noAnswer in lit≤ tt
+    go false b e = unfold noAnswer in lit≤ tt

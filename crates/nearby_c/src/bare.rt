@@ -1,15 +1,34 @@
 // The bare writers and readers of the three kinds of line.
 ghost use mathlib.Core.Path.{_≡_};
+ghost use mathlib.Core.Bool.{_&&_};
+ghost use lib.Dec.{leb, eqb};
 ghost use lib.ListN.{length};
 ghost use Rattle.paper.specs.Lines.{bareLine, askFits, askFrame, askOf, answerFits, answerFrame, answerOf, claimFits, claimFrame, claimOf};
-ghost use Rattle.c_values.specs.Values.{WritesOut};
-ghost use Rattle.paper.specs.Limits.{longestAnswer, longestAsk, longestClaim};
+ghost use Rattle.paper.specs.declared.orders.Order.the-variants.{Near};
+ghost use Rattle.c_values.specs.Values.{nearQuery, scopeIn, askOut, answerOut, WritesOut};
+ghost use Rattle.paper.specs.Limits.{longestAnswer, longestAsk, longestClaim, mostPlaces};
+use c_values::AnswerShown;
+use c_values::AskShown;
+use c_values::Extent;
 use c_values::Written;
+use c_values::answer_out;
+use c_values::ask_out;
 use c_values::line_of;
-use paper::lines::AnswerRead;
-use paper::lines::AskRead;
+use c_values::scope_in;
+use paper::limits::MOST_PLACES;
 use paper::lines::ClaimRead;
-use paper::lines::Scope;
+use paper::lines::Wrote;
+use paper::orders::Order;
+
+// Whether a probe of so many coordinates is d of them, and has a place for each.
+fn placeable(length: usize, d: usize) -> bool
+    ensures { λ r. ⌜ r ≡ eqb length d && leb d mostPlaces ⌝ }
+{
+    if length == d {
+        return d <= MOST_PLACES;
+    }
+    false
+}
 
 // Refusals 10, 12.
 #[no_mangle]
@@ -18,13 +37,19 @@ pub extern "C" fn nearby_write_ask_line(
     measure: u8,
     d: u8,
     probe: &[i32],
-    p: Scope,
+    p: Extent,
     size: u8,
     out: &mut [u8],
 ) -> Written
-    ensures { λ r. ⌜ WritesOut (bareLine (askFits measure d (now (probe .entry)) p size) longestAsk (askFrame 1 table measure d (now (probe .entry)) p size) (length (now (out .entry)))) (now (out .entry)) r (now (out .exit)) ⌝ }
+    ensures { λ r. ⌜ WritesOut (bareLine (askFits (nearQuery table measure d (now (probe .entry)) (p .reach)) (scopeIn p) size) longestAsk (askFrame (nearQuery table measure d (now (probe .entry)) (p .reach)) (scopeIn p) size) (length (now (out .entry)))) (now (out .entry)) r (now (out .exit)) ⌝ }
 {
-    let wrote = nearby::write_ask_line(table, measure, d, probe, p, size, out);
+    if !placeable(probe.len(), d as usize) {
+        return line_of(Wrote::Refused(10));
+    }
+    let near = Order::Near;
+    let query = fields::query_of(near, table, measure, d as usize, probe, p.reach);
+    let scope = scope_in(p);
+    let wrote = nearby::write_ask_line(query, scope, size, out);
     line_of(wrote)
 }
 
@@ -35,15 +60,21 @@ pub extern "C" fn nearby_write_answer_line(
     measure: u8,
     d: u8,
     probe: &[i32],
-    p: Scope,
+    p: Extent,
     last: u8,
     count: u8,
     items: &[u64],
     out: &mut [u8],
 ) -> Written
-    ensures { λ r. ⌜ WritesOut (bareLine (answerFits measure d (now (probe .entry)) p last count (now (items .entry))) longestAnswer (answerFrame 2 table measure d (now (probe .entry)) p last count (now (items .entry))) (length (now (out .entry)))) (now (out .entry)) r (now (out .exit)) ⌝ }
+    ensures { λ r. ⌜ WritesOut (bareLine (answerFits (nearQuery table measure d (now (probe .entry)) (p .reach)) (scopeIn p) last count (now (items .entry))) longestAnswer (answerFrame (nearQuery table measure d (now (probe .entry)) (p .reach)) (scopeIn p) last count (now (items .entry))) (length (now (out .entry)))) (now (out .entry)) r (now (out .exit)) ⌝ }
 {
-    let wrote = nearby::write_answer_line(table, measure, d, probe, p, last, count, items, out);
+    if !placeable(probe.len(), d as usize) {
+        return line_of(Wrote::Refused(10));
+    }
+    let near = Order::Near;
+    let query = fields::query_of(near, table, measure, d as usize, probe, p.reach);
+    let scope = scope_in(p);
+    let wrote = nearby::write_answer_line(query, scope, last, count, items, out);
     line_of(wrote)
 }
 
@@ -65,18 +96,20 @@ pub extern "C" fn nearby_write_claim_line(
 
 // Refusals 9, 10.
 #[no_mangle]
-pub extern "C" fn nearby_read_ask_line(line: &[u8]) -> AskRead
-    ensures { λ r. ⌜ r ≡ askOf 1 (now (line .entry)) ⌝ }
+pub extern "C" fn nearby_read_ask_line(line: &[u8]) -> AskShown
+    ensures { λ r. ⌜ r ≡ askOut (askOf (now (line .entry))) ⌝ }
 {
-    nearby::read_ask_line(line)
+    let read = nearby::read_ask_line(line);
+    ask_out(read)
 }
 
 // Refusals 9, 10.
 #[no_mangle]
-pub extern "C" fn nearby_read_answer_line(line: &[u8]) -> AnswerRead
-    ensures { λ r. ⌜ r ≡ answerOf 2 (now (line .entry)) ⌝ }
+pub extern "C" fn nearby_read_answer_line(line: &[u8]) -> AnswerShown
+    ensures { λ r. ⌜ r ≡ answerOut (answerOf Near (now (line .entry))) ⌝ }
 {
-    nearby::read_answer_line(line)
+    let read = nearby::read_answer_line(line);
+    answer_out(read)
 }
 
 // Refusals 9, 10.

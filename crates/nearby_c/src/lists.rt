@@ -1,11 +1,9 @@
 // A tablet's list: opened, asking, taking.
 ghost use mathlib.Core.Path.{_≡_};
 ghost use lib.ListN.{length};
-ghost use Rattle.paper.specs.declared.orders.Order.the-variants.{Near};
 ghost use Rattle.paper.specs.Lists.{held, openingHeld, openedTold, askingHeld, takingHeld};
 ghost use Rattle.paper.specs.Codec.{lines};
-ghost use Rattle.tablet.specs.Holding.{asNear};
-ghost use Rattle.c_values.specs.Values.{listIn, openedOut, WritesOut, TakesOut};
+ghost use Rattle.c_values.specs.Values.{nearQuery, listIn, openedOut, WritesOut, TakesOut};
 use c_values::Listed;
 use c_values::Listing;
 use c_values::Written;
@@ -22,7 +20,7 @@ pub extern "C" fn nearby_open_list(
     probe: &[i32],
     reach: u64,
 ) -> Listed
-    ensures { λ r. ⌜ r ≡ openedOut (openedTold (openingHeld (asNear table measure d (now (probe .entry)) reach))) ⌝ }
+    ensures { λ r. ⌜ r ≡ openedOut (openedTold (openingHeld (nearQuery table measure d (now (probe .entry)) reach))) ⌝ }
 {
     let opened = nearby::open_list(table, measure, d, probe, reach);
     let list = opened.list;
@@ -35,7 +33,7 @@ pub extern "C" fn nearby_open_list(
 // Refusals 2, 16, 6, 12.
 #[no_mangle]
 pub extern "C" fn nearby_write_ask(l: Listing, room: &[u64], size: usize, out: &mut [u8]) -> Written
-    ensures { λ r. ⌜ WritesOut (askingHeld lines Near (held (listIn l) (now (room .entry))) size (length (now (out .entry)))) (now (out .entry)) r (now (out .exit)) ⌝ }
+    ensures { λ r. ⌜ WritesOut (askingHeld lines (held (listIn l) (now (room .entry))) size (length (now (out .entry)))) (now (out .entry)) r (now (out .exit)) ⌝ }
 {
     let list = list_in(l);
     let wrote = nearby::write_ask(list, room, size, out);
@@ -45,7 +43,7 @@ pub extern "C" fn nearby_write_ask(l: Listing, room: &[u64], size: usize, out: &
 // Refusals 2, 9, 10, 16, 13, 14, 15.
 #[no_mangle]
 pub extern "C" fn nearby_take(l: Listing, room: &mut [u64], line: &[u8]) -> Listed
-    ensures { λ r. ⌜ TakesOut (listIn l) (takingHeld lines Near (held (listIn l) (now (room .entry))) (now (line .entry))) (now (room .entry)) r (now (room .exit)) ⌝ }
+    ensures { λ r. ⌜ TakesOut (listIn l) (takingHeld lines (held (listIn l) (now (room .entry))) (now (line .entry))) (now (room .entry)) r (now (room .exit)) ⌝ }
 {
     let list = list_in(l);
     let taken = nearby::take(list, room, line);

@@ -1,17 +1,18 @@
 -- A list as code holds it: what is held after a call is the list that the call gives, and stays sound. Assumes nothing.
 use Prim.Native.Nat.{ℕ, zero, suc, _+_, _-_, _*_, _≤_}
 use mathlib.Core.Path.{_≡_, refl, sym, ap}
-use mathlib.Core.Bool.{true, false}
+use mathlib.Core.Bool.{true}
 use mathlib.Core.List.{List, [], _∷_, _++_, append-assoc}
 use native.Mathlib.Omega.{arith}
 use lib.IntN.{pos}
 use lib.ListN.{length, take, drop, replicate, length-append, length-drop}
 use lib.Seq.{take-at, drop-at}
-use Rattle.paper.specs.declared.orders.Order.{Order}
-use Rattle.paper.specs.Orders.{Item, Query, flat, fronted}
+use Rattle.paper.specs.Orders.{Item, Query, queryIn, flat, fronted}
+use Rattle.paper.specs.Fields.{places, inPlaces}
+use Rattle.paper.specs.Lines.{spoken}
 use Rattle.paper.specs.Outcomes.{gives}
 use Rattle.paper.specs.Ends.{Codec, Listing, fresh, every, sameZ, soundIn, taking}
-use Rattle.paper.specs.Lists.{Held, held, itemsIn, roomFor, queryOf, listing, unusedZero, soundHeld, openedAs, takingHeld, put}
+use Rattle.paper.specs.Lists.{Held, held, itemsIn, roomFor, listing, unusedZero, heldWell, soundHeld, openedAs, takingHeld, put}
 use Rattle.orders.specs.Laws.{Lawful}
 use Rattle.paper.proofs.Tests.{and-both}
 use Rattle.paper.proofs.Outcomes.{must-test, must-rest, through}
@@ -62,9 +63,9 @@ unfolding fronted
 fronted-length l r h = omega (arith, length-append (flat l) (drop (3 * length l) r), length-drop (3 * length l) r, flat-length l)
 
 -- what is held after an accepted call is what the call gave
-pub listing-put : (o : Order) (s : Held) (L : Listing) → L .query ≡ queryOf o (s .list) → listing o (put s (gives L)) ≡ L
+pub listing-put : (s : Held) (L : Listing) → L .query ≡ queryIn (s .list .query) → listing (put s (gives L)) ≡ L
 unfolding listing put fronted
-listing-put o s L e = λ i. record {
+listing-put s L e = λ i. record {
   query = sym e i;
   started = L .started;
   snapshot = L .snapshot;
@@ -73,47 +74,47 @@ listing-put o s L e = λ i. record {
 }
 
 -- a line that a held list takes
-module _ (c : Codec) (o : Order) (s : Held) (line : List ℕ) (L : Listing) (e : takingHeld c o s line ≡ gives L) where
-  pub took-held : taking c (roomFor s) (listing o s) line ≡ gives L
+module _ (c : Codec) (s : Held) (line : List ℕ) (L : Listing) (e : takingHeld c s line ≡ gives L) where
+  pub took-held : taking c (roomFor s) (listing s) line ≡ gives L
   unfolding takingHeld
-  took-held = must-rest (unusedZero (s .list .d) (s .list .probe)) 2 _ _ e
+  took-held = must-rest (heldWell (s .list .query)) 2 _ _ e
 
-  pub held-query : L .query ≡ queryOf o (s .list)
+  pub held-query : L .query ≡ queryIn (s .list .query)
   unfolding taking listing
   held-query =
-      let a = through (c .readAnswer o line) _ _ (must-rest (soundIn (roomFor s) (listing o s)) 2 _ _ took-held) in
-      took-query (roomFor s) (listing o s) (a .value) L (took (roomFor s) (listing o s) (a .value) L (a .second))
+      let a = through (c .readAnswer (s .list .query .order) line) _ _ (must-rest (soundIn (roomFor s) (listing s)) 2 _ _ took-held) in
+      took-query (roomFor s) (listing s) (a .value) L (took (roomFor s) (listing s) (a .value) L (a .second))
 
   -- the list moves as the definition says
-  pub moves : listing o (put s (gives L)) ≡ L
-  moves = listing-put o s L held-query
+  pub moves : listing (put s (gives L)) ≡ L
+  moves = listing-put s L held-query
 
   -- and stays sound
-  pub held-sound : Lawful c → soundHeld o (put s (gives L)) ≡ true
+  pub held-sound : Lawful c → soundHeld (put s (gives L)) ≡ true
   unfolding soundHeld takingHeld put
   held-sound law =
-      let h : soundIn (roomFor s) L ≡ true = stays-sound c law (roomFor s) (listing o s) L line took-held in
+      let h : soundIn (roomFor s) L ≡ true = stays-sound c law (roomFor s) (listing s) L line took-held in
       let f : length (fronted (L .items) (s .room)) ≡ length (s .room) = fronted-length (L .items) (s .room) (omega (arith, soundness (roomFor s) L h .roomy)) in
-      and-both _ _ (must-test (unusedZero (s .list .d) (s .list .probe)) 2 _ _ e) (rw (moves, f) h)
+      and-both _ _ (must-test (heldWell (s .list .query)) 2 _ _ e) (rw (moves, f) h)
+
+-- a query in its places says what it said
+pub query-placed : (q : Query) → length (q .probe) ≡ q .d → queryIn (inPlaces q) ≡ q
+unfolding inPlaces places
+query-placed q long =
+    let e : take (q .d) (q .probe ++ replicate (8 - q .d) (pos 0)) ≡ q .probe = take-at (q .probe) _ (q .d) long in
+    λ i. record { order = q .order; table = q .table; measure = q .measure; d = q .d; probe = e i; reach = q .reach }
 
 -- a list that was just opened, in whatever room
-pub listing-opened : (o : Order) (q : Query) (room : List ℕ) → q .order ≡ o → length (q .probe) ≡ q .d → listing o (held (openedAs q) room) ≡ fresh q
+pub listing-opened : (q : Query) (room : List ℕ) → length (q .probe) ≡ q .d → listing (held (openedAs q) room) ≡ fresh q
 unfolding listing openedAs itemsIn
-listing-opened o q room p long =
-    let e : take (q .d) (q .probe ++ replicate (8 - q .d) (pos 0)) ≡ q .probe = take-at (q .probe) _ (q .d) long in
-    λ i. record {
-      query = record { order = sym p i; table = q .table; measure = q .measure; d = q .d; probe = e i; reach = q .reach };
-      started = false;
-      snapshot = 0;
-      complete = false;
-      items = [];
-    }
+listing-opened q room long = ap fresh (query-placed q long)
 
 zeros : (n : ℕ) → every (sameZ (pos 0)) (replicate n (pos 0)) ≡ true
 unfolding every
 zeros zero = refl
 zeros (suc n) = zeros n
 
-pub unused-opened : (q : Query) → length (q .probe) ≡ q .d → unusedZero (openedAs q .d) (openedAs q .probe) ≡ true
-unfolding unusedZero openedAs
-unused-opened q long = rw (drop-at (q .probe) (replicate (8 - q .d) (pos 0)) (q .d) long) (zeros (8 - q .d))
+-- stands as soundness asks, if its order has lines
+pub opened-well : (q : Query) → spoken (q .order) ≡ true → length (q .probe) ≡ q .d → heldWell (openedAs q .query) ≡ true
+unfolding heldWell unusedZero openedAs inPlaces places
+opened-well q s long = and-both _ _ s (rw (drop-at (q .probe) (replicate (8 - q .d) (pos 0)) (q .d) long) (zeros (8 - q .d)))

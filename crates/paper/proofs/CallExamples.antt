@@ -7,7 +7,7 @@ use Rattle.paper.specs.Runs.{makeCall, added, addedRun, enterCall}
 use Rattle.paper.specs.Frames.{be, num, glyph, digit, hexes, lineOf, frameOf, ended}
 use Rattle.paper.specs.Frames as Frames
 use Rattle.paper.specs.Fields.{head, front, coordBytes, coordsIn, places, scopeBytes, scopeIn, scopeOk, item, itemBytes}
-use Rattle.paper.specs.Lines.{headOk, behind, askRanges, askOk, askAt, answerFrame}
+use Rattle.paper.specs.Lines.{headOk, behind, queryAt, isAsk, askRanges, askOk, askAt, answerFrame}
 use Rattle.paper.specs.Codec.{scopeOf, placeIn, answerLine, asked, readAsk}
 use Rattle.paper.specs.Ends.{matches, answerOf, answerTo, served}
 use Rattle.paper.specs.Calls.{nearestCall, farthestCall, thePage, pageCall, officeCall}
@@ -92,7 +92,7 @@ pub office-marked : OfficeMarked
 unfolding measureOf weigh joined distance inRange point cleared fresh nearSide raise placed entered built apart claimsFrom fits sameFront afresh sound
     rank before insert itemOf listed follows rest following pageOf lastOf snapshotHolds markHolds flat
     be num glyph digit hexes lineOf frameOf ended Frames.sound head front coordBytes coordsIn places scopeBytes scopeIn scopeOk item itemBytes
-    headOk behind askRanges askOk askAt answerFrame scopeOf placeIn answerLine asked readAsk matches answerOf answerTo served officeCall
+    headOk behind queryAt isAsk askRanges askOk askAt answerFrame scopeOf placeIn answerLine asked readAsk matches answerOf answerTo served officeCall
 office-marked =
     record {
       answered = refl;

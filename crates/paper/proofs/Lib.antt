@@ -9,3 +9,4 @@ pub mod Groups
 pub mod Outcomes
 pub mod Places
 pub mod Reading
+pub mod LineKinds

@@ -3,17 +3,17 @@ use mathlib.Core.Path.{refl}
 use Rattle.paper.specs.Points.{inRange}
 use Rattle.paper.specs.Orders.{rank, before, follows, flat, fronted}
 use Rattle.paper.specs.Frames.{be, num, glyph, digit, hexes, lineOf, frameOf, ended, sound}
-use Rattle.paper.specs.Fields.{head, front, coordBytes, coordsIn, places, scopeBytes, scopeIn, scopeOk, item, itemBytes, itemPlaces, numbersOk, referencesOk}
+use Rattle.paper.specs.Fields.{head, front, coordBytes, coordsIn, places, inPlaces, scopeBytes, scopeIn, scopeOk, item, itemBytes, itemPlaces, numbersOk, referencesOk}
 use Rattle.paper.specs.Fields as Fields
-use Rattle.paper.specs.Lines.{bareLine, reading, headOk, behind, noScope, askFrame, askRanges, askFits, askOk, askAt, anAsk, noAsk, askOf, answerFrame, answerRanges, answerFits, countIn, answerOk, answerAt, anAnswer, noAnswer, answerOf, claimFrame, claimFits, claimOk, claimAt, aClaim, noClaim, claimOf}
+use Rattle.paper.specs.Lines.{bareLine, reading, headOk, behind, queryAt, queryFits, isAsk, askFrame, askRanges, askFits, askOk, askAt, anAsk, noAsk, askOf, answerFrame, answerRanges, answerFits, countIn, answerOk, answerAt, anAnswer, noAnswer, answerOf, claimFrame, claimFits, claimOk, claimAt, aClaim, noClaim, claimOf}
 use Rattle.paper.specs.Codec.{scopeOf, placeIn, askLine, answered, readAnswer}
 use Rattle.paper.specs.Ends.{opening, presentPlace, every, rising, startedWell, soundIn, asking, sameProbe, sameQuery, samePlace, toPresent, pageHolds, joinedTo, taken, taking}
-use Rattle.paper.specs.Lists.{itemsIn, listing, unusedZero, openedAs, openingHeld, askingHeld, takingHeld, put}
+use Rattle.paper.specs.Lists.{itemsIn, listing, unusedZero, heldWell, openedAs, openingHeld, askingHeld, takingHeld, put}
 use Rattle.paper.specs.LineExamples.{ListsMarked, TakingMarked, LinesMarked, CallsMarked}
 use Rattle.paper.proofs.CallExamples.{limits-marked, making-marked, entering-marked, asking-marked, office-marked}
 
 pub lists-marked : ListsMarked
-unfolding openingHeld opening openedAs inRange unusedZero every itemsIn listing soundIn rising startedWell rank before presentPlace asking askingHeld
+unfolding openingHeld opening openedAs inPlaces places inRange unusedZero heldWell every itemsIn listing soundIn rising startedWell rank before presentPlace asking askingHeld
     be glyph hexes lineOf head front coordBytes scopeBytes askFrame scopeOf askLine
 lists-marked =
     record {
@@ -24,6 +24,7 @@ lists-marked =
       fresh = refl;
       later = refl;
       falling2 = refl;
+      far2 = refl;
       whole16 = refl;
       size0 = refl;
       sizeOver = refl;
@@ -34,9 +35,9 @@ lists-marked =
     }
 
 pub taking-marked : TakingMarked
-unfolding inRange unusedZero every itemsIn listing soundIn rising startedWell rank before presentPlace follows sameProbe sameQuery samePlace toPresent pageHolds
+unfolding inRange unusedZero heldWell every itemsIn listing soundIn rising startedWell rank before presentPlace follows sameProbe sameQuery samePlace toPresent pageHolds
     joinedTo taken taking takingHeld flat fronted put be num glyph digit hexes lineOf frameOf ended sound coordsIn places scopeIn scopeOk
-    Fields.itemsIn itemPlaces numbersOk headOk behind answerRanges countIn answerOk answerAt placeIn answered readAnswer
+    Fields.itemsIn itemPlaces numbersOk headOk behind answerRanges queryAt countIn answerOk answerAt placeIn answered readAnswer
 taking-marked =
     record {
       first = refl;
@@ -64,7 +65,7 @@ taking-marked =
 
 pub lines-marked : LinesMarked
 unfolding inRange be num glyph digit hexes lineOf frameOf ended sound head front coordBytes coordsIn places scopeBytes scopeIn scopeOk item itemBytes
-    Fields.itemsIn itemPlaces numbersOk referencesOk bareLine reading headOk behind noScope askFrame askRanges askFits askOk askAt anAsk noAsk askOf
+    Fields.itemsIn itemPlaces numbersOk referencesOk bareLine reading headOk behind queryAt queryFits isAsk askFrame askRanges askFits askOk askAt anAsk noAsk askOf
     answerFrame answerRanges answerFits countIn answerOk answerAt anAnswer noAnswer answerOf claimFrame claimFits claimOk claimAt aClaim noClaim claimOf
 lines-marked =
     record {
@@ -72,6 +73,7 @@ lines-marked =
       ask12 = refl;
       askSize10 = refl;
       askProbe10 = refl;
+      askFar10 = refl;
       askSnapshot10 = refl;
       answerWritten = refl;
       answer12 = refl;
@@ -84,6 +86,7 @@ lines-marked =
       askNot9 = refl;
       askNot10 = refl;
       askKind10 = refl;
+      askKindNone10 = refl;
       answerRead = refl;
       answerNot9 = refl;
       answerNot10 = refl;

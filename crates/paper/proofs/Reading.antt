@@ -8,36 +8,36 @@ use Rattle.paper.specs.declared.lines.Ask as lines-Ask
 use Rattle.paper.specs.declared.lines.AskRead.{AskRead}
 use Rattle.paper.specs.declared.lines.Answer as lines-Answer
 use Rattle.paper.specs.declared.lines.AnswerRead.{AnswerRead}
-use Rattle.paper.specs.declared.orders.Order.the-variants.{Near}
+use Rattle.paper.specs.declared.orders.Order.{Order}
 use Rattle.paper.specs.Outcomes.{gives, must}
 use Rattle.paper.specs.Frames.{frameOf, sound}
-use Rattle.paper.specs.Lines.{reading, askOk, askAt, anAsk, noAsk, askOf, answerOk, answerAt, anAnswer, noAnswer, answerOf}
+use Rattle.paper.specs.Lines.{reading, isAsk, askAt, anAsk, noAsk, askOf, answerKind, answerOk, answerAt, anAnswer, noAnswer, answerOf}
 use Rattle.paper.specs.Codec.{asked, answered, readAsk, readAnswer}
 
-pub ask-by-refusal : (line : List ℕ) → readAsk line ≡ must (eqb (askOf 1 line .refusal) 0) (askOf 1 line .refusal) (gives (asked Near (askOf 1 line .ask)))
+pub ask-by-refusal : (line : List ℕ) → readAsk line ≡ must (eqb (askOf line .refusal) 0) (askOf line .refusal) (gives (asked (askOf line .ask)))
 unfolding readAsk askOf reading
-ask-by-refusal line = go (sound line) (askOk 1 (frameOf line)) (askAt (frameOf line))
+ask-by-refusal line = go (sound line) (isAsk (frameOf line)) (askAt (frameOf line))
   where
     read : Bool → Bool → lines-Ask.Ask → AskRead
     read a b x = cond a (cond b (anAsk x) (noAsk 10)) (noAsk 9)
 
     go : (a b : Bool) (x : lines-Ask.Ask)
-        → must a 9 (must b 10 (gives (asked Near x))) ≡ must (eqb (read a b x .refusal) 0) (read a b x .refusal) (gives (asked Near (read a b x .ask)))
+        → must a 9 (must b 10 (gives (asked x))) ≡ must (eqb (read a b x .refusal) 0) (read a b x .refusal) (gives (asked (read a b x .ask)))
     go true true x = unfold anAsk in refl
     go true false x = unfold noAsk in refl
     go false b x = unfold noAsk in refl
 
-pub answer-by-refusal : (line : List ℕ)
-    → readAnswer Near line ≡ must (eqb (answerOf 2 line .refusal) 0) (answerOf 2 line .refusal) (gives (answered Near (answerOf 2 line .answer)))
+pub answer-by-refusal : (o : Order) (line : List ℕ)
+    → readAnswer o line ≡ must (eqb (answerOf o line .refusal) 0) (answerOf o line .refusal) (gives (answered (answerOf o line .answer)))
 unfolding readAnswer answerOf reading
-answer-by-refusal line = go (sound line) (answerOk 2 (frameOf line)) (answerAt (frameOf line))
+answer-by-refusal o line = go (sound line) (answerOk (answerKind o) (frameOf line)) (answerAt o (frameOf line))
   where
     read : Bool → Bool → lines-Answer.Answer → AnswerRead
     read a b x = cond a (cond b (anAnswer x) (noAnswer 10)) (noAnswer 9)
 
     go : (a b : Bool) (x : lines-Answer.Answer)
-        → must a 9 (must b 10 (gives (answered Near x)))
-        ≡ must (eqb (read a b x .refusal) 0) (read a b x .refusal) (gives (answered Near (read a b x .answer)))
+        → must a 9 (must b 10 (gives (answered x)))
+        ≡ must (eqb (read a b x .refusal) 0) (read a b x .refusal) (gives (answered (read a b x .answer)))
     go true true x = unfold anAnswer in refl
     go true false x = unfold noAnswer in refl
     go false b x = unfold noAnswer in refl

@@ -9,6 +9,8 @@ use mir.Syntax.{w32}
 use mir.Val.{ofZ, toZ}
 use Rattle.paper.specs.Frames.{be, num}
 use Rattle.paper.specs.declared.lines.Scope.{Scope}
+use Rattle.paper.specs.declared.queries.Query as queries
+use Rattle.paper.specs.Orders.{Query}
 use Rattle.paper.specs.Limits.{itemRoom, mostClaims, mostNumber, mostPlaces}
 
 -- "kind 1, table 4, measure 1, d 1"
@@ -29,18 +31,30 @@ coordsIn (suc d) f = toZ w32 (num 4 f) ∷ coordsIn d (drop 4 f)
 unfoldable pub places : ℕ → List ℤ → List ℤ
 places d zs = zs ++ replicate (mostPlaces - d) (pos 0)
 
+-- a query as code holds it, its probe's unused places 0
+unfoldable pub inPlaces : Query → queries.Query
+inPlaces q =
+    record {
+      order = q .order;
+      table = q .table;
+      measure = q .measure;
+      d = q .d;
+      probe = places (q .d) (q .probe);
+      reach = q .reach;
+    }
+
 -- "reach 8, from 1, snapshot 2, mark distance 8, mark number 2"
-unfoldable pub scopeBytes : Scope → List ℕ
-scopeBytes p = be 8 (p .reach) ++ (be 1 (p .from) ++ (be 2 (p .snapshot) ++ (be 8 (p .distance) ++ be 2 (p .number))))
+unfoldable pub scopeBytes : ℕ → Scope → List ℕ
+scopeBytes reach p = be 8 reach ++ (be 1 (p .from) ++ (be 2 (p .snapshot) ++ (be 8 (p .distance) ++ be 2 (p .number))))
 
 -- what an ask and an answer begin with: "kind 1, table 4, measure 1, d 1, probe 4d, reach 8, .. mark number 2"
-unfoldable pub front : ℕ → ℕ → ℕ → ℕ → List ℤ → Scope → List ℕ
-front k t m d cs p = head k t m d ++ (coordBytes cs ++ scopeBytes p)
+unfoldable pub front : ℕ → Query → Scope → List ℕ
+front k q p = head k (q .table) (q .measure) (q .d) ++ (coordBytes (q .probe) ++ scopeBytes (q .reach) p)
 
--- the scope at the front of a frame
+-- the scope behind the reach at the front of a frame
 unfoldable pub scopeIn : List ℕ → Scope
 scopeIn f =
-    record { reach = num 8 f; from = num 1 (drop 8 f); snapshot = num 2 (drop 9 f); distance = num 8 (drop 11 f); number = num 2 (drop 19 f) }
+    record { from = num 1 (drop 8 f); snapshot = num 2 (drop 9 f); distance = num 8 (drop 11 f); number = num 2 (drop 19 f) }
 
 -- "from 0 or 1, snapshot 0 to 4,096, numbers 0 to 4,095"; "with from 0 the mark fields are 0"
 unfoldable pub scopeOk : Scope → Bool

@@ -11,7 +11,9 @@ use Rattle.paper.specs.declared.lines.Ask.{Ask}
 use Rattle.paper.specs.declared.lines.Answer.{Answer}
 use Rattle.paper.specs.declared.lines.ClaimLine.{ClaimLine}
 use Rattle.paper.specs.declared.lists.List as lists
-use Rattle.paper.specs.declared.orders.Order.the-variants.{Near}
+use Rattle.paper.specs.declared.orders.Order.{Order}
+use Rattle.paper.specs.declared.orders.Order.the-variants.{Near, Far}
+use Rattle.paper.specs.declared.queries.Query as queries
 use Rattle.paper.specs.Orders.{Query}
 use Rattle.paper.specs.Outcomes.{Outcome, refused, gives, number}
 use Rattle.paper.specs.Frames.{lineOf}
@@ -25,26 +27,31 @@ use Rattle.paper.specs.CallExamples.{four, wide, noLine, askBytes, asks,
 
 -- ---- lists
 
+abbrev pub opensIn : Order → ℕ → ℕ → List ℤ → Query
+opensIn order measure d probe = record { order = order; table = 7; measure = measure; d = d; probe = probe; reach = 5 }
+
 abbrev pub opens : ℕ → ℕ → List ℤ → Query
-opens measure d probe = record { order = Near; table = 7; measure = measure; d = d; probe = probe; reach = 5 }
+opens = opensIn Near
 
 -- probe 4 in eight places, the next one as given
 abbrev pub probe : ℕ → List ℤ
 probe next = pos 4 ∷ pos next ∷ replicate 6 (pos 0)
 
-abbrev pub listOf : ℕ → Bool → ℕ → ℕ → Bool → lists.List
-listOf next started snapshot count complete =
+abbrev pub queryOf : Order → ℕ → queries.Query
+queryOf order next = record { order = order; table = 7; measure = 1; d = 1; probe = probe next; reach = 5 }
+
+abbrev pub listIn : Order → ℕ → Bool → ℕ → ℕ → Bool → lists.List
+listIn order next started snapshot count complete =
     record {
-      table = 7;
-      measure = 1;
-      d = 1;
-      probe = probe next;
-      reach = 5;
+      query = queryOf order next;
       started = started;
       snapshot = snapshot;
       count = count;
       complete = complete;
     }
+
+abbrev pub listOf : ℕ → Bool → ℕ → ℕ → Bool → lists.List
+listOf = listIn Near
 
 -- the first page of 2, and behind it the room as it was
 abbrev pub pageRoom : ℕ → List ℕ
@@ -69,11 +76,15 @@ spoiled = held (listOf 1 true 5 2 true) (pageRoom 6)
 abbrev pub falling : Held
 falling = held (listOf 0 true 5 2 false) (4 ∷ 105 ∷ 1 ∷ 1 ∷ 102 ∷ 1 ∷ [])
 
+-- in far order, which has no lines: not sound
+abbrev pub far : Held
+far = held (listIn Far 0 false 0 0 false) []
+
 abbrev pub asked : Held → ℕ → ℕ → Outcome (List ℕ)
-asked s size out = askingHeld lines Near s size out
+asked s size out = askingHeld lines s size out
 
 abbrev pub took : Held → List ℕ → Outcome Listing
-took s line = takingHeld lines Near s line
+took s line = takingHeld lines s line
 
 -- the number that taking gives back, and what is held afterwards
 abbrev pub takes : Held → List ℕ → ℕ × Held
@@ -113,18 +124,15 @@ claimBytes kind = kind ∷ 0 ∷ 0 ∷ 0 ∷ 7 ∷ 1 ∷ 1 ∷ 0 ∷ 0 ∷ 0 ∷
 
 abbrev pub scope : ℕ → ℕ → ℕ → ℕ → Scope
 scope from snapshot distance number =
-    record { reach = 5; from = from; snapshot = snapshot; distance = distance; number = number }
+    record { from = from; snapshot = snapshot; distance = distance; number = number }
 
 abbrev pub askValue : Ask
-askValue = record { table = 7; measure = 1; d = 1; probe = probe 0; scope = scope 0 0 0 0; size = 2 }
+askValue = record { query = queryOf Near 0; scope = scope 0 0 0 0; size = 2 }
 
 abbrev pub answerValue : Answer
 answerValue =
     record {
-      table = 7;
-      measure = 1;
-      d = 1;
-      probe = probe 0;
+      query = queryOf Near 0;
       scope = scope 0 5 0 0;
       last = 0;
       count = 2;
@@ -134,11 +142,11 @@ answerValue =
 abbrev pub claimValue : ClaimLine
 claimValue = record { table = 7; measure = 1; d = 1; reference = 101; coordinates = negsuc 1 ∷ replicate 7 (pos 0) }
 
-abbrev pub writesAsk : List ℤ → Scope → ℕ → ℕ → Outcome (List ℕ)
-writesAsk cs p size out = bareLine (askFits 1 1 cs p size) longestAsk (askFrame 1 7 1 1 cs p size) out
+abbrev pub writesAsk : Query → Scope → ℕ → ℕ → Outcome (List ℕ)
+writesAsk q p size out = bareLine (askFits q p size) longestAsk (askFrame q p size) out
 
 abbrev pub writesAnswer : Scope → ℕ → List ℕ → ℕ → Outcome (List ℕ)
-writesAnswer p count ns out = bareLine (answerFits 1 1 four p 0 count ns) longestAnswer (answerFrame 2 7 1 1 four p 0 count ns) out
+writesAnswer p count ns out = bareLine (answerFits (opens 1 1 four) p 0 count ns) longestAnswer (answerFrame (opens 1 1 four) p 0 count ns) out
 
 abbrev pub writesClaim : List ℤ → ℕ → Outcome (List ℕ)
 writesClaim cs out = bareLine (claimFits 1 1 cs) longestClaim (claimFrame 7 1 1 101 cs) out
@@ -154,6 +162,7 @@ pub record ListsMarked : Type 0 where
   pub fresh : asked (openedIn []) 2 longestAsk ≡ gives sampleAsk
   pub later : asked begun 2 longestAsk ≡ gives (asks 1 7 1 5 1 4 2)
   pub falling2 : asked falling 2 longestAsk ≡ refused 2
+  pub far2 : asked far 2 longestAsk ≡ refused 2
   pub whole16 : asked whole 2 longestAsk ≡ refused 16
   pub size0 : asked begun 0 longestAsk ≡ refused 6
   pub sizeOver : asked begun tooMany longestAsk ≡ refused 6
@@ -195,11 +204,12 @@ pub record TakingMarked : Type 0 where
 -- ---- bare writers: 10, 12; bare readers: 9, 10
 
 pub record LinesMarked : Type 0 where
-  pub askWritten : writesAsk four (scope 0 0 0 0) 2 longestAsk ≡ gives sampleAsk
-  pub ask12 : writesAsk four (scope 0 0 0 0) 2 (longestAsk - 1) ≡ refused 12
-  pub askSize10 : writesAsk four (scope 0 0 0 0) tooMany (longestAsk - 1) ≡ refused 10
-  pub askProbe10 : writesAsk wide (scope 0 0 0 0) 2 longestAsk ≡ refused 10
-  pub askSnapshot10 : writesAsk four (scope 0 5 0 0) 2 longestAsk ≡ refused 10
+  pub askWritten : writesAsk (opens 1 1 four) (scope 0 0 0 0) 2 longestAsk ≡ gives sampleAsk
+  pub ask12 : writesAsk (opens 1 1 four) (scope 0 0 0 0) 2 (longestAsk - 1) ≡ refused 12
+  pub askSize10 : writesAsk (opens 1 1 four) (scope 0 0 0 0) tooMany (longestAsk - 1) ≡ refused 10
+  pub askProbe10 : writesAsk (opens 1 1 wide) (scope 0 0 0 0) 2 longestAsk ≡ refused 10
+  pub askFar10 : writesAsk (opensIn Far 1 1 four) (scope 0 0 0 0) 2 longestAsk ≡ refused 10
+  pub askSnapshot10 : writesAsk (opens 1 1 four) (scope 0 5 0 0) 2 longestAsk ≡ refused 10
   pub answerWritten : writesAnswer (scope 0 5 0 0) 2 (1 ∷ 102 ∷ 1 ∷ 4 ∷ 105 ∷ 1 ∷ []) longestAnswer ≡ gives sampleAnswer
   pub answer12 : writesAnswer (scope 0 5 0 0) 0 [] (longestAnswer - 1) ≡ refused 12
   pub answerMark10 : writesAnswer (scope 0 5 1 0) 0 [] (longestAnswer - 1) ≡ refused 10
@@ -207,14 +217,15 @@ pub record LinesMarked : Type 0 where
   pub claimWritten : writesClaim (negsuc 1 ∷ []) longestClaim ≡ gives (lineOf (claimBytes 3))
   pub claim12 : writesClaim (negsuc 1 ∷ []) (longestClaim - 1) ≡ refused 12
   pub claim10 : writesClaim wide (longestClaim - 1) ≡ refused 10
-  pub askRead : askOf 1 sampleAsk ≡ anAsk askValue
-  pub askNot9 : askOf 1 (askBytes 1 7 0 0 0 0 tooMany) ≡ noAsk 9
-  pub askNot10 : askOf 1 (asks 1 7 0 0 0 0 tooMany) ≡ noAsk 10
-  pub askKind10 : askOf 1 sampleAnswer ≡ noAsk 10
-  pub answerRead : answerOf 2 sampleAnswer ≡ anAnswer answerValue
-  pub answerNot9 : answerOf 2 noLine ≡ noAnswer 9
-  pub answerNot10 : answerOf 2 (answers 7 0 5 0 0 0 tooMany overfull) ≡ noAnswer 10
-  pub answerKind10 : answerOf 2 sampleAsk ≡ noAnswer 10
+  pub askRead : askOf sampleAsk ≡ anAsk askValue
+  pub askNot9 : askOf (askBytes 1 7 0 0 0 0 tooMany) ≡ noAsk 9
+  pub askNot10 : askOf (asks 1 7 0 0 0 0 tooMany) ≡ noAsk 10
+  pub askKind10 : askOf sampleAnswer ≡ noAsk 10
+  pub askKindNone10 : askOf (asks 0 7 0 0 0 0 2) ≡ noAsk 10
+  pub answerRead : answerOf Near sampleAnswer ≡ anAnswer answerValue
+  pub answerNot9 : answerOf Near noLine ≡ noAnswer 9
+  pub answerNot10 : answerOf Near (answers 7 0 5 0 0 0 tooMany overfull) ≡ noAnswer 10
+  pub answerKind10 : answerOf Near sampleAsk ≡ noAnswer 10
   pub claimRead : claimOf (lineOf (claimBytes 3)) ≡ aClaim claimValue
   pub claimNot9 : claimOf (claimBytes 1) ≡ noClaim 9
   pub claimKind10 : claimOf (lineOf (claimBytes 1)) ≡ noClaim 10

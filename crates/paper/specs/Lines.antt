@@ -1,5 +1,5 @@
 -- The three kinds of line. Each has its frame, the test that a writer puts to its fields, the test that a reader puts to a frame, and the
--- value that a frame holds. Asks and answers take the kind's number as a parameter. Assumes nothing.
+-- value that a frame holds. The kinds of asks and answers are said once, by their order. Assumes nothing.
 use Prim.Native.Nat.{ℕ, _+_, _*_}
 use mathlib.Core.Bool.{Bool, cond, _&&_, _||_}
 use mathlib.Core.List.{List, _++_}
@@ -7,9 +7,13 @@ use lib.ListN.{length, drop, replicate}
 use lib.Dec.{leb, eqb}
 use lib.IntN.{ℤ, pos}
 use Rattle.paper.specs.Points.{inRange}
+use Rattle.paper.specs.Orders.{Query}
 use Rattle.paper.specs.Outcomes.{Outcome, refused, gives, must, Promise}
 use Rattle.paper.specs.Frames.{be, num, lineOf, frameOf, sound}
 use Rattle.paper.specs.Fields.{head, coordBytes, coordsIn, places, front, scopeIn, scopeOk, itemBytes, itemsIn, itemPlaces, numbersOk, referencesOk}
+use Rattle.paper.specs.declared.orders.Order.{Order}
+use Rattle.paper.specs.declared.orders.Order.the-variants.{Near, Far}
+use Rattle.paper.specs.declared.queries.Query as queries
 use Rattle.paper.specs.declared.lines.Scope.{Scope}
 use Rattle.paper.specs.declared.lines.Ask.{Ask}
 use Rattle.paper.specs.declared.lines.Answer.{Answer}
@@ -20,6 +24,26 @@ use Rattle.paper.specs.declared.lines.ClaimRead.{ClaimRead}
 use Rattle.paper.specs.declared.lines.Wrote.{Wrote}
 use Rattle.paper.specs.declared.lines.Wrote.the-variants.{Line, Refused}
 use Rattle.paper.specs.Limits.{itemRoom, mostPage, mostPlaces}
+
+-- ---- the kinds of ask and answer
+
+-- the kind of an ask in an order; 0 is none, and lists in far order have no lines yet
+abbrev pub askKind : Order → ℕ
+askKind Near = 1
+askKind Far = 0
+
+-- the kind of an answer in an order
+abbrev pub answerKind : Order → ℕ
+answerKind Near = 2
+answerKind Far = 0
+
+-- the orders that have kinds of line
+abbrev pub spoken : Order → Bool
+spoken o = leb 1 (askKind o)
+
+-- the order whose asks are of a kind, near where there is none
+abbrev pub askOrder : ℕ → Order
+askOrder k = cond (eqb k (askKind Far)) Far Near
 
 -- ---- writing and reading, whatever the kind
 
@@ -44,74 +68,87 @@ bareLine fits need f out = must fits 10 (must (leb need out) 12 (gives (lineOf f
 unfoldable pub reading : {A : Type 0} → (List ℕ → Bool) → (List ℕ → A) → (ℕ → A) → List ℕ → A
 reading ok value none l = cond (sound l) (cond (ok (frameOf l)) (value (frameOf l)) (none 10)) (none 9)
 
--- a frame that begins with a head of kind k, in range
+-- a frame that begins with a head of kind k, in range; none is of kind 0
 unfoldable pub headOk : ℕ → List ℕ → Bool
-headOk k f = eqb (num 1 f) k && inRange (num 1 (drop 5 f)) (num 1 (drop 6 f))
+headOk k f = leb 1 k && (eqb (num 1 f) k && inRange (num 1 (drop 5 f)) (num 1 (drop 6 f)))
 
 -- the frame behind its probe, where the reach stands
 unfoldable pub behind : List ℕ → List ℕ
 behind f = drop (7 + 4 * num 1 (drop 6 f)) f
 
+-- the query of an ask's or an answer's frame
+unfoldable pub queryAt : Order → List ℕ → queries.Query
+queryAt o f =
+    record {
+      order = o;
+      table = num 4 (drop 1 f);
+      measure = num 1 (drop 5 f);
+      d = num 1 (drop 6 f);
+      probe = places (num 1 (drop 6 f)) (coordsIn (num 1 (drop 6 f)) (drop 7 f));
+      reach = num 8 (behind f);
+    }
+
+-- a query that a line can carry: "in a bare writer also probe .. not as many as the fields say"
+unfoldable pub queryFits : Query → Bool
+queryFits q = spoken (q .order) && (inRange (q .measure) (q .d) && eqb (length (q .probe)) (q .d))
+
 -- the fields of a refused line
-unfoldable pub noScope : Scope
-noScope = record { reach = 0; from = 0; snapshot = 0; distance = 0; number = 0 }
+abbrev pub noQuery : queries.Query
+noQuery = record { order = Near; table = 0; measure = 0; d = 0; probe = replicate mostPlaces (pos 0); reach = 0 }
+
+abbrev pub noScope : Scope
+noScope = record { from = 0; snapshot = 0; distance = 0; number = 0 }
 
 -- ---- ask
 
 -- ".. mark number 2, page size 1"
-unfoldable pub askFrame : ℕ → ℕ → ℕ → ℕ → List ℤ → Scope → ℕ → List ℕ
-askFrame k t m d cs p s = front k t m d cs p ++ be 1 s
+unfoldable pub askFrame : Query → Scope → ℕ → List ℕ
+askFrame q p s = front (askKind (q .order)) q p ++ be 1 s
 
 -- "page size 1 to 16"; with from 0 "in an ask the snapshot is 0 too"
 unfoldable pub askRanges : Scope → ℕ → Bool
 askRanges p s = scopeOk p && ((eqb (p .from) 1 || eqb (p .snapshot) 0) && (leb 1 s && leb s mostPage))
 
--- "a field outside its range or zero rule; in a bare writer also probe .. not as many as the fields say"
-unfoldable pub askFits : ℕ → ℕ → List ℤ → Scope → ℕ → Bool
-askFits m d cs p s = inRange m d && (eqb (length cs) d && askRanges p s)
+-- "a field outside its range or zero rule"
+unfoldable pub askFits : Query → Scope → ℕ → Bool
+askFits q p s = queryFits q && askRanges p s
 
 -- "kind not the expected one, length wrong, or a field outside its range or zero rule"; "An ask has 29+4d bytes"
 unfoldable pub askOk : ℕ → List ℕ → Bool
 askOk k f =
     headOk k f && (eqb (length f) (29 + 4 * num 1 (drop 6 f)) && askRanges (scopeIn (behind f)) (num 1 (drop 21 (behind f))))
 
+-- a frame that is an ask in some order
+unfoldable pub isAsk : List ℕ → Bool
+isAsk f = askOk (askKind (askOrder (num 1 f))) f
+
 unfoldable pub askAt : List ℕ → Ask
-askAt f =
-    record {
-      table = num 4 (drop 1 f);
-      measure = num 1 (drop 5 f);
-      d = num 1 (drop 6 f);
-      probe = places (num 1 (drop 6 f)) (coordsIn (num 1 (drop 6 f)) (drop 7 f));
-      scope = scopeIn (behind f);
-      size = num 1 (drop 21 (behind f));
-    }
+askAt f = record { query = queryAt (askOrder (num 1 f)) f; scope = scopeIn (behind f); size = num 1 (drop 21 (behind f)) }
 
 unfoldable pub anAsk : Ask → AskRead
 anAsk a = record { refusal = 0; ask = a }
 
 unfoldable pub noAsk : ℕ → AskRead
-noAsk n =
-    record { refusal = n; ask = record { table = 0; measure = 0; d = 0; probe = replicate mostPlaces (pos 0); scope = noScope; size = 0 } }
+noAsk n = record { refusal = n; ask = record { query = noQuery; scope = noScope; size = 0 } }
 
--- what reading a line as an ask of kind k gives
-unfoldable pub askOf : ℕ → List ℕ → AskRead
-askOf k l = reading (askOk k) (λ f. anAsk (askAt f)) noAsk l
+-- what reading a line as an ask gives
+unfoldable pub askOf : List ℕ → AskRead
+askOf l = reading isAsk (λ f. anAsk (askAt f)) noAsk l
 
 -- ---- answer
 
 -- "the same up to mark number, then last 1, item count 1, items"
-unfoldable pub answerFrame : ℕ → ℕ → ℕ → ℕ → List ℤ → Scope → ℕ → ℕ → List ℕ → List ℕ
-answerFrame k t m d cs p last n ns = front k t m d cs p ++ (be 1 last ++ (be 1 n ++ itemBytes ns))
+unfoldable pub answerFrame : Query → Scope → ℕ → ℕ → List ℕ → List ℕ
+answerFrame q p last n ns = front (answerKind (q .order)) q p ++ (be 1 last ++ (be 1 n ++ itemBytes ns))
 
 -- "last 0 or 1, item count 0 to 16"
 unfoldable pub answerRanges : Scope → ℕ → ℕ → Bool
 answerRanges p last n = scopeOk p && (leb last 1 && leb n mostPage)
 
--- "in a bare writer also probe .. or items not as many as the fields say"
-unfoldable pub answerFits : ℕ → ℕ → List ℤ → Scope → ℕ → ℕ → List ℕ → Bool
-answerFits m d cs p last n ns =
-    inRange m d
-    && (eqb (length cs) d && (answerRanges p last n && (eqb (length ns) (3 * n) && (referencesOk ns && numbersOk ns))))
+-- "in a bare writer also .. items not as many as the fields say"
+unfoldable pub answerFits : Query → Scope → ℕ → ℕ → List ℕ → Bool
+answerFits q p last n ns =
+    queryFits q && (answerRanges p last n && (eqb (length ns) (3 * n) && (referencesOk ns && numbersOk ns)))
 
 -- the item count of an answer's frame
 unfoldable pub countIn : List ℕ → ℕ
@@ -124,13 +161,10 @@ answerOk k f =
     && (eqb (length f) (30 + 4 * num 1 (drop 6 f) + 14 * countIn f)
     && (answerRanges (scopeIn (behind f)) (num 1 (drop 21 (behind f))) (countIn f) && numbersOk (itemsIn (countIn f) (drop 23 (behind f)))))
 
-unfoldable pub answerAt : List ℕ → Answer
-answerAt f =
+unfoldable pub answerAt : Order → List ℕ → Answer
+answerAt o f =
     record {
-      table = num 4 (drop 1 f);
-      measure = num 1 (drop 5 f);
-      d = num 1 (drop 6 f);
-      probe = places (num 1 (drop 6 f)) (coordsIn (num 1 (drop 6 f)) (drop 7 f));
+      query = queryAt o f;
       scope = scopeIn (behind f);
       last = num 1 (drop 21 (behind f));
       count = countIn f;
@@ -142,23 +176,11 @@ anAnswer a = record { refusal = 0; answer = a }
 
 unfoldable pub noAnswer : ℕ → AnswerRead
 noAnswer n =
-    record {
-      refusal = n;
-      answer = record {
-        table = 0;
-        measure = 0;
-        d = 0;
-        probe = replicate mostPlaces (pos 0);
-        scope = noScope;
-        last = 0;
-        count = 0;
-        items = replicate itemRoom 0;
-      };
-    }
+    record { refusal = n; answer = record { query = noQuery; scope = noScope; last = 0; count = 0; items = replicate itemRoom 0 } }
 
--- what reading a line as an answer of kind k gives
-unfoldable pub answerOf : ℕ → List ℕ → AnswerRead
-answerOf k l = reading (answerOk k) (λ f. anAnswer (answerAt f)) noAnswer l
+-- what reading a line as an answer in an order gives
+unfoldable pub answerOf : Order → List ℕ → AnswerRead
+answerOf o l = reading (answerOk (answerKind o)) (λ f. anAnswer (answerAt o f)) noAnswer l
 
 -- ---- claim
 

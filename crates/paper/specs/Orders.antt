@@ -12,6 +12,7 @@ use Rattle.paper.specs.declared.orders.Order.{Order}
 use Rattle.paper.specs.declared.orders.Order.the-variants.{Near, Far}
 use Rattle.paper.specs.declared.orders.Place.{Place}
 use Rattle.paper.specs.declared.orders.Place.the-variants.{Start, After}
+use Rattle.paper.specs.declared.queries.Query as queries
 use Rattle.paper.specs.Points.{measureOf, distance, greatestOf, Claim, noClaim}
 
 -- "Each item is number, reference, distance."
@@ -31,6 +32,18 @@ pub record Query : Type 0 where
   pub d : ℕ
   pub probe : List ℤ
   pub reach : ℕ
+
+-- a query as code holds it: of the eight places of its probe the first d count
+abbrev pub queryIn : queries.Query → Query
+queryIn q =
+    record {
+      order = q .order;
+      table = q .table;
+      measure = q .measure;
+      d = q .d;
+      probe = take (q .d) (q .probe);
+      reach = q .reach;
+    }
 
 -- an order's rank of a distance: "smaller distance from the probe first" in near order, "the largest distance" in far order
 unfoldable pub rank : Order → ℕ → ℕ

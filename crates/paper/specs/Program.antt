@@ -5,11 +5,10 @@ use mathlib.Core.List.{List, [], _∷_, _++_}
 use lib.Dec.{ltb, leb, eqb}
 use lib.ListN.{take}
 use Rattle.paper.specs.declared.lines.ClaimLine.{ClaimLine}
-use Rattle.paper.specs.declared.orders.Order.the-variants.{Near}
 use Rattle.paper.specs.Points.{Claim}
 use Rattle.paper.specs.Outcomes.{Outcome, refused, gives, must, onto}
 use Rattle.paper.specs.Frames.{frameOf, sound}
-use Rattle.paper.specs.Lines.{askOk, askAt, claimOk, claimAt}
+use Rattle.paper.specs.Lines.{isAsk, askAt, claimOk, claimAt}
 use Rattle.paper.specs.Ends.{Table, count, Ask, answerTo}
 use Rattle.paper.specs.Codec.{asked, answerLine}
 use Rattle.paper.specs.Limits.{officeClaims}
@@ -83,7 +82,7 @@ unfoldable pub frameTurn : Books → List ℕ → Turn
 frameTurn b f =
     cond (claimOk f)
     (claimTurn b (entering (tableFor b (claimAt f)) (claimAt f)))
-    (cond (askOk 1 f) (askTurn b (reply b (asked Near (askAt f)))) (turn b (refusal 10)))
+    (cond (isAsk f) (askTurn b (reply b (asked (askAt f)))) (turn b (refusal 10)))
 
 -- "Checks: 9, 10, 11, then 3 for a claim or 7, 8 for an ask"
 unfoldable pub lineTurn : Books → List ℕ → Turn

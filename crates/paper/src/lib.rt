@@ -6,4 +6,5 @@ pub mod lines;
 pub mod lists;
 pub mod orders;
 pub mod points;
+pub mod queries;
 pub mod tables;

@@ -1,17 +1,55 @@
 // The three kinds of line as values: what readers give, and what writers answer.
 ghost use mathlib.Core.Path.{_≡_};
 ghost use Rattle.paper.specs.Fields.{flagOf};
+ghost use Rattle.paper.specs.Lines.{askKind, answerKind, spoken, askOrder};
 ghost use Rattle.paper.specs.Codec.{placeIn};
 use crate::limits::ITEM_ROOM;
 use crate::limits::MOST_CLAIMS;
 use crate::limits::MOST_PLACES;
 use crate::orders::Mark;
+use crate::orders::Order;
 use crate::orders::Place;
+use crate::queries::Query;
 
-// What an ask and an answer have behind the probe: distance and number are the mark.
-#[repr(C)]
+// The kind of an ask in an order; 0 is none, and lists in far order have no lines yet.
+pub fn ask_kind(order: Order) -> u8
+    ensures { λ r. ⌜ r ≡ askKind order ⌝ }
+{
+    match order {
+        Order::Near => 1,
+        Order::Far => 0,
+    }
+}
+
+// The kind of an answer in an order.
+pub fn answer_kind(order: Order) -> u8
+    ensures { λ r. ⌜ r ≡ answerKind order ⌝ }
+{
+    match order {
+        Order::Near => 2,
+        Order::Far => 0,
+    }
+}
+
+// Whether an order has kinds of line.
+pub fn has_lines(order: Order) -> bool
+    ensures { λ r. ⌜ r ≡ spoken order ⌝ }
+{
+    1 <= ask_kind(order)
+}
+
+// The order whose asks are of a kind, near where there is none.
+pub fn ask_order(kind: u64) -> Order
+    ensures { λ r. ⌜ r ≡ askOrder kind ⌝ }
+{
+    if kind == ask_kind(Order::Far) as u64 {
+        return Order::Far;
+    }
+    Order::Near
+}
+
+// What an ask and an answer have behind the reach: distance and number are the mark.
 pub struct Scope {
-    pub reach: u64,
     pub from: u8,
     pub snapshot: u16,
     pub distance: u64,
@@ -23,25 +61,25 @@ impl Scope {
     pub const MOST_SNAPSHOT: u16 = MOST_CLAIMS as u16;
 
     pub const MOST_NUMBER: u16 = MOST_CLAIMS as u16 - 1;
+
+    // What stands beside a refusal.
+    pub const NONE: Scope = Scope {
+        from: 0,
+        snapshot: 0,
+        distance: 0,
+        number: 0,
+    };
 }
 
-#[repr(C)]
 pub struct Ask {
-    pub table: u32,
-    pub measure: u8,
-    pub d: u8,
-    pub probe: [i32; MOST_PLACES],
+    pub query: Query,
     pub scope: Scope,
     pub size: u8,
 }
 
 // The items are triples of number, reference and distance; places that are not in use hold 0, here as in a probe.
-#[repr(C)]
 pub struct Answer {
-    pub table: u32,
-    pub measure: u8,
-    pub d: u8,
-    pub probe: [i32; MOST_PLACES],
+    pub query: Query,
     pub scope: Scope,
     pub last: u8,
     pub count: u8,
@@ -58,13 +96,11 @@ pub struct ClaimLine {
 }
 
 // What a reader gives: refusal 0 beside the fields, or 9 or 10 beside zeros.
-#[repr(C)]
 pub struct AskRead {
     pub refusal: u8,
     pub ask: Ask,
 }
 
-#[repr(C)]
 pub struct AnswerRead {
     pub refusal: u8,
     pub answer: Answer,

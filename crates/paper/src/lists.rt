@@ -1,14 +1,9 @@
 // Document 01, "The two ends": a tablet's list. Its items lie in memory that the caller lends, three numbers for each.
 use crate::limits::MOST_CLAIMS;
-use crate::limits::MOST_PLACES;
+use crate::queries::Query;
 
 pub struct List {
-    pub table: u32,
-    pub measure: u8,
-    pub d: usize,
-    // Unused places are 0.
-    pub probe: [i32; MOST_PLACES],
-    pub reach: u64,
+    pub query: Query,
     pub started: bool,
     pub snapshot: u64,
     // Items held.

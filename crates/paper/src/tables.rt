@@ -28,7 +28,7 @@ pub enum Entered {
 }
 
 // Whether a line is about this table: its number, measure and d, the test behind 11.
-pub fn is_ours(t: Table, number: u32, measure: u8, d: u8) -> bool
+pub fn is_ours(t: Table, number: u32, measure: u8, d: usize) -> bool
     ensures { λ r. ⌜ r ≡ eqb number (t .number) && (eqb measure (t .measure) && eqb d (t .d)) ⌝ }
 {
     if number != t.number {
@@ -37,5 +37,5 @@ pub fn is_ours(t: Table, number: u32, measure: u8, d: u8) -> bool
     if measure != t.measure {
         return false;
     }
-    d as usize == t.d
+    d == t.d
 }

@@ -13,7 +13,6 @@ use Rattle.paper.specs.declared.lines.Ask as lines-Ask
 use Rattle.paper.specs.declared.lines.ClaimLine.{ClaimLine}
 use Rattle.paper.specs.declared.lines.Wrote.{Wrote}
 use Rattle.paper.specs.declared.lines.Wrote.the-variants.{Line, Refused}
-use Rattle.paper.specs.declared.orders.Order.the-variants.{Near}
 use Rattle.paper.specs.declared.tables.Table.{Table}
 use Rattle.paper.specs.Points.{InRange, point}
 use Rattle.paper.specs.Orders.{snapshotHolds, markHolds}
@@ -21,7 +20,7 @@ use Rattle.paper.specs.Tree.{Store, store, built, claimsFrom, claimsIn}
 use Rattle.paper.specs.Runs.{added}
 use Rattle.paper.specs.Outcomes.{Outcome, refused, gives, must, onto}
 use Rattle.paper.specs.Frames.{frameOf, sound}
-use Rattle.paper.specs.Lines.{askOk, askAt, claimOk, claimAt}
+use Rattle.paper.specs.Lines.{isAsk, askAt, claimOk, claimAt}
 use Rattle.paper.specs.Ends.{Ask, tableOf, matches, answerOf, answerTo}
 use Rattle.paper.specs.Ends as Ends
 use Rattle.paper.specs.Codec.{asked, answerLine}
@@ -296,13 +295,13 @@ module _ (s : Store) (f : List ℕ) (out : List ℕ) (at : ℕ) (l : List ℕ) (
   unfolding frameTurn
   frame-claim x c q is v = rw q (rw is at v)
 
-  pub frame-ask : (a : lines-Ask.Ask) → Ready s → claimOk f ≡ false → askOk 1 f ≡ true → a ≡ askAt f
-      → Put (askTurn (booksOf s) (reply (booksOf s) (asked Near a)) .said) out at l e → Served (frameTurn (booksOf s) f) s out at l e
+  pub frame-ask : (a : lines-Ask.Ask) → Ready s → claimOk f ≡ false → isAsk f ≡ true → a ≡ askAt f
+      → Put (askTurn (booksOf s) (reply (booksOf s) (asked a)) .said) out at l e → Served (frameTurn (booksOf s) f) s out at l e
   unfolding frameTurn
   frame-ask a r p q is v =
-      rw (p, q) (record { books = ask-books (booksOf s) (reply (booksOf s) (asked Near (askAt f))); ready = r; said = rw is at v })
+      rw (p, q) (record { books = ask-books (booksOf s) (reply (booksOf s) (asked (askAt f))); ready = r; said = rw is at v })
 
-  pub frame-none : Ready s → claimOk f ≡ false → askOk 1 f ≡ false → Put (refusal 10) out at l e → Served (frameTurn (booksOf s) f) s out at l e
+  pub frame-none : Ready s → claimOk f ≡ false → isAsk f ≡ false → Put (refusal 10) out at l e → Served (frameTurn (booksOf s) f) s out at l e
   unfolding frameTurn
   frame-none r p q v = rw (p, q) (refused-turn s 10 out at l e r v)
 

@@ -1,4 +1,4 @@
-// An ask line of an order: its answer line, or a refusal.
+// An ask line: its answer line, or a refusal.
 ghost use lib.ListN.{length};
 ghost use Rattle.paper.specs.Tree.{lent};
 ghost use Rattle.paper.specs.Codec.{asked};
@@ -7,7 +7,6 @@ ghost use Rattle.serve.specs.Serving.{Put, booksOf, Asking};
 use super::saying::refuse;
 use paper::lines::Ask;
 use paper::lines::Wrote;
-use paper::orders::Order;
 use paper::tables::Table;
 
 pub fn take_ask(
@@ -15,26 +14,17 @@ pub fn take_ask(
     references: &[u32],
     coordinates: &[i32],
     rooms: &[u64],
-    order: Order,
     ask: Ask,
     out: &mut [u8],
     at: usize,
 ) -> usize
     requires { ⌜ Asking (lent t references coordinates rooms) ask (length (now out)) at ⌝ }
-    ensures { λ r. ⌜ Put (askTurn (booksOf (lent t (references .entry) (coordinates .entry) (rooms .entry))) (reply (booksOf (lent t (references .entry) (coordinates .entry) (rooms .entry))) (asked order ask)) .said) (now (out .entry)) at (now (out .exit)) r ⌝ }
+    ensures { λ r. ⌜ Put (askTurn (booksOf (lent t (references .entry) (coordinates .entry) (rooms .entry))) (reply (booksOf (lent t (references .entry) (coordinates .entry) (rooms .entry))) (asked ask)) .said) (now (out .entry)) at (now (out .exit)) r ⌝ }
 {
     if t.count == 0 {
         return refuse(out, at, 11);
     }
-    let wrote = desk::answer_ask(
-        t,
-        references,
-        coordinates,
-        rooms,
-        order,
-        ask,
-        &mut out[at..],
-    );
+    let wrote = desk::answer_ask(t, references, coordinates, rooms, ask, &mut out[at..]);
     match wrote {
         Wrote::Line(n) => at + n,
         Wrote::Refused(n) => refuse(out, at, n),

@@ -45,7 +45,7 @@ pub fn take_claim(
     ensures { λ r. ⌜ Served (claimTurn (booksOf (lent t (references .entry) (coordinates .entry) (rooms .entry))) (entering (tableFor (booksOf (lent t (references .entry) (coordinates .entry) (rooms .entry))) c) c)) (lent (r .table) (references .exit) (coordinates .exit) (rooms .exit)) (now (out .entry)) at (now (out .exit)) (r .at) ⌝ }
 {
     let header = header_for(t, c);
-    if !is_ours(header, c.table, c.measure, c.d) {
+    if !is_ours(header, c.table, c.measure, c.d as usize) {
         let end = refuse(out, at, 11);
         return Step { table: t, at: end };
     }

@@ -11,7 +11,6 @@ use super::claims::Step;
 use super::claims::take_claim;
 use super::saying::refuse;
 use paper::limits::LONGEST_FRAME;
-use paper::orders::Order;
 use paper::tables::Table;
 
 // Serves the line whose frame is `src`.
@@ -31,10 +30,9 @@ fn serve_frame(
         let claim = lines::claim_at(src);
         return take_claim(t, references, coordinates, rooms, claim, out, at);
     }
-    if lines::ask_ok(src, 1) {
+    if lines::ask_ok(src) {
         let ask = lines::ask_at(src);
-        let near = Order::Near;
-        let end = take_ask(t, references, coordinates, rooms, near, ask, out, at);
+        let end = take_ask(t, references, coordinates, rooms, ask, out, at);
         return Step { table: t, at: end };
     }
     let end = refuse(out, at, 10);

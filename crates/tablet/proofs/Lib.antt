@@ -2,4 +2,3 @@ pub mod ItemLaws
 pub mod ListLaws
 pub mod TakeLaws
 pub mod EndLaws
-pub mod PadLaws

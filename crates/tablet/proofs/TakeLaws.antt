@@ -12,14 +12,16 @@ use borrow.Author.Tests.{le-leb, lt-leb, leb-true, eq-eqb, ne-eqb, not-true, not
 use Rattle.paper.specs.declared.lines.Answer.{Answer}
 use Rattle.paper.specs.declared.lines.Scope.{Scope}
 use Rattle.paper.specs.declared.lists.List as lists
+use Rattle.paper.specs.declared.queries.Query as queries
 use Rattle.paper.specs.declared.lists.Taken.{Taken}
 use Rattle.paper.specs.declared.orders.Mark.{Mark}
 use Rattle.paper.specs.declared.orders.Order.{Order}
 use Rattle.paper.specs.declared.orders.Place.{Place}
 use Rattle.paper.specs.declared.orders.Place.the-variants.{Start, After}
-use Rattle.paper.specs.Orders.{Item, noItem, follows, snapshotOf, flat, fronted}
+use Rattle.paper.specs.Orders.{Item, noItem, queryIn, follows, snapshotOf, flat, fronted}
 use Rattle.paper.specs.Ends.{every, rising, fitting, lastItem, presentPlace, sameProbe, sameQuery, samePlace, toPresent, pageHolds, startedWell, soundIn, joinedTo, taken, Listing}
-use Rattle.paper.specs.Lists.{Takes, takenAs, putItems, held, itemsIn, queryOf, listing, unusedZero, soundHeld}
+use Rattle.paper.specs.Lines.{spoken}
+use Rattle.paper.specs.Lists.{Takes, takenAs, putItems, held, itemsIn, listing, heldWell, soundHeld}
 use Rattle.paper.specs.Codec.{placeIn, scopeOf, answered}
 use Rattle.paper.specs.Outcomes.{Outcome, refused, gives, must}
 use Rattle.paper.specs.Points.{inRange}
@@ -64,41 +66,44 @@ module _ (p q : Scope) where
           rw (ne-eqb (p .from) 0 hp, ne-eqb (q .from) 0 hq, eq-eqb (p .snapshot) (q .snapshot) e, eq-eqb (p .distance) (q .distance) f)
 
 -- what was written reads back
-pub place-back : (reach : ℕ) (p : Place) → placeIn (scopeOf reach p (snapshotOf p 0)) ≡ p
+pub place-back : (p : Place) → placeIn (scopeOf p (snapshotOf p 0)) ≡ p
 unfolding placeIn scopeOf
-place-back reach Start = refl
-place-back reach (After n m) = refl
+place-back Start = refl
+place-back (After n m) = refl
 
 -- ---- queries
 
-module _ (l : lists.List) (y : Answer) where
-  pub query-table : (l .table ≡ y .table → ⊥) → (o : Order) → false ≡ sameQuery (queryOf o l) (answered o y .query)
-  unfolding sameQuery answered
-  query-table h o = rw (ne-eqb (l .table) (y .table) h)
+module _ (p q : queries.Query) where
+  abbrev same : Bool
+  same = sameQuery (queryIn p) (queryIn q)
 
-  module _ (ht : l .table ≡ y .table) where
-    pub query-measure : (l .measure ≡ y .measure → ⊥) → (o : Order) → false ≡ sameQuery (queryOf o l) (answered o y .query)
-    unfolding sameQuery answered
-    query-measure h o = rw (eq-eqb (l .table) (y .table) ht, ne-eqb (l .measure) (y .measure) h)
+  pub query-table : (p .table ≡ q .table → ⊥) → false ≡ same
+  unfolding sameQuery
+  query-table h = rw (ne-eqb (p .table) (q .table) h)
 
-    module _ (hm : l .measure ≡ y .measure) where
-      pub query-d : (l .d ≡ y .d → ⊥) → (o : Order) → false ≡ sameQuery (queryOf o l) (answered o y .query)
-      unfolding sameQuery answered
-      query-d h o = rw (eq-eqb (l .table) (y .table) ht, eq-eqb (l .measure) (y .measure) hm, ne-eqb (l .d) (y .d) h)
+  module _ (ht : p .table ≡ q .table) where
+    pub query-measure : (p .measure ≡ q .measure → ⊥) → false ≡ same
+    unfolding sameQuery
+    query-measure h = rw (eq-eqb (p .table) (q .table) ht, ne-eqb (p .measure) (q .measure) h)
 
-      module _ (hd : l .d ≡ y .d) (b : Bool) (be : b ≡ sameProbe (l .d) (l .probe) (y .probe)) where
-        probes : sameProbe (l .d) (take (l .d) (l .probe)) (take (y .d) (y .probe)) ≡ b
-        probes = same-take (l .d) (l .d) (y .d) (l .probe) (y .probe) (omega arith) (omega arith) ∙ sym be
+    module _ (hm : p .measure ≡ q .measure) where
+      pub query-d : (p .d ≡ q .d → ⊥) → false ≡ same
+      unfolding sameQuery
+      query-d h = rw (eq-eqb (p .table) (q .table) ht, eq-eqb (p .measure) (q .measure) hm, ne-eqb (p .d) (q .d) h)
 
-        pub query-probe : not b ≡ true → (o : Order) → false ≡ sameQuery (queryOf o l) (answered o y .query)
-        unfolding sameQuery answered
-        query-probe h o =
-            rw (eq-eqb (l .table) (y .table) ht, eq-eqb (l .measure) (y .measure) hm, eq-eqb (l .d) (y .d) hd, probes, not-true b h)
+      module _ (hd : p .d ≡ q .d) (b : Bool) (be : b ≡ sameProbe (p .d) (p .probe) (q .probe)) where
+        probes : sameProbe (p .d) (take (p .d) (p .probe)) (take (q .d) (q .probe)) ≡ b
+        probes = same-take (p .d) (p .d) (q .d) (p .probe) (q .probe) (omega arith) (omega arith) ∙ sym be
 
-        pub query-reach : not b ≡ false → (o : Order) → eqb (l .reach) (y .scope .reach) ≡ sameQuery (queryOf o l) (answered o y .query)
-        unfolding sameQuery answered
-        query-reach h o =
-            rw (eq-eqb (l .table) (y .table) ht, eq-eqb (l .measure) (y .measure) hm, eq-eqb (l .d) (y .d) hd, probes, not-false b h)
+        pub query-probe : not b ≡ true → false ≡ same
+        unfolding sameQuery
+        query-probe h =
+            rw (eq-eqb (p .table) (q .table) ht, eq-eqb (p .measure) (q .measure) hm, eq-eqb (p .d) (q .d) hd, probes, not-true b h)
+
+        pub query-reach : not b ≡ false → eqb (p .reach) (q .reach) ≡ same
+        unfolding sameQuery
+        query-reach h =
+            rw (eq-eqb (p .table) (q .table) ht, eq-eqb (p .measure) (q .measure) hm, eq-eqb (p .d) (q .d) hd, probes, not-false b h)
 
 -- ---- the present ask
 
@@ -124,57 +129,59 @@ last-at : (n : ℕ) (room : List ℕ) → 1 ≤ n → lastItem (itemsIn n room) 
 last-at n room h = rw (length-in n room) (item-get n (n - 1) room (omega arith))
 
 module _ (l : lists.List) (room : List ℕ) where
-  pub present-after : l .started ≡ true → 1 ≤ l .count → (o : Order)
-      → record { reach = l .reach; from = 1; snapshot = l .snapshot; distance = getD room (l .count * 3 - 1) 0; number = getD room (l .count * 3 - 3) 0 }
-      ≡ scopeOf (l .reach) (presentPlace (listing o (held l room))) (snapshotOf (presentPlace (listing o (held l room))) 0)
+  abbrev now-at : Place
+  now-at = presentPlace (listing (held l room))
+
+  pub present-after : l .started ≡ true → 1 ≤ l .count
+      → record { from = 1; snapshot = l .snapshot; distance = getD room (l .count * 3 - 1) 0; number = getD room (l .count * 3 - 3) 0 } ≡ scopeOf now-at (snapshotOf now-at 0)
   unfolding presentPlace listing scopeOf
-  present-after s h o =
+  present-after s h =
       let a : (l .count - 1) * 3 ≡ l .count * 3 - 3 = omega arith in
       let b : l .count * 3 - 3 + 2 ≡ l .count * 3 - 1 = omega arith in
       rw (s, last-at (l .count) room h, a, b)
 
-  pub present-start : l .started ≡ false → (o : Order)
-      → record { reach = l .reach; from = 0; snapshot = 0; distance = 0; number = 0 }
-      ≡ scopeOf (l .reach) (presentPlace (listing o (held l room))) (snapshotOf (presentPlace (listing o (held l room))) 0)
+  pub present-start : l .started ≡ false → record { from = 0; snapshot = 0; distance = 0; number = 0 } ≡ scopeOf now-at (snapshotOf now-at 0)
   unfolding presentPlace listing scopeOf
-  present-start s o = rw s
+  present-start s = rw s
 
-  module _ (y : Answer) (a : Bool) (ae : (o : Order) → a ≡ sameQuery (queryOf o l) (answered o y .query)) where
-    pub present-query : not a ≡ true → (o : Order) → false ≡ toPresent (listing o (held l room)) (answered o y)
-    unfolding toPresent listing
-    present-query h o = rw (← ae o, not-true a h)
-
-    pub present-place : not a ≡ false → (p : Scope)
-        → ((o : Order) → p ≡ scopeOf (l .reach) (presentPlace (listing o (held l room))) (snapshotOf (presentPlace (listing o (held l room))) 0))
-        → (r : Bool) → r ≡ samePlace (placeIn p) (placeIn (y .scope)) → (o : Order) → r ≡ toPresent (listing o (held l room)) (answered o y)
+  module _ (y : Answer) (a : Bool) (ae : a ≡ sameQuery (queryIn (l .query)) (queryIn (y .query))) where
+    pub present-query : not a ≡ true → false ≡ toPresent (listing (held l room)) (answered y)
     unfolding toPresent listing answered
-    present-place h p pe r e o =
-        let b : placeIn p ≡ presentPlace (listing o (held l room)) = ap placeIn (pe o) ∙ place-back (l .reach) (presentPlace (listing o (held l room))) in
-        e ∙ ap (λ (u : Place). samePlace u (placeIn (y .scope))) b ∙ rw (← ae o, not-false a h)
+    present-query h = rw (← ae, not-true a h)
+
+    pub present-place : not a ≡ false → (p : Scope) → p ≡ scopeOf now-at (snapshotOf now-at 0)
+        → (r : Bool) → r ≡ samePlace (placeIn p) (placeIn (y .scope)) → r ≡ toPresent (listing (held l room)) (answered y)
+    unfolding toPresent listing answered
+    present-place h p pe r e =
+        let b : placeIn p ≡ now-at = ap placeIn pe ∙ place-back now-at in
+        e ∙ ap (λ (u : Place). samePlace u (placeIn (y .scope))) b ∙ rw (← ae, not-false a h)
 
 -- ---- the page
 
-module _ (o : Order) (y : Answer) (u : Place) (ue : u ≡ placeIn (y .scope)) (a : Bool)
-    (ae : a ≡ itemsHold o u (y .scope .reach) (y .scope .snapshot) (itemsIn (y .count) (y .items))) where
-  page-splits : pageHolds (answered o y) ≡ a && (leb 1 (y .count) || eqb (y .last) 1)
+module _ (y : Answer) (u : Place) (ue : u ≡ placeIn (y .scope)) (a : Bool)
+    (ae : a ≡ itemsHold (y .query .order) u (y .query .reach) (y .scope .snapshot) (itemsIn (y .count) (y .items))) where
+  abbrev o : Order
+  o = y .query .order
+
+  page-splits : pageHolds (answered y) ≡ a && (leb 1 (y .count) || eqb (y .last) 1)
   unfolding pageHolds answered
   page-splits =
-      rw (ae, ue, pass-means o (placeIn (y .scope)) (y .scope .reach) (y .scope .snapshot) (itemsIn (y .count) (y .items)), length-in (y .count) (y .items))
+      rw (ae, ue, pass-means o (placeIn (y .scope)) (y .query .reach) (y .scope .snapshot) (itemsIn (y .count) (y .items)), length-in (y .count) (y .items))
       (and-group (rising o (itemsIn (y .count) (y .items))) (every (follows o (placeIn (y .scope))) (itemsIn (y .count) (y .items)))
-      (every (fitting (y .scope .reach) (y .scope .snapshot)) (itemsIn (y .count) (y .items))) (leb 1 (y .count) || eqb (y .last) 1))
+      (every (fitting (y .query .reach) (y .scope .snapshot)) (itemsIn (y .count) (y .items))) (leb 1 (y .count) || eqb (y .last) 1))
     where
       and-group : (r w f e : Bool) → r && (w && (f && e)) ≡ (r && (w && f)) && e
       and-group true true f e = refl
       and-group true false f e = refl
       and-group false w f e = refl
 
-  pub page-items : not a ≡ true → false ≡ pageHolds (answered o y)
+  pub page-items : not a ≡ true → false ≡ pageHolds (answered y)
   page-items h = rw (page-splits, not-true a h)
 
-  pub page-some : not a ≡ false → 1 ≤ y .count → true ≡ pageHolds (answered o y)
+  pub page-some : not a ≡ false → 1 ≤ y .count → true ≡ pageHolds (answered y)
   page-some h k = rw (page-splits, not-false a h, le-leb 1 (y .count) k)
 
-  pub page-none : not a ≡ false → y .count < 1 → eqb (y .last) 1 ≡ pageHolds (answered o y)
+  pub page-none : not a ≡ false → y .count < 1 → eqb (y .last) 1 ≡ pageHolds (answered y)
   page-none h k = rw (page-splits, not-false a h, lt-leb 1 (y .count) k)
 
 -- ---- taking
@@ -208,10 +215,10 @@ last-below n room reach snapshot h e =
     rw a at b
 
 -- what soundness says of a list that is not complete
-module _ (o : Order) (l : lists.List) (room : List ℕ) (sound : soundHeld o (held l room) ≡ true) where
-  parts : soundIn (length room / 3) (listing o (held l room)) ≡ true
+module _ (l : lists.List) (room : List ℕ) (sound : soundHeld (held l room) ≡ true) where
+  parts : soundIn (length room / 3) (listing (held l room)) ≡ true
   unfolding soundHeld
-  parts = and-second (unusedZero (l .d) (l .probe)) _ sound
+  parts = and-second (heldWell (l .query)) _ sound
 
   abbrev items : List Item
   items = itemsIn (l .count) room
@@ -219,30 +226,31 @@ module _ (o : Order) (l : lists.List) (room : List ℕ) (sound : soundHeld o (he
   pub sound-few : l .count ≤ length room / 3
   unfolding soundIn listing
   sound-few =
-      let a = and-second (inRange (l .measure) (l .d)) _ parts in
-      let b = and-second (eqb (length (take (l .d) (l .probe))) (l .d)) _ a in
+      let a = and-second (inRange (l .query .measure) (l .query .d)) _ parts in
+      let b = and-second (eqb (length (take (l .query .d) (l .query .probe))) (l .query .d)) _ a in
       let e = and-second (leb (l .snapshot) mostClaims) _ b in
       let f : length items ≤ length room / 3 = leb-true (length items) (length room / 3) (and-first (leb (length items) (length room / 3)) _ e) in
       omega (arith, length-in (l .count) room)
 
   pub sound-asks : l .complete ≡ false → Asks l room
-  unfolding soundIn listing startedWell startedBy
+  unfolding soundHeld heldWell soundIn listing startedWell startedBy
   sound-asks open₀ =
-      let a = and-second (inRange (l .measure) (l .d)) _ parts in
-      let b = and-second (eqb (length (take (l .d) (l .probe))) (l .d)) _ a in
+      let a = and-second (inRange (l .query .measure) (l .query .d)) _ parts in
+      let b = and-second (eqb (length (take (l .query .d) (l .query .probe))) (l .query .d)) _ a in
       let e = and-second (leb (l .snapshot) mostClaims) _ b in
       let f = and-second (leb (length items) (length room / 3)) _ e in
-      let g = and-second (rising o items) _ f in
-      let fit = and-first (every (fitting (l .reach) (l .snapshot)) items) _ g in
-      let well = and-second (every (fitting (l .reach) (l .snapshot)) items) _ g in
+      let g = and-second (rising (l .query .order) items) _ f in
+      let fit = and-first (every (fitting (l .query .reach) (l .snapshot)) items) _ g in
+      let well = and-second (every (fitting (l .query .reach) (l .snapshot)) items) _ g in
       let some : l .started ≡ true → 1 ≤ l .count =
       λ s. let i : 1 ≤ length items = has-item (l .started) (l .complete) (length items) (l .snapshot) s open₀ well in omega (arith, length-in (l .count) room) in
       record {
-        range = and-first (inRange (l .measure) (l .d)) _ parts;
+        known = and-first (spoken (l .query .order)) _ (and-first (heldWell (l .query)) _ sound);
+        range = and-first (inRange (l .query .measure) (l .query .d)) _ parts;
         few = omega (arith, sound-few);
         snapshot = leb-true (l .snapshot) mostClaims (and-first (leb (l .snapshot) mostClaims) _ b);
         some = some;
-        below = λ s. last-below (l .count) room (l .reach) (l .snapshot) (some s) fit;
+        below = λ s. last-below (l .count) room (l .query .reach) (l .snapshot) (some s) fit;
       }
 
 -- ---- the ways through `take_answer`
@@ -251,53 +259,53 @@ module _ (o : Order) (l : lists.List) (room : List ℕ) (sound : soundHeld o (he
 pub takes-refused : (l : lists.List) (x : Outcome Listing) (n : ℕ) (room : List ℕ) (r : Taken) → x ≡ refused n → r ≡ record { refusal = n; list = l } → Takes l x room r room
 takes-refused l x n room r e q = promise-refused (takenAs l) putItems x room n r e q
 
-module _ (o : Order) (l : lists.List) (room : List ℕ) (y : Answer) where
+module _ (l : lists.List) (room : List ℕ) (y : Answer) where
   abbrev L : Listing
-  L = listing o (held l room)
+  L = listing (held l room)
 
   abbrev call : Outcome Listing
-  call = taken (length room / 3) L (answered o y)
+  call = taken (length room / 3) L (answered y)
 
   pub take-16 : l .complete ≡ true → call ≡ refused 16
   unfolding taken listing
   take-16 h = must-stop (not (l .complete)) 16 _ (ap not h)
 
-  module _ (hc : l .complete ≡ false) (a : Bool) (ae : a ≡ toPresent L (answered o y)) where
+  module _ (hc : l .complete ≡ false) (a : Bool) (ae : a ≡ toPresent L (answered y)) where
     go-16 : not (l .complete) ≡ true
     go-16 = ap not hc
 
     pub take-13 : not a ≡ true → call ≡ refused 13
     unfolding taken listing
-    take-13 h = must-go (not (l .complete)) 16 _ go-16 ∙ must-stop (toPresent L (answered o y)) 13 _ (sym ae ∙ not-true a h)
+    take-13 h = must-go (not (l .complete)) 16 _ go-16 ∙ must-stop (toPresent L (answered y)) 13 _ (sym ae ∙ not-true a h)
 
-    module _ (ha : not a ≡ false) (b : Bool) (be : b ≡ pageHolds (answered o y)) where
+    module _ (ha : not a ≡ false) (b : Bool) (be : b ≡ pageHolds (answered y)) where
       pub take-14 : not b ≡ true → call ≡ refused 14
       unfolding taken listing
       take-14 h =
           must-go (not (l .complete)) 16 _ go-16
-          ∙ must-go (toPresent L (answered o y)) 13 _ (sym ae ∙ not-false a ha)
-          ∙ must-stop (pageHolds (answered o y)) 14 _ (sym be ∙ not-true b h)
+          ∙ must-go (toPresent L (answered y)) 13 _ (sym ae ∙ not-false a ha)
+          ∙ must-stop (pageHolds (answered y)) 14 _ (sym be ∙ not-true b h)
 
       module _ (hb : not b ≡ false) (few : l .count ≤ length room / 3) where
-        sum : length (L .items) + length (answered o y .items) ≡ l .count + y .count
+        sum : length (L .items) + length (answered y .items) ≡ l .count + y .count
         unfolding listing answered
         sum = omega (arith, length-in (l .count) room, length-in (y .count) (y .items))
 
-        up-to-15 : call ≡ must (leb (length (L .items) + length (answered o y .items)) (length room / 3)) 15 (gives (joinedTo L (answered o y)))
+        up-to-15 : call ≡ must (leb (length (L .items) + length (answered y .items)) (length room / 3)) 15 (gives (joinedTo L (answered y)))
         unfolding taken listing
         up-to-15 =
             must-go (not (l .complete)) 16 _ go-16
-            ∙ must-go (toPresent L (answered o y)) 13 _ (sym ae ∙ not-false a ha)
-            ∙ must-go (pageHolds (answered o y)) 14 _ (sym be ∙ not-false b hb)
+            ∙ must-go (toPresent L (answered y)) 13 _ (sym ae ∙ not-false a ha)
+            ∙ must-go (pageHolds (answered y)) 14 _ (sym be ∙ not-false b hb)
 
         pub take-15 : length room / 3 - l .count < y .count → call ≡ refused 15
-        take-15 h = up-to-15 ∙ must-stop _ 15 _ (lt-leb (length (L .items) + length (answered o y .items)) (length room / 3) (omega (arith, sum)))
+        take-15 h = up-to-15 ∙ must-stop _ 15 _ (lt-leb (length (L .items) + length (answered y .items)) (length room / 3) (omega (arith, sum)))
 
-        pub take-joined : y .count ≤ length room / 3 - l .count → call ≡ gives (joinedTo L (answered o y))
-        take-joined h = up-to-15 ∙ must-go _ 15 _ (le-leb (length (L .items) + length (answered o y .items)) (length room / 3) (omega (arith, sum)))
+        pub take-joined : y .count ≤ length room / 3 - l .count → call ≡ gives (joinedTo L (answered y))
+        take-joined h = up-to-15 ∙ must-go _ 15 _ (le-leb (length (L .items) + length (answered y .items)) (length room / 3) (omega (arith, sum)))
 
   -- the page is joined, and rooms behind it keep their contents
-  pub joined-is : (x : Outcome Listing) (t : lists.List) (after : List ℕ) → x ≡ gives (joinedTo L (answered o y))
+  pub joined-is : (x : Outcome Listing) (t : lists.List) (after : List ℕ) → x ≡ gives (joinedTo L (answered y))
       → l .count * 3 + y .count * 3 ≤ length room → y .count * 3 ≤ length (y .items)
       → t ≡ joinedFields l y (y .count) → after ≡ paste room (l .count * 3) (y .items) (y .count * 3)
       → Takes l x room (record { refusal = 0; list = t }) after
@@ -305,6 +313,6 @@ module _ (o : Order) (l : lists.List) (room : List ℕ) (y : Answer) where
   joined-is x t after e h k te ae =
       let n : length (itemsIn (l .count) room ++ itemsIn (y .count) (y .items)) ≡ l .count + y .count =
       omega (arith, length-append (itemsIn (l .count) room) (itemsIn (y .count) (y .items)), length-in (l .count) room, length-in (y .count) (y .items)) in
-      promise-given (takenAs l) putItems x room (joinedTo L (answered o y)) (record { refusal = 0; list = t }) after e
+      promise-given (takenAs l) putItems x room (joinedTo L (answered y)) (record { refusal = 0; list = t }) after e
       (ap (λ (u : lists.List). record { refusal = 0; list = u }) te ∙ rw (← n))
       (ae ∙ sym (join-front room (y .items) (l .count) (y .count) h k))

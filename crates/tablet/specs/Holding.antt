@@ -4,16 +4,15 @@ use mathlib.Core.Path.{_≡_}
 use mathlib.Core.Bool.{Bool, true, cond, not, _&&_, _||_}
 use mathlib.Core.List.{List, [], _∷_}
 use lib.Dec.{leb, eqb}
-use lib.IntN.{ℤ}
 use lib.ListN.{length, getD}
 use Rattle.paper.specs.declared.lines.Answer.{Answer}
 use Rattle.paper.specs.declared.lists.List as lists
 use Rattle.paper.specs.declared.orders.Order.{Order}
-use Rattle.paper.specs.declared.orders.Order.the-variants.{Near}
 use Rattle.paper.specs.declared.orders.Place.{Place}
-use Rattle.paper.specs.Orders.{Item, Query, follows}
+use Rattle.paper.specs.Orders.{Item, follows}
 use Rattle.paper.specs.Points.{inRange}
 use Rattle.paper.specs.Ends.{fitting, leads}
+use Rattle.paper.specs.Lines.{spoken}
 use Rattle.paper.specs.Lists.{unusedZero}
 use Rattle.paper.specs.Limits.{mostClaims}
 
@@ -34,15 +33,17 @@ startedBy started n snapshot complete = cond started (leb 1 n || complete) (eqb 
 -- what soundness asks of a list's fields, in a room of so many numbers
 unfoldable pub fieldsHold : lists.List → ℕ → Bool
 fieldsHold l room =
-    inRange (l .measure) (l .d)
-    && (unusedZero (l .d) (l .probe)
+    spoken (l .query .order)
+    && (inRange (l .query .measure) (l .query .d)
+    && (unusedZero (l .query .d) (l .query .probe)
     && (leb (l .snapshot) mostClaims
     && (leb (l .count) (room / 3)
-    && startedBy (l .started) (l .count) (l .snapshot) (l .complete))))
+    && startedBy (l .started) (l .count) (l .snapshot) (l .complete)))))
 
 -- what a sound list that is not complete lends its next ask
 pub record Asks (l : lists.List) (room : List ℕ) : Type 0 where
-  pub range : inRange (l .measure) (l .d) ≡ true
+  pub known : spoken (l .query .order) ≡ true
+  pub range : inRange (l .query .measure) (l .query .d) ≡ true
   pub few : l .count * 3 ≤ length room
   pub snapshot : l .snapshot ≤ mostClaims
   -- it has a last item, whose number is below the snapshot
@@ -53,18 +54,9 @@ pub record Asks (l : lists.List) (room : List ℕ) : Type 0 where
 abbrev pub joinedFields : lists.List → Answer → ℕ → lists.List
 joinedFields l y n =
     record {
-      table = l .table;
-      measure = l .measure;
-      d = l .d;
-      probe = l .probe;
-      reach = l .reach;
+      query = l .query;
       started = true;
       snapshot = y .scope .snapshot;
       count = l .count + n;
       complete = eqb (y .last) 1;
     }
-
--- a query in near order, the base's order of a list
-abbrev pub asNear : ℕ → ℕ → ℕ → List ℤ → ℕ → Query
-asNear table measure d probe reach =
-    record { order = Near; table = table; measure = measure; d = d; probe = probe; reach = reach }

@@ -1,7 +1,7 @@
 // The present ask of a list: from the start, or after its last item.
 ghost use mathlib.Core.Path.{_≡_};
 ghost use mathlib.Core.Bool.{true};
-ghost use Prim.Native.Nat.{_≤_, _<_};
+ghost use Prim.Native.Nat.{_≤_};
 ghost use lib.ListN.{length};
 ghost use Rattle.paper.specs.Orders.{snapshotOf};
 ghost use Rattle.paper.specs.Ends.{presentPlace, presentAsk};
@@ -9,8 +9,6 @@ ghost use Rattle.paper.specs.Lists.{held, listing, soundHeld, askingHeld};
 ghost use Rattle.paper.specs.Outcomes.{gives};
 ghost use Rattle.paper.specs.Lines.{Writes};
 ghost use Rattle.paper.specs.Codec.{scopeOf, askLine, lines};
-ghost use Rattle.paper.specs.declared.orders.Order.{Order};
-ghost use Rattle.paper.specs.declared.orders.Order.the-variants.{Near};
 ghost use Rattle.tablet.specs.Holding.{Asks};
 ghost use Rattle.paper.specs.Limits.{longestAsk, mostPage};
 use paper::limits::LONGEST_ASK;
@@ -22,12 +20,11 @@ use paper::orders::size_holds;
 // Where the next page starts, as lines write it.
 pub fn present(l: List, room: &[u64]) -> Scope
     requires { ⌜ Asks l (now room) ⌝ }
-    ensures { λ r. ⌜ ((o : Order) → r ≡ scopeOf (l .reach) (presentPlace (listing o (held l (now (room .entry))))) (snapshotOf (presentPlace (listing o (held l (now (room .entry))))) 0)) ⌝ }
+    ensures { λ r. ⌜ r ≡ scopeOf (presentPlace (listing (held l (now (room .entry))))) (snapshotOf (presentPlace (listing (held l (now (room .entry))))) 0) ⌝ }
 {
     let n = l.count;
     if l.started {
         return Scope {
-            reach: l.reach,
             from: 1,
             snapshot: l.snapshot as u16,
             distance: room[n * 3 - 1],
@@ -35,7 +32,6 @@ pub fn present(l: List, room: &[u64]) -> Scope
         };
     }
     Scope {
-        reach: l.reach,
         from: 0,
         snapshot: 0,
         distance: 0,
@@ -45,8 +41,8 @@ pub fn present(l: List, room: &[u64]) -> Scope
 
 // Writes the present ask of a sound list.
 pub fn write_ask(l: List, room: &[u64], size: usize, out: &mut [u8]) -> Wrote
-    requires { ⌜ soundHeld Near (held l (now room)) ≡ true ⌝ }
-    ensures { λ r. ⌜ Writes (askingHeld lines Near (held l (now (room .entry))) size (length (now (out .entry)))) (now (out .entry)) r (now (out .exit)) ⌝ }
+    requires { ⌜ soundHeld (held l (now room)) ≡ true ⌝ }
+    ensures { λ r. ⌜ Writes (askingHeld lines (held l (now (room .entry))) size (length (now (out .entry)))) (now (out .entry)) r (now (out .exit)) ⌝ }
 {
     if l.complete {
         return Wrote::Refused(16);
@@ -62,18 +58,9 @@ pub fn write_ask(l: List, room: &[u64], size: usize, out: &mut [u8]) -> Wrote
 
 fn put_ask(l: List, room: &[u64], size: usize, out: &mut [u8]) -> Wrote
     requires { ⌜ Asks l (now room) × ((1 ≤ size) × ((size ≤ mostPage) × (longestAsk ≤ length (now out)))) ⌝ }
-    ensures { λ r. ⌜ Writes (gives (askLine (presentAsk (listing Near (held l (now (room .entry)))) size))) (now (out .entry)) r (now (out .exit)) ⌝ }
+    ensures { λ r. ⌜ Writes (gives (askLine (presentAsk (listing (held l (now (room .entry)))) size))) (now (out .entry)) r (now (out .exit)) ⌝ }
 {
     let p = present(l, room);
-    let probe = l.probe;
-    let d = l.d;
-    lines::write_ask(
-        l.table,
-        l.measure,
-        d as u8,
-        &probe[0..d],
-        p,
-        size as u8,
-        out,
-    )
+    let query = l.query;
+    lines::write_ask(query, p, size as u8, out)
 }

@@ -7,8 +7,8 @@ ghost use Rattle.tablet.specs.Holding.{startedBy, fieldsHold};
 ghost use Rattle.paper.specs.Limits.{mostPlaces};
 use crate::items::items_hold;
 use crate::probes::unused_zero;
+use paper::lines::has_lines;
 use paper::lists::List;
-use paper::orders::Order;
 use paper::orders::Place;
 use paper::points::in_range;
 
@@ -31,11 +31,16 @@ fn started_well(started: bool, count: usize, snapshot: u64, complete: bool) -> b
 
 // What an array's type says of its length is told along, for whoever does not look into the probe.
 fn fields_hold(l: List, room: usize) -> bool
-    ensures { λ r. ⌜ (r ≡ fieldsHold l room) × (mostPlaces - 1 < length (l .probe)) ⌝ }
+    ensures { λ r. ⌜ (r ≡ fieldsHold l room) × (mostPlaces - 1 < length (l .query .probe)) ⌝ }
 {
-    let d = l.d;
-    let probe = l.probe;
-    if !in_range(l.measure, d) {
+    let q = l.query;
+    let order = q.order;
+    let probe = q.probe;
+    let d = q.d;
+    if !has_lines(order) {
+        return false;
+    }
+    if !in_range(q.measure, d) {
         return false;
     }
     if !unused_zero(d, &probe) {
@@ -50,11 +55,13 @@ fn fields_hold(l: List, room: usize) -> bool
     started_well(l.started, l.count, l.snapshot, l.complete)
 }
 
-pub fn is_sound(order: Order, l: List, room: &[u64]) -> bool
-    ensures { λ r. ⌜ r ≡ soundHeld order (held l (now (room .entry))) ⌝ }
+pub fn is_sound(l: List, room: &[u64]) -> bool
+    ensures { λ r. ⌜ r ≡ soundHeld (held l (now (room .entry))) ⌝ }
 {
     if !fields_hold(l, room.len()) {
         return false;
     }
-    items_hold(order, Place::Start, l.reach, l.snapshot, room, l.count)
+    let q = l.query;
+    let order = q.order;
+    items_hold(order, Place::Start, q.reach, l.snapshot, room, l.count)
 }

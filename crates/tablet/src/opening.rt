@@ -1,40 +1,17 @@
 // Opening a list: nothing is held yet, and the probe stands in eight places.
 ghost use mathlib.Core.Path.{_≡_};
-ghost use mathlib.Core.List.{_++_};
-ghost use Prim.Native.Nat.{_-_, _≤_};
-ghost use lib.IntN.{pos};
-ghost use lib.ListN.{length, replicate};
 ghost use Rattle.paper.specs.Lists.{noList, openingHeld, openedTold};
-ghost use Rattle.tablet.specs.Holding.{asNear};
-ghost use Rattle.paper.specs.Limits.{mostPlaces};
-use paper::limits::MOST_PLACES;
 use paper::lists::List;
 use paper::lists::Opened;
+use paper::orders::Order;
 use paper::points::in_range;
-
-// A probe in eight places, the unused ones 0.
-fn padded(probe: &[i32]) -> [i32; MOST_PLACES]
-    requires { ⌜ length (now probe) ≤ mostPlaces ⌝ }
-    ensures { λ r. ⌜ r ≡ now (probe .entry) ++ replicate (mostPlaces - length (now (probe .entry))) (pos 0) ⌝ }
-{
-    let mut places = [0i32; MOST_PLACES];
-    let mut i: usize = 0;
-    while i < probe.len() {
-        places[i] = probe[i];
-        i += 1;
-    }
-    places
-}
+use paper::queries::Query;
 
 fn no_list(n: u8) -> Opened
     ensures { λ r. ⌜ r ≡ record { refusal = n; list = noList } ⌝ }
 {
     let list = List {
-        table: 0,
-        measure: 0,
-        d: 0,
-        probe: [0i32; MOST_PLACES],
-        reach: 0,
+        query: Query::NONE,
         started: false,
         snapshot: 0,
         count: 0,
@@ -43,8 +20,15 @@ fn no_list(n: u8) -> Opened
     Opened { refusal: n, list }
 }
 
-pub fn open_list(table: u32, measure: u8, d: usize, probe: &[i32], reach: u64) -> Opened
-    ensures { λ r. ⌜ r ≡ openedTold (openingHeld (asNear table measure d (now (probe .entry)) reach)) ⌝ }
+pub fn open_list(
+    order: Order,
+    table: u32,
+    measure: u8,
+    d: usize,
+    probe: &[i32],
+    reach: u64,
+) -> Opened
+    ensures { λ r. ⌜ r ≡ openedTold (openingHeld (record { order = order; table = table; measure = measure; d = d; probe = now (probe .entry); reach = reach })) ⌝ }
 {
     if !in_range(measure, d) {
         return no_list(1);
@@ -52,13 +36,9 @@ pub fn open_list(table: u32, measure: u8, d: usize, probe: &[i32], reach: u64) -
     if probe.len() != d {
         return no_list(5);
     }
-    let places = padded(probe);
+    let query = fields::query_of(order, table, measure, d, probe, reach);
     let list = List {
-        table,
-        measure,
-        d,
-        probe: places,
-        reach,
+        query,
         started: false,
         snapshot: 0,
         count: 0,

@@ -5,11 +5,10 @@ ghost use Prim.Native.Nat.{_+_, _-_, _*_, _≤_, _<_};
 ghost use lib.ListN.{length};
 ghost use lib.Seq.{paste};
 ghost use Rattle.paper.specs.Ends.{sameProbe, sameQuery, samePlace, toPresent, pageHolds, taken};
-ghost use Rattle.paper.specs.Lists.{Takes, held, queryOf, listing, roomFor, soundHeld, takingHeld};
+ghost use Rattle.paper.specs.Lists.{Takes, held, listing, roomFor, soundHeld, takingHeld};
 ghost use Rattle.paper.specs.Codec.{placeIn, answered, lines};
 ghost use Rattle.tablet.specs.Holding.{Asks, joinedFields};
-ghost use Rattle.paper.specs.declared.orders.Order as orders-Order;
-ghost use Rattle.paper.specs.declared.orders.Order.the-variants.{Near};
+ghost use Rattle.paper.specs.Orders.{queryIn};
 ghost use Rattle.paper.specs.Limits.{itemRoom, mostPage, mostPlaces};
 use crate::asking::present;
 use crate::items::items_hold;
@@ -19,7 +18,7 @@ use paper::lines::Scope;
 use paper::lines::place_of;
 use paper::lists::List;
 use paper::lists::Taken;
-use paper::orders::Order;
+use paper::queries::Query;
 
 fn same_place(p: Scope, q: Scope) -> bool
     ensures { λ r. ⌜ r ≡ samePlace (placeIn p) (placeIn q) ⌝ }
@@ -39,42 +38,43 @@ fn same_place(p: Scope, q: Scope) -> bool
     p.number == q.number
 }
 
-fn probes_alike(l: List, y: Answer) -> bool
-    requires { ⌜ l .d ≤ mostPlaces ⌝ }
-    ensures { λ r. ⌜ r ≡ sameProbe (l .d) (l .probe) (y .probe) ⌝ }
+fn probes_alike(p: Query, q: Query) -> bool
+    requires { ⌜ p .d ≤ mostPlaces ⌝ }
+    ensures { λ r. ⌜ r ≡ sameProbe (p .d) (p .probe) (q .probe) ⌝ }
 {
-    let d = l.d;
-    let p = l.probe;
-    let q = y.probe;
-    same_probe(d, &p, &q)
+    let d = p.d;
+    let a = p.probe;
+    let b = q.probe;
+    same_probe(d, &a, &b)
 }
 
-fn same_query(l: List, y: Answer) -> bool
-    requires { ⌜ l .d ≤ mostPlaces ⌝ }
-    ensures { λ r. ⌜ ((o : orders-Order.Order) → r ≡ sameQuery (queryOf o l) (answered o y .query)) ⌝ }
+fn same_query(p: Query, q: Query) -> bool
+    requires { ⌜ p .d ≤ mostPlaces ⌝ }
+    ensures { λ r. ⌜ r ≡ sameQuery (queryIn p) (queryIn q) ⌝ }
 {
-    let scope = y.scope;
-    if l.table != y.table {
+    if p.table != q.table {
         return false;
     }
-    if l.measure != y.measure {
+    if p.measure != q.measure {
         return false;
     }
-    if l.d != y.d as usize {
+    if p.d != q.d {
         return false;
     }
-    if !probes_alike(l, y) {
+    if !probes_alike(p, q) {
         return false;
     }
-    l.reach == scope.reach
+    p.reach == q.reach
 }
 
 // Whether an answer is to the list's present ask; page sizes are not compared.
 fn to_present(l: List, room: &[u64], y: Answer) -> bool
     requires { ⌜ Asks l (now room) ⌝ }
-    ensures { λ r. ⌜ ((o : orders-Order.Order) → r ≡ toPresent (listing o (held l (now (room .entry)))) (answered o y)) ⌝ }
+    ensures { λ r. ⌜ r ≡ toPresent (listing (held l (now (room .entry)))) (answered y) ⌝ }
 {
-    if !same_query(l, y) {
+    let asked = l.query;
+    let told = y.query;
+    if !same_query(asked, told) {
         return false;
     }
     let p = present(l, room);
@@ -83,15 +83,17 @@ fn to_present(l: List, room: &[u64], y: Answer) -> bool
 }
 
 // Whether an answer's page rises, after the mark, within reach and below the snapshot, and is none only as the last.
-fn page_holds(order: Order, y: Answer) -> bool
+fn page_holds(y: Answer) -> bool
     requires { ⌜ y .count ≤ mostPage ⌝ }
-    ensures { λ r. ⌜ r ≡ pageHolds (answered order y) ⌝ }
+    ensures { λ r. ⌜ r ≡ pageHolds (answered y) ⌝ }
 {
     let items = y.items;
+    let query = y.query;
+    let order = query.order;
     let scope = y.scope;
     let n = y.count as usize;
     let place = place_of(scope);
-    if !items_hold(order, place, scope.reach, scope.snapshot as u64, &items, n) {
+    if !items_hold(order, place, query.reach, scope.snapshot as u64, &items, n) {
         return false;
     }
     if 1 <= n {
@@ -136,14 +138,10 @@ fn joined(l: List, y: Answer, n: usize) -> List
     requires { ⌜ l .count + n < 18446744073709551616 ⌝ }
     ensures { λ r. ⌜ r ≡ joinedFields l y n ⌝ }
 {
-    let probe = l.probe;
+    let query = l.query;
     let scope = y.scope;
     List {
-        table: l.table,
-        measure: l.measure,
-        d: l.d,
-        probe,
-        reach: l.reach,
+        query,
         started: true,
         snapshot: scope.snapshot as u64,
         count: l.count + n,
@@ -152,9 +150,9 @@ fn joined(l: List, y: Answer, n: usize) -> List
 }
 
 // Takes an answer that was read into a sound list.
-pub fn take_answer(order: Order, l: List, room: &mut [u64], y: Answer) -> Taken
-    requires { ⌜ (soundHeld order (held l (now room)) ≡ true) × (y .count ≤ mostPage) ⌝ }
-    ensures { λ r. ⌜ Takes l (taken (roomFor (held l (now (room .entry)))) (listing order (held l (now (room .entry)))) (answered order y)) (now (room .entry)) r (now (room .exit)) ⌝ }
+pub fn take_answer(l: List, room: &mut [u64], y: Answer) -> Taken
+    requires { ⌜ (soundHeld (held l (now room)) ≡ true) × (y .count ≤ mostPage) ⌝ }
+    ensures { λ r. ⌜ Takes l (taken (roomFor (held l (now (room .entry)))) (listing (held l (now (room .entry)))) (answered y)) (now (room .entry)) r (now (room .exit)) ⌝ }
 {
     if l.complete {
         return refused(16, l);
@@ -162,7 +160,7 @@ pub fn take_answer(order: Order, l: List, room: &mut [u64], y: Answer) -> Taken
     if !to_present(l, room, y) {
         return refused(13, l);
     }
-    if !page_holds(order, y) {
+    if !page_holds(y) {
         return refused(14, l);
     }
     let n = y.count as usize;
@@ -174,17 +172,18 @@ pub fn take_answer(order: Order, l: List, room: &mut [u64], y: Answer) -> Taken
     Taken { refusal: 0, list }
 }
 
-// Takes an answer line into a sound list.
+// Takes an answer line, of the list's own order, into a sound list.
 pub fn take_line(l: List, room: &mut [u64], line: &[u8]) -> Taken
-    requires { ⌜ soundHeld Near (held l (now room)) ≡ true ⌝ }
-    ensures { λ r. ⌜ Takes l (takingHeld lines Near (held l (now (room .entry))) (now (line .entry))) (now (room .entry)) r (now (room .exit)) ⌝ }
+    requires { ⌜ soundHeld (held l (now room)) ≡ true ⌝ }
+    ensures { λ r. ⌜ Takes l (takingHeld lines (held l (now (room .entry))) (now (line .entry))) (now (room .entry)) r (now (room .exit)) ⌝ }
 {
-    let read = lines::read_answer(line);
+    let query = l.query;
+    let order = query.order;
+    let read = lines::read_answer(order, line);
     let n = read.refusal;
     if n != 0 {
         return refused(n, l);
     }
-    let near = Order::Near;
     let y = read.answer;
-    take_answer(near, l, room, y)
+    take_answer(l, room, y)
 }

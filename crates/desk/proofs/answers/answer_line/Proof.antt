@@ -11,10 +11,13 @@ read-ask-requires c κs = search needs
 returns : tie.Need-returns
 returns c =
     let a = c .before .before .before .before .before .before .before .args in
-    line-refused (store (a .t) (a .references .now) (a .coordinates .now) (a .rooms .now)) (a .line .now) _ (read-is (a .line .now) _ (c .before .before .read-ask .ensures)) _ (c .if1 .taken)
+    let is = read-is (a .line .now) _ (c .before .before .read-ask .ensures) in
+    line-refused (store (a .t) (a .references .now) (a .coordinates .now) (a .rooms .now)) (a .line .now) _ is _ (c .if1 .taken)
 
 answer-ask-requires : tie.Need-answer-ask-requires
-answer-ask-requires c κs = record { isOpen = (c .before .before .before .before .before .before .before .before .before .pre); ask = read-is (c .before .before .before .before .before .before .before .before .before .args .line .now) _ (c .before .before .before .before .read-ask .ensures) .given (c .before .before .if1 .left) }
+answer-ask-requires c κs =
+    let is = read-is (c .before .before .before .before .before .before .before .before .before .args .line .now) _ (c .before .before .before .before .read-ask .ensures) in
+    record { isOpen = c .before .before .before .before .before .before .before .before .before .pre; ask = is .given (c .before .before .if1 .left) }
 
 same-length : tie.Need-same-length
 same-length c = search needs
@@ -22,7 +25,8 @@ same-length c = search needs
 returns-2 : tie.Need-returns-2
 returns-2 c =
     let a = c .before .before .before .before .before .before .before .before .before .before .before .before .args in
-    line-answered (store (a .t) (a .references .now) (a .coordinates .now) (a .rooms .now)) (a .line .now) _ (read-is (a .line .now) _ (c .before .before .before .before .before .before .before .read-ask .ensures)) _ _ _ (c .before .before .before .before .before .if1 .left) (c .before .before .answer-ask .ensures)
+    let is = read-is (a .line .now) _ (c .before .before .before .before .before .before .before .read-ask .ensures) in
+    line-answered (store (a .t) (a .references .now) (a .coordinates .now) (a .rooms .now)) (a .line .now) _ is _ _ _ (c .before .before .before .before .before .if1 .left) (c .before .before .answer-ask .ensures)
 
 pub answer-line-spec : {M : Type 1} → statement M
 answer-line-spec =

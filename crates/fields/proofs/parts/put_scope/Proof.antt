@@ -61,7 +61,7 @@ returns c =
     let k3 : length (p3 .last .0) ≡ length (p2 .last .0) = p3 .kept .0 in
     c .before .before .put5 .ensures
     ∙ sym (
-    over-be (a .out .now) (p1 .last .0) (a .at) (a .at + 8) 8 (a .p .reach) _ (omega arith) (omega arith) (p1 .ensures)
+    over-be (a .out .now) (p1 .last .0) (a .at) (a .at + 8) 8 (a .reach) _ (omega arith) (omega arith) (p1 .ensures)
     ∙ over-be (p1 .last .0) (p2 .last .0) (a .at + 8) (a .at + 9) 1 (a .p .from) _ (omega arith) (omega arith) (p2 .ensures)
     ∙ over-be (p2 .last .0) (p3 .last .0) (a .at + 9) (a .at + 11) 2 (a .p .snapshot) _ (omega arith) (omega arith) (p3 .ensures)
     ∙ over-be (p3 .last .0) (p4 .last .0) (a .at + 11) (a .at + 19) 8 (a .p .distance) _ (omega arith) (omega arith) (p4 .ensures)

@@ -1,41 +1,85 @@
+-- `lines::asks::ask_at` meets its contract: each part stands where the frame has it. Assumes nothing.
 use native.Mathlib.Omega.{arith}
-use mathlib.Core.Path.{_≡_, refl, ap}
+use mathlib.Core.Path.{_≡_, refl, ap, _∙_}
+use Prim.Native.Nat.{ℕ}
 use lib.ListN.{drop}
+use Rattle.paper.specs.declared.queries.Query as queries
 use Rattle.paper.specs.Frames.{num}
+use Rattle.paper.specs.Lines.{askKind, askOrder, queryAt}
 use Rattle.digits.specs.Places.{held}
-use Rattle.fields.specs.Fronts.{frontAt}
-use Rattle.fields.specs.declared.parts.Front.{Front}
-use Rattle.lines.proofs.Tests.{is-ask, ask-begun, ask-value}
+use Rattle.lines.proofs.Tests.{any-ask, ask-begun, ask-value}
 use borrow.Author.Needs.{needs}
 use Rattle.lines.proofs.asks.ask_at.Statement.{statement}
 use Rattle.lines.proofs.asks.ask_at.Tie as tie
 
-front-at-requires : tie.Need-front-at-requires
-front-at-requires c κs = ask-begun (c .before .pre .kind) (held (c .before .args .src .now)) (c .before .pre .test)
+kind-requires : tie.Need-kind-requires
+kind-requires c κs = let w = any-ask (held (c .before .args .src .now)) (c .before .pre) in omega arith
 
-cast-at : tie.Need-cast-at
-cast-at c = search needs
+ask-order-requires : tie.Need-ask-order-requires
+ask-order-requires c κs = search needs
+
+query-at-requires : tie.Need-query-at-requires
+query-at-requires c κs = let f = held (c .before .before .before .args .src .now) in ask-begun (askKind (askOrder (num 1 f))) f (any-ask f (c .before .before .before .pre))
 
 mul-at : tie.Need-mul-at
-mul-at c = search needs
+unfolding queryAt
+mul-at c =
+    let f = held (c .before .before .before .before .before .args .src .now) in
+    let w = any-ask f (c .before .before .before .before .before .pre) in
+    let e : c .before .query-at .result .d ≡ num 1 (drop 6 f) = ap (λ (x : queries.Query). x .d) (c .before .query-at .ensures) in
+    omega (arith, w .headed .range .narrow)
 
 add-at : tie.Need-add-at
-add-at c = search needs
-
-number-requires : tie.Need-number-requires
-unfolding frontAt
-number-requires c κs =
+unfolding queryAt
+add-at c =
     let f = held (c .before .before .before .before .before .args .src .now) in
-    let p = is-ask (c .before .before .before .before .before .pre .kind) f (c .before .before .before .before .before .pre .test) in
-    let e : c .before .before .before .front-at .result .d ≡ num 1 (drop 6 f) = ap (λ (x : Front). x .d) (c .before .before .before .front-at .ensures) in
+    let w = any-ask f (c .before .before .before .before .before .pre) in
+    let e : c .before .query-at .result .d ≡ num 1 (drop 6 f) = ap (λ (x : queries.Query). x .d) (c .before .query-at .ensures) in
+    omega (arith, w .headed .range .narrow)
+
+scope-at-requires : tie.Need-scope-at-requires
+unfolding queryAt
+scope-at-requires c κs =
+    let f = held (c .before .before .before .before .before .args .src .now) in
+    let w = any-ask f (c .before .before .before .before .before .pre) in
+    let e : c .before .query-at .result .d ≡ num 1 (drop 6 f) = ap (λ (x : queries.Query). x .d) (c .before .query-at .ensures) in
     omega arith
 
-cast-t9 : tie.Need-cast-t9
-cast-t9 c = search needs
+add-number : tie.Need-add-number
+unfolding queryAt
+add-number c =
+    let f = held (c .before .before .before .before .before .before .args .src .now) in
+    let w = any-ask f (c .before .before .before .before .before .before .pre) in
+    let e : c .before .before .query-at .result .d ≡ num 1 (drop 6 f) = ap (λ (x : queries.Query). x .d) (c .before .before .query-at .ensures) in
+    omega (arith, w .headed .range .narrow)
+
+number-requires : tie.Need-number-requires
+unfolding queryAt
+number-requires c κs =
+    let f = held (c .before .before .before .before .before .before .args .src .now) in
+    let w = any-ask f (c .before .before .before .before .before .before .pre) in
+    let e : c .before .before .query-at .result .d ≡ num 1 (drop 6 f) = ap (λ (x : queries.Query). x .d) (c .before .before .query-at .ensures) in
+    omega arith
+
+cast-t8 : tie.Need-cast-t8
+cast-t8 c = search needs
 
 returns : tie.Need-returns
-returns c = ask-value (held (c .before .before .before .before .before .before .args .src .now)) (c .before .before .before .before .front-at .result) _ (c .number .result) (c .before .before .before .before .front-at .ensures) refl (c .number .ensures .value)
+returns c =
+    let f = held (c .before .before .before .before .before .before .before .args .src .now) in
+    ask-value f (c .before .before .before .query-at .result) _ _ (c .number .result) (c .before .before .before .query-at .ensures ∙ rw (c .before .before .before .before .ask-order .ensures, c .before .before .before .before .before .kind .ensures)) refl (c .before .scope-at .ensures) (c .number .ensures .value)
 
 pub ask-at-spec : {M : Type 1} → statement M
 ask-at-spec =
-    tie.close (tie.spec front-at-requires cast-at mul-at add-at number-requires cast-t9 returns)
+    tie.close
+    (tie.spec
+    kind-requires
+    ask-order-requires
+    query-at-requires
+    mul-at
+    add-at
+    scope-at-requires
+    add-number
+    number-requires
+    cast-t8
+    returns)

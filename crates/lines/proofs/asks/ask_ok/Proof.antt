@@ -1,9 +1,11 @@
+-- `lines::asks::ask_ok` meets its contract: an empty frame is no ask, and any other has a kind. Assumes nothing.
 use native.Mathlib.Omega.{arith}
-use mathlib.Core.Path.{sym, _∙_}
-use Rattle.paper.specs.Lines.{askOk}
+use mathlib.Core.Path.{sym, ap, _∙_}
+use Rattle.paper.specs.declared.orders.Order.{Order}
+use Rattle.paper.specs.Lines.{askKind, askOrder, askOk, isAsk}
 use Rattle.digits.specs.Places.{held}
 use Rattle.paper.proofs.Tests.{refuted}
-use Rattle.lines.proofs.Tests.{is-ask, ask-rule}
+use Rattle.lines.proofs.Tests.{any-ask}
 use borrow.Author.Needs.{needs}
 use Rattle.lines.proofs.asks.ask_ok.Statement.{statement}
 use Rattle.lines.proofs.asks.ask_ok.Tie as tie
@@ -14,52 +16,25 @@ size-requires c κs = search needs
 returns : tie.Need-returns
 returns c =
     let f = held (c .before .before .before .args .src .now) in
-    sym (refuted (askOk (c .before .before .before .args .kind) f) (λ e. let p = is-ask (c .before .before .before .args .kind) f e in omega arith))
+    sym (refuted (isAsk f) (λ e. let w = any-ask f e in omega arith))
 
-head-ok-requires : tie.Need-head-ok-requires
-head-ok-requires c κs = search needs
+kind-requires : tie.Need-kind-requires
+kind-requires c κs = search needs
 
-number-requires : tie.Need-number-requires
-number-requires c κs = search needs
+ask-order-requires : tie.Need-ask-order-requires
+ask-order-requires c κs = search needs
 
-mul-if3 : tie.Need-mul-if3
-mul-if3 c = search needs
+ask-kind-requires : tie.Need-ask-kind-requires
+ask-kind-requires c κs = search needs
 
-add-if3 : tie.Need-add-if3
-add-if3 c = search needs
-
-mul-at : tie.Need-mul-at
-mul-at c = search needs
-
-add-at : tie.Need-add-at
-add-at c = search needs
-
-scope-at-requires : tie.Need-scope-at-requires
-scope-at-requires c κs = search needs
-
-add-number : tie.Need-add-number
-add-number c = search needs
-
-number-requires-2 : tie.Need-number-requires-2
-number-requires-2 c κs = search needs
-
-ask-ranges-requires : tie.Need-ask-ranges-requires
-ask-ranges-requires c κs = search needs
+is-kind-requires : tie.Need-is-kind-requires
+is-kind-requires c κs = search needs
 
 returns-2 : tie.Need-returns-2
+unfolding isAsk
 returns-2 c =
-    let f = held (c .before .before .before .before .before .before .before .before .before .before .args .src .now) in
-    rw (ask-rule (c .before .before .before .before .before .before .before .before .before .before .args .kind) f (c .before .before .before .before .number .result) (sym (c .before .before .before .before .before .before .head-ok .ensures) ∙ c .before .before .before .before .before .if2 .taken) (c .before .before .before .before .number .ensures .value) (omega arith), ← c .before .before .scope-at .ensures, ← c .before .number2 .ensures .value)
-    (c .ask-ranges .ensures)
-
-returns-3 : tie.Need-returns-3
-returns-3 c =
-    let f = held (c .before .before .before .before .before .before .before .args .src .now) in
-    sym (refuted (askOk (c .before .before .before .before .before .before .before .args .kind) f) (λ e. let p = is-ask (c .before .before .before .before .before .before .before .args .kind) f e in c .if3 .left (omega arith)))
-
-returns-4 : tie.Need-returns-4
-unfolding askOk
-returns-4 c = rw (← c .before .head-ok .ensures, c .if2 .left)
+    c .is-kind .ensures
+    ∙ rw (c .before .ask-kind .ensures, c .before .before .ask-order .ensures, c .before .before .before .kind .ensures)
 
 pub ask-ok-spec : {M : Type 1} → statement M
 ask-ok-spec =
@@ -67,16 +42,8 @@ ask-ok-spec =
     (tie.spec
     size-requires
     returns
-    head-ok-requires
-    number-requires
-    mul-if3
-    add-if3
-    mul-at
-    add-at
-    scope-at-requires
-    add-number
-    number-requires-2
-    ask-ranges-requires
-    returns-2
-    returns-3
-    returns-4)
+    kind-requires
+    ask-order-requires
+    ask-kind-requires
+    is-kind-requires
+    returns-2)

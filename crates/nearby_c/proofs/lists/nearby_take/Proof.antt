@@ -1,5 +1,4 @@
 -- `nearby_c::lists::nearby_take` meets its contract: what `nearby::take` gives. Assumes nothing.
-use Rattle.paper.specs.declared.orders.Order.the-variants.{Near}
 use Rattle.paper.specs.Lists.{held, takingHeld}
 use Rattle.paper.specs.Codec.{lines}
 use Rattle.nearby_c.proofs.Exports.{taken-from}
@@ -20,7 +19,7 @@ same-length : tie.Need-same-length
 same-length c = search needs
 
 returns : tie.Need-returns
-returns c = taken-from (λ x. takingHeld lines Near (held x (c .before .before .before .before .before .before .before .before .before .args .room .now)) (c .before .before .before .before .before .before .before .before .before .args .line .now)) _ _ _ _ _ _ (c .before .before .before .before .before .before .list-in .ensures) (c .before .before .before .before .take .ensures) (rw (c .list-out .ensures))
+returns c = taken-from (λ x. takingHeld lines (held x (c .before .before .before .before .before .before .before .before .before .args .room .now)) (c .before .before .before .before .before .before .before .before .before .args .line .now)) _ _ _ _ _ _ (c .before .before .before .before .before .before .list-in .ensures) (c .before .before .before .before .take .ensures) (rw (c .list-out .ensures))
 
 pub nearby-take-spec : {M : Type 1} → statement M
 nearby-take-spec =

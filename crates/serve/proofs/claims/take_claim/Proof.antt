@@ -11,6 +11,9 @@ use Rattle.serve.proofs.claims.take_claim.Tie as tie
 header-for-requires : tie.Need-header-for-requires
 header-for-requires c κs = search needs
 
+cast-is-ours : tie.Need-cast-is-ours
+cast-is-ours c = search needs
+
 is-ours-requires : tie.Need-is-ours-requires
 is-ours-requires c κs = search needs
 
@@ -22,8 +25,8 @@ same-length c = search needs
 
 returns : tie.Need-returns
 returns c =
-    let a = c .before .before .before .before .before .before .before .before .before .before .args in
-    claim-11 (store (a .t) (a .references .now) (a .coordinates .now) (a .rooms .now)) (a .c) (c .before .before .before .before .before .before .before .before .before .before .pre .serving .ready) (c .before .before .before .before .before .before .before .before .before .before .pre .range) _ (c .before .before .before .before .before .before .header-for .ensures) _ (c .before .before .before .before .before .is-ours .ensures) (a .out .now) (a .at) (c .before .before .before .before .if1 .taken) _ _ (c .before .before .refuse .ensures)
+    let a = c .before .before .before .before .before .before .before .before .before .before .before .args in
+    claim-11 (store (a .t) (a .references .now) (a .coordinates .now) (a .rooms .now)) (a .c) (c .before .before .before .before .before .before .before .before .before .before .before .pre .serving .ready) (c .before .before .before .before .before .before .before .before .before .before .before .pre .range) _ (c .before .before .before .before .before .before .before .header-for .ensures) _ (c .before .before .before .before .before .is-ours .ensures) (a .out .now) (a .at) (c .before .before .before .before .if1 .taken) _ _ (c .before .before .refuse .ensures)
 
 refuse-requires-2 : tie.Need-refuse-requires-2
 refuse-requires-2 c κs = search needs
@@ -33,17 +36,17 @@ same-length-2 c = search needs
 
 returns-2 : tie.Need-returns-2
 returns-2 c =
-    let a = c .before .before .before .before .before .before .before .before .before .before .before .before .args in
-    claim-3 (store (a .t) (a .references .now) (a .coordinates .now) (a .rooms .now)) (a .c) (c .before .before .before .before .before .before .before .before .before .before .before .before .pre .serving .ready) (c .before .before .before .before .before .before .before .before .before .before .before .before .pre .range) _ (c .before .before .before .before .before .before .before .before .header-for .ensures) _ (c .before .before .before .before .before .before .before .is-ours .ensures) (a .out .now) (a .at) (c .before .before .before .before .before .before .if1 .left) (c .before .before .before .before .if2 .taken) _ _ (c .before .before .refuse2 .ensures)
+    let a = c .before .before .before .before .before .before .before .before .before .before .before .before .before .args in
+    claim-3 (store (a .t) (a .references .now) (a .coordinates .now) (a .rooms .now)) (a .c) (c .before .before .before .before .before .before .before .before .before .before .before .before .before .pre .serving .ready) (c .before .before .before .before .before .before .before .before .before .before .before .before .before .pre .range) _ (c .before .before .before .before .before .before .before .before .before .header-for .ensures) _ (c .before .before .before .before .before .before .before .is-ours .ensures) (a .out .now) (a .at) (c .before .before .before .before .before .before .if1 .left) (c .before .before .before .before .if2 .taken) _ _ (c .before .before .refuse2 .ensures)
 
 slice-aggregate-add : tie.Need-slice-aggregate-add
-slice-aggregate-add c = search (needs, c .before .before .before .before .before .before .before .before .before .before .before .before .before .good .1 .1 .1 .1 .0)
+slice-aggregate-add c = search (needs, c .before .before .before .before .before .before .before .before .before .before .before .before .before .before .good .1 .1 .1 .1 .0)
 
 add-requires : tie.Need-add-requires
 add-requires c κs =
-    let a = c .before .before .before .before .before .before .before .before .before .before .before .before .before .args in
-    let eight : 7 < length (a .c .coordinates) = search (needs, c .before .before .before .before .before .before .before .before .before .before .before .before .before .good .1 .1 .1 .1 .0) in
-    add-ready (store (a .t) (a .references .now) (a .coordinates .now) (a .rooms .now)) (a .c) (c .before .before .before .before .before .before .before .before .before .before .before .before .before .pre .serving .ready) (c .before .before .before .before .before .before .before .before .before .before .before .before .before .pre .range) _ (c .before .before .before .before .before .before .before .before .before .header-for .ensures) _ (c .before .before .before .before .before .before .before .before .is-ours .ensures) (a .out .now) (a .at) (c .before .before .before .before .before .before .before .if1 .left) (c .before .before .before .before .before .if2 .left) eight
+    let a = c .before .before .before .before .before .before .before .before .before .before .before .before .before .before .args in
+    let eight : 7 < length (a .c .coordinates) = search (needs, c .before .before .before .before .before .before .before .before .before .before .before .before .before .before .good .1 .1 .1 .1 .0) in
+    add-ready (store (a .t) (a .references .now) (a .coordinates .now) (a .rooms .now)) (a .c) (c .before .before .before .before .before .before .before .before .before .before .before .before .before .before .pre .serving .ready) (c .before .before .before .before .before .before .before .before .before .before .before .before .before .before .pre .range) _ (c .before .before .before .before .before .before .before .before .before .before .header-for .ensures) _ (c .before .before .before .before .before .before .before .before .is-ours .ensures) (a .out .now) (a .at) (c .before .before .before .before .before .before .before .if1 .left) (c .before .before .before .before .before .if2 .left) eight
 
 same-length-3 : tie.Need-same-length-3
 same-length-3 c = search needs
@@ -56,15 +59,16 @@ same-length-5 c = search needs
 
 returns-3 : tie.Need-returns-3
 returns-3 c =
-    let a = c .before .before .before .before .before .before .before .before .before .before .before .before .before .before .before .before .before .before .before .args in
-    let eight : 7 < length (a .c .coordinates) = search (needs, c .before .before .before .before .before .before .before .before .before .before .before .before .before .before .before .before .before .before .before .good .1 .1 .1 .1 .0) in
-    claim-in (store (a .t) (a .references .now) (a .coordinates .now) (a .rooms .now)) (a .c) (c .before .before .before .before .before .before .before .before .before .before .before .before .before .before .before .before .before .before .before .pre .serving .ready) (c .before .before .before .before .before .before .before .before .before .before .before .before .before .before .before .before .before .before .before .pre .range) _ (c .before .before .before .before .before .before .before .before .before .before .before .before .before .before .before .header-for .ensures) _ (c .before .before .before .before .before .before .before .before .before .before .before .before .before .before .is-ours .ensures) (a .out .now) (a .at) (c .before .before .before .before .before .before .before .before .before .before .before .before .before .if1 .left) (c .before .before .before .before .before .before .before .before .before .before .before .if2 .left) eight _ (c .before .before .before .before .before .add .ensures) (omega (arith, c .before .before .before .before .before .before .before .before .before .before .before .before .before .before .before .before .before .before .before .pre .serving .room))
+    let a = c .before .before .before .before .before .before .before .before .before .before .before .before .before .before .before .before .before .before .before .before .args in
+    let eight : 7 < length (a .c .coordinates) = search (needs, c .before .before .before .before .before .before .before .before .before .before .before .before .before .before .before .before .before .before .before .before .good .1 .1 .1 .1 .0) in
+    claim-in (store (a .t) (a .references .now) (a .coordinates .now) (a .rooms .now)) (a .c) (c .before .before .before .before .before .before .before .before .before .before .before .before .before .before .before .before .before .before .before .before .pre .serving .ready) (c .before .before .before .before .before .before .before .before .before .before .before .before .before .before .before .before .before .before .before .before .pre .range) _ (c .before .before .before .before .before .before .before .before .before .before .before .before .before .before .before .before .header-for .ensures) _ (c .before .before .before .before .before .before .before .before .before .before .before .before .before .before .is-ours .ensures) (a .out .now) (a .at) (c .before .before .before .before .before .before .before .before .before .before .before .before .before .if1 .left) (c .before .before .before .before .before .before .before .before .before .before .before .if2 .left) eight _ (c .before .before .before .before .before .add .ensures) (omega (arith, c .before .before .before .before .before .before .before .before .before .before .before .before .before .before .before .before .before .before .before .before .pre .serving .room))
 
 pub take-claim-spec : {M : Type 1} → statement M
 take-claim-spec =
     tie.close
     (tie.spec
     header-for-requires
+    cast-is-ours
     is-ours-requires
     refuse-requires
     same-length

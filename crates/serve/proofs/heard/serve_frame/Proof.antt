@@ -39,7 +39,7 @@ ask-ok-requires : tie.Need-ask-ok-requires
 ask-ok-requires c κs = search needs
 
 ask-at-requires : tie.Need-ask-at-requires
-ask-at-requires c κs = record { kind = 1; test = sym (c .before .ask-ok .ensures) ∙ c .if2 .taken }
+ask-at-requires c κs = sym (c .before .ask-ok .ensures) ∙ c .if2 .taken
 
 take-ask-requires : tie.Need-take-ask-requires
 take-ask-requires c κs =

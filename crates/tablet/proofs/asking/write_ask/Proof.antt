@@ -1,7 +1,6 @@
 -- `tablet::asking::write_ask` meets its contract, a law for each way. Assumes nothing.
 use Rattle.tablet.proofs.EndLaws.{ask-16, ask-6, ask-some, ask-12, ask-put}
 use Rattle.tablet.proofs.TakeLaws.{sound-asks}
-use Rattle.paper.specs.declared.orders.Order.the-variants.{Near}
 use borrow.Author.Needs.{needs}
 use Rattle.tablet.proofs.asking.write_ask.Statement.{statement}
 use Rattle.tablet.proofs.asking.write_ask.Tie as tie
@@ -22,7 +21,7 @@ put-ask-requires : tie.Need-put-ask-requires
 put-ask-requires c κs =
     let a = c .before .before .before .before .before .before .before .args in
     let s = ask-some (a .l) (a .room .now) (a .size) (a .out .now) (c .before .before .before .before .before .before .before .pre) (c .before .before .before .before .if1 .left) _ (c .before .before .before .size-holds .ensures) (c .before .before .if2 .left) in
-    (sound-asks Near _ _ (c .before .before .before .before .before .before .before .pre) (c .before .before .before .before .if1 .left), (s .0, (s .1, c .before .if3 .left)))
+    (sound-asks _ _ (c .before .before .before .before .before .before .before .pre) (c .before .before .before .before .if1 .left), (s .0, (s .1, c .before .if3 .left)))
 
 same-length : tie.Need-same-length
 same-length c = search needs

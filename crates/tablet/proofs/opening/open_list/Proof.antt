@@ -1,5 +1,5 @@
 -- `tablet::opening::open_list` meets its contract, a law for each way. Assumes nothing.
-use Rattle.tablet.proofs.EndLaws.{open-1, open-5, open-list, open-few}
+use Rattle.tablet.proofs.EndLaws.{open-1, open-5, open-list, open-narrow}
 use borrow.Author.Needs.{needs}
 use Rattle.tablet.proofs.opening.open_list.Statement.{statement}
 use Rattle.tablet.proofs.opening.open_list.Tie as tie
@@ -11,19 +11,19 @@ no-list-requires : tie.Need-no-list-requires
 no-list-requires c κs = search needs
 
 returns : tie.Need-returns
-returns c = open-1 _ _ _ _ _ _ (c .before .before .in-range .ensures) (c .before .if1 .taken) _ (c .no-list .ensures)
+returns c = open-1 _ _ (c .before .before .in-range .ensures) (c .before .if1 .taken) _ (c .no-list .ensures)
 
 no-list-requires-2 : tie.Need-no-list-requires-2
 no-list-requires-2 c κs = search needs
 
 returns-2 : tie.Need-returns-2
-returns-2 c = open-5 _ _ _ _ _ _ (c .before .before .before .in-range .ensures) (c .before .before .if1 .left) (c .before .if2 .taken) _ (c .no-list2 .ensures)
+returns-2 c = open-5 _ _ (c .before .before .before .in-range .ensures) (c .before .before .if1 .left) (c .before .if2 .taken) _ (c .no-list2 .ensures)
 
-padded-requires : tie.Need-padded-requires
-padded-requires c κs = open-few (c .before .before .before .args .table) (c .before .before .before .args .measure) (c .before .before .before .args .d) (c .before .before .before .args .probe .now) (c .before .before .before .args .reach) _ (c .before .before .in-range .ensures) (c .before .if1 .left) (c .if2 .left)
+query-of-requires : tie.Need-query-of-requires
+query-of-requires c κs = (c .if2 .left, open-narrow (record { order = c .before .before .before .args .order; table = c .before .before .before .args .table; measure = c .before .before .before .args .measure; d = c .before .before .before .args .d; probe = c .before .before .before .args .probe .now; reach = c .before .before .before .args .reach }) _ (c .before .before .in-range .ensures) (c .before .if1 .left))
 
 returns-3 : tie.Need-returns-3
-returns-3 c = open-list _ _ _ _ _ _ (c .before .before .before .in-range .ensures) (c .before .before .if1 .left) (c .before .if2 .left) _ (c .padded .ensures)
+returns-3 c = open-list _ _ (c .before .before .before .in-range .ensures) (c .before .before .if1 .left) (c .before .if2 .left) _ (c .query-of .ensures)
 
 pub open-list-spec : {M : Type 1} → statement M
 open-list-spec =
@@ -34,5 +34,5 @@ open-list-spec =
     returns
     no-list-requires-2
     returns-2
-    padded-requires
+    query-of-requires
     returns-3)

@@ -3,10 +3,10 @@ use Prim.Native.Nat.{_-_, _<_}
 use native.Mathlib.Omega.{arith}
 use lib.ListN.{length}
 use Rattle.tablet.proofs.TakeLaws.{page-items, page-some, page-none}
+use Rattle.paper.specs.Limits.{itemRoom}
 use borrow.Author.Needs.{needs}
 use Rattle.tablet.proofs.taking.page_holds.Statement.{statement}
 use Rattle.tablet.proofs.taking.page_holds.Tie as tie
-use Rattle.paper.specs.Limits.{itemRoom}
 
 cast-n : tie.Need-cast-n
 cast-n c = search needs
@@ -21,16 +21,16 @@ slice-aggregate-items-hold : tie.Need-slice-aggregate-items-hold
 slice-aggregate-items-hold c = search needs
 
 items-hold-requires : tie.Need-items-hold-requires
-items-hold-requires c κs = let long : itemRoom - 1 < length (c .before .before .before .before .before .before .args .y .items) = search needs in omega arith
+items-hold-requires c κs = let long : itemRoom - 1 < length (c .before .before .before .before .before .before .before .args .y .items) = search needs in omega arith
 
 returns : tie.Need-returns
-returns c = page-items _ _ _ (c .before .before .before .before .place-of .ensures) _ (c .before .items-hold .ensures) (c .if1 .taken)
+returns c = page-items _ _ (c .before .before .before .before .place-of .ensures) _ (c .before .items-hold .ensures) (c .if1 .taken)
 
 returns-2 : tie.Need-returns-2
-returns-2 c = page-some _ _ _ (c .before .before .before .before .before .place-of .ensures) _ (c .before .before .items-hold .ensures) (c .before .if1 .left) (c .if2 .taken)
+returns-2 c = page-some _ _ (c .before .before .before .before .before .place-of .ensures) _ (c .before .before .items-hold .ensures) (c .before .if1 .left) (c .if2 .taken)
 
 returns-3 : tie.Need-returns-3
-returns-3 c = page-none _ _ _ (c .before .before .before .before .before .before .place-of .ensures) _ (c .before .before .before .items-hold .ensures) (c .before .before .if1 .left) (c .before .if2 .left)
+returns-3 c = page-none _ _ (c .before .before .before .before .before .before .place-of .ensures) _ (c .before .before .before .items-hold .ensures) (c .before .before .if1 .left) (c .before .if2 .left)
 
 pub page-holds-spec : {M : Type 1} → statement M
 page-holds-spec =

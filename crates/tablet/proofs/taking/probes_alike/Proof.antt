@@ -14,8 +14,8 @@ slice-aggregate-same-probe-2 c = search needs
 
 same-probe-requires : tie.Need-same-probe-requires
 same-probe-requires c κs =
-    let p : 7 < length (c .before .before .before .before .args .l .probe) = search needs in
-    let q : 7 < length (c .before .before .before .before .args .y .probe) = search needs in
+    let a : 7 < length (c .before .before .before .before .args .p .probe) = search needs in
+    let b : 7 < length (c .before .before .before .before .args .q .probe) = search needs in
     (omega arith, omega arith)
 
 returns : tie.Need-returns

@@ -5,27 +5,23 @@ use Rattle.tablet.proofs.taking.same_query.Statement.{statement}
 use Rattle.tablet.proofs.taking.same_query.Tie as tie
 
 returns : tie.Need-returns
-returns c = query-table (c .before .before .before .before .args .l) (c .before .before .before .before .args .y) (c .if1 .taken)
+returns c = query-table (c .before .before .before .args .p) (c .before .before .before .args .q) (c .if1 .taken)
 
 returns-2 : tie.Need-returns-2
-returns-2 c = query-measure (c .before .before .before .before .before .before .before .args .l) (c .before .before .before .before .before .before .before .args .y) (c .before .before .before .if1 .left) (c .if2 .taken)
-
-cast-if3 : tie.Need-cast-if3
-cast-if3 c = search needs
+returns-2 c = query-measure (c .before .before .before .before .before .before .args .p) (c .before .before .before .before .before .before .args .q) (c .before .before .before .if1 .left) (c .if2 .taken)
 
 returns-3 : tie.Need-returns-3
-returns-3 c = query-d (c .before .before .before .before .before .before .before .before .before .before .args .l) (c .before .before .before .before .before .before .before .before .before .before .args .y) (c .before .before .before .before .before .before .if1 .left) (c .before .before .before .if2 .left) (c .if3 .taken)
+returns-3 c = query-d (c .before .before .before .before .before .before .before .before .before .args .p) (c .before .before .before .before .before .before .before .before .before .args .q) (c .before .before .before .before .before .before .if1 .left) (c .before .before .before .if2 .left) (c .if3 .taken)
 
 probes-alike-requires : tie.Need-probes-alike-requires
-probes-alike-requires c κs = c .before .before .before .before .before .before .before .before .before .before .pre
+probes-alike-requires c κs = search needs
 
 returns-4 : tie.Need-returns-4
-returns-4 c = query-probe (c .before .before .before .before .before .before .before .before .before .before .before .before .args .l) (c .before .before .before .before .before .before .before .before .before .before .before .before .args .y) (c .before .before .before .before .before .before .before .before .if1 .left) (c .before .before .before .before .before .if2 .left) (c .before .before .if3 .left) _ (c .before .probes-alike .ensures) (c .if4 .taken)
+returns-4 c = query-probe (c .before .before .before .before .before .before .before .before .before .before .before .args .p) (c .before .before .before .before .before .before .before .before .before .before .before .args .q) (c .before .before .before .before .before .before .before .before .if1 .left) (c .before .before .before .before .before .if2 .left) (c .before .before .if3 .left) _ (c .before .probes-alike .ensures) (c .if4 .taken)
 
 returns-5 : tie.Need-returns-5
-returns-5 c = query-reach (c .before .before .before .before .before .before .before .before .before .before .before .before .before .before .args .l) (c .before .before .before .before .before .before .before .before .before .before .before .before .before .before .args .y) (c .before .before .before .before .before .before .before .before .before .before .if1 .left) (c .before .before .before .before .before .before .before .if2 .left) (c .before .before .before .before .if3 .left) _ (c .before .before .before .probes-alike .ensures) (c .before .before .if4 .left)
+returns-5 c = query-reach (c .before .before .before .before .before .before .before .before .before .before .before .before .before .args .p) (c .before .before .before .before .before .before .before .before .before .before .before .before .before .args .q) (c .before .before .before .before .before .before .before .before .before .before .if1 .left) (c .before .before .before .before .before .before .before .if2 .left) (c .before .before .before .before .if3 .left) _ (c .before .before .before .probes-alike .ensures) (c .before .before .if4 .left)
 
 pub same-query-spec : {M : Type 1} → statement M
 same-query-spec =
-    tie.close
-    (tie.spec returns returns-2 cast-if3 returns-3 probes-alike-requires returns-4 returns-5)
+    tie.close (tie.spec returns returns-2 returns-3 probes-alike-requires returns-4 returns-5)

@@ -11,10 +11,10 @@ refused-requires : tie.Need-refused-requires
 refused-requires c κs = search needs
 
 returns : tie.Need-returns
-returns c = takes-refused _ _ _ _ _ (take-16 (c .before .before .before .args .order) (c .before .before .before .args .l) (c .before .before .before .args .room .now) (c .before .before .before .args .y) (c .before .if1 .taken)) (c .refused .ensures)
+returns c = takes-refused _ _ _ _ _ (take-16 (c .before .before .before .args .l) (c .before .before .before .args .room .now) (c .before .before .before .args .y) (c .before .if1 .taken)) (c .refused .ensures)
 
 to-present-requires : tie.Need-to-present-requires
-to-present-requires c κs = sound-asks (c .before .before .before .args .order) (c .before .before .before .args .l) (c .before .before .before .args .room .now) (c .before .before .before .pre .0) (c .before .if1 .left)
+to-present-requires c κs = sound-asks (c .before .before .before .args .l) (c .before .before .before .args .room .now) (c .before .before .before .pre .0) (c .before .if1 .left)
 
 refused-requires-2 : tie.Need-refused-requires-2
 refused-requires-2 c κs = search needs
@@ -25,7 +25,7 @@ same-length c = search needs
 returns-2 : tie.Need-returns-2
 returns-2 c =
     let g = c .before .before .before .before .before .before .args in
-    takes-refused _ _ _ _ _ (take-13 (g .order) (g .l) (g .room .now) (g .y) (c .before .before .before .before .if1 .left) _ (c .before .before .to-present .ensures (g .order)) (c .before .if2 .taken)) (c .refused2 .ensures)
+    takes-refused _ _ _ _ _ (take-13 (g .l) (g .room .now) (g .y) (c .before .before .before .before .if1 .left) _ (c .before .before .to-present .ensures) (c .before .if2 .taken)) (c .refused2 .ensures)
 
 page-holds-requires : tie.Need-page-holds-requires
 page-holds-requires c κs = search needs
@@ -39,15 +39,16 @@ same-length-2 c = search needs
 returns-3 : tie.Need-returns-3
 returns-3 c =
     let g = c .before .before .before .before .before .before .before .before .args in
-    takes-refused _ _ _ _ _
-    (take-14 (g .order) (g .l) (g .room .now) (g .y) (c .before .before .before .before .before .before .if1 .left) _ (c .before .before .before .before .to-present .ensures (g .order)) (c .before .before .before .if2 .left) _ (c .before .before .page-holds .ensures) (c .before .if3 .taken))
-    (c .refused3 .ensures)
+    takes-refused _ _ _ _ _ (take-14 (g .l) (g .room .now) (g .y) (c .before .before .before .before .before .before .if1 .left) _ (c .before .before .before .before .to-present .ensures) (c .before .before .before .if2 .left) _ (c .before .before .page-holds .ensures) (c .before .if3 .taken)) (c .refused3 .ensures)
 
 cast-n : tie.Need-cast-n
 cast-n c = search needs
 
 sub-if4 : tie.Need-sub-if4
-sub-if4 c = let few : c .before .before .before .before .before .before .before .before .before .args .l .count ≤ length (c .before .before .before .before .before .before .before .before .before .args .room .now) / 3 = sound-few (c .before .before .before .before .before .before .before .before .before .args .order) (c .before .before .before .before .before .before .before .before .before .args .l) (c .before .before .before .before .before .before .before .before .before .args .room .now) (c .before .before .before .before .before .before .before .before .before .pre .0) in omega arith
+sub-if4 c =
+    let g = c .before .before .before .before .before .before .before .before .before .args in
+    let few : g .l .count ≤ length (g .room .now) / 3 = sound-few (g .l) (g .room .now) (c .before .before .before .before .before .before .before .before .before .pre .0) in
+    omega arith
 
 refused-requires-4 : tie.Need-refused-requires-4
 refused-requires-4 c κs = search needs
@@ -59,13 +60,13 @@ returns-4 : tie.Need-returns-4
 returns-4 c =
     let g = c .before .before .before .before .before .before .before .before .before .before .before .args in
     takes-refused _ _ _ _ _
-    (take-15 (g .order) (g .l) (g .room .now) (g .y) (c .before .before .before .before .before .before .before .before .before .if1 .left) _ (c .before .before .before .before .before .before .before .to-present .ensures (g .order)) (c .before .before .before .before .before .before .if2 .left) _ (c .before .before .before .before .before .page-holds .ensures) (c .before .before .before .before .if3 .left)
-    (sound-few (g .order) (g .l) (g .room .now) (c .before .before .before .before .before .before .before .before .before .before .before .pre .0)) (c .before .if4 .taken))
+    (take-15 (g .l) (g .room .now) (g .y) (c .before .before .before .before .before .before .before .before .before .if1 .left) _ (c .before .before .before .before .before .before .before .to-present .ensures) (c .before .before .before .before .before .before .if2 .left) _ (c .before .before .before .before .before .page-holds .ensures) (c .before .before .before .before .if3 .left) (sound-few (g .l) (g .room .now) (c .before .before .before .before .before .before .before .before .before .before .before .pre .0)) (c .before .if4 .taken))
     (c .refused4 .ensures)
 
 join-page-requires : tie.Need-join-page-requires
 join-page-requires c κs =
-    let few : c .before .before .before .before .before .before .before .before .before .before .before .args .l .count ≤ length (c .before .before .before .before .before .before .before .before .before .before .before .args .room .now) / 3 = sound-few (c .before .before .before .before .before .before .before .before .before .before .before .args .order) (c .before .before .before .before .before .before .before .before .before .before .before .args .l) (c .before .before .before .before .before .before .before .before .before .before .before .args .room .now) (c .before .before .before .before .before .before .before .before .before .before .before .pre .0) in
+    let g = c .before .before .before .before .before .before .before .before .before .before .before .args in
+    let few : g .l .count ≤ length (g .room .now) / 3 = sound-few (g .l) (g .room .now) (c .before .before .before .before .before .before .before .before .before .before .before .pre .0) in
     (omega arith, c .before .before .before .before .before .before .before .before .before .before .before .pre .1)
 
 joined-requires : tie.Need-joined-requires
@@ -77,9 +78,9 @@ same-length-4 c = search needs
 returns-5 : tie.Need-returns-5
 returns-5 c =
     let g = c .before .before .before .before .before .before .before .before .before .before .before .before .before .before .before .args in
-    let few : g .l .count ≤ length (g .room .now) / 3 = sound-few (g .order) (g .l) (g .room .now) (c .before .before .before .before .before .before .before .before .before .before .before .before .before .before .before .pre .0) in
-    joined-is (g .order) (g .l) (g .room .now) (g .y) _ _ _
-    (take-joined (g .order) (g .l) (g .room .now) (g .y) (c .before .before .before .before .before .before .before .before .before .before .before .before .before .if1 .left) _ (c .before .before .before .before .before .before .before .before .before .before .before .to-present .ensures (g .order)) (c .before .before .before .before .before .before .before .before .before .before .if2 .left) _ (c .before .before .before .before .before .before .before .before .before .page-holds .ensures) (c .before .before .before .before .before .before .before .before .if3 .left) few (c .before .before .before .before .before .if4 .left))
+    let few : g .l .count ≤ length (g .room .now) / 3 = sound-few (g .l) (g .room .now) (c .before .before .before .before .before .before .before .before .before .before .before .before .before .before .before .pre .0) in
+    joined-is (g .l) (g .room .now) (g .y) _ _ _
+    (take-joined (g .l) (g .room .now) (g .y) (c .before .before .before .before .before .before .before .before .before .before .before .before .before .if1 .left) _ (c .before .before .before .before .before .before .before .before .before .before .before .to-present .ensures) (c .before .before .before .before .before .before .before .before .before .before .if2 .left) _ (c .before .before .before .before .before .before .before .before .before .page-holds .ensures) (c .before .before .before .before .before .before .before .before .if3 .left) few (c .before .before .before .before .before .if4 .left))
     (omega arith) (omega (arith, c .before .before .before .join-page .ensures .1, c .before .before .before .before .before .before .before .before .before .before .before .before .before .before .before .pre .1)) (c .joined .ensures) (c .before .before .before .join-page .ensures .0)
 
 pub take-answer-spec : {M : Type 1} → statement M

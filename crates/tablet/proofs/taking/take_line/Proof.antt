@@ -12,16 +12,16 @@ refused-requires : tie.Need-refused-requires
 refused-requires c κs = search needs
 
 returns : tie.Need-returns
-returns c = takes-refused _ _ _ _ _ (take-unread _ (c .before .before .before .before .before .pre) _ _ (c .before .before .read-answer .ensures) (c .before .if1 .taken)) (c .refused .ensures)
+returns c = takes-refused _ _ _ _ _ (take-unread _ (c .before .before .before .before .before .before .pre) _ _ (c .before .before .read-answer .ensures) (c .before .if1 .taken)) (c .refused .ensures)
 
 take-answer-requires : tie.Need-take-answer-requires
-take-answer-requires c κs = (c .before .before .before .before .before .before .pre, read-few _ _ (c .before .before .before .read-answer .ensures) (c .before .before .if1 .left))
+take-answer-requires c κs = (c .before .before .before .before .before .before .before .pre, read-few _ _ _ (c .before .before .before .read-answer .ensures) (c .before .before .if1 .left))
 
 same-length : tie.Need-same-length
 same-length c = search needs
 
 returns-2 : tie.Need-returns-2
-returns-2 c = taken-same _ _ _ _ (take-read _ (c .before .before .before .before .before .before .before .before .before .pre) _ _ (c .before .before .before .before .before .before .read-answer .ensures) (c .before .before .before .before .before .if1 .left)) (c .before .before .take-answer .ensures)
+returns-2 c = taken-same _ _ _ _ (take-read _ (c .before .before .before .before .before .before .before .before .before .before .pre) _ _ (c .before .before .before .before .before .before .read-answer .ensures) (c .before .before .before .before .before .if1 .left)) (c .before .before .take-answer .ensures)
 
 pub take-line-spec : {M : Type 1} → statement M
 take-line-spec =

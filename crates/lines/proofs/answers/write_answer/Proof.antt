@@ -1,10 +1,11 @@
 use native.Mathlib.Omega.{arith}
 use mathlib.Core.Path.{sym, _∙_}
+use Rattle.paper.specs.Orders.{queryIn}
 use Rattle.lines.proofs.Ways.{wrote-line, refused-12, refused-10}
 use Rattle.lines.proofs.Tests.{answer-fits}
 use borrow.Author.Needs.{needs}
-use Rattle.lines.proofs.answers.write_answer_as.Statement.{statement}
-use Rattle.lines.proofs.answers.write_answer_as.Tie as tie
+use Rattle.lines.proofs.answers.write_answer.Statement.{statement}
+use Rattle.lines.proofs.answers.write_answer.Tie as tie
 
 answer-fits-requires : tie.Need-answer-fits-requires
 answer-fits-requires c κs = search needs
@@ -15,8 +16,8 @@ returns c = refused-12 _ _ _ _ (sym (c .before .before .answer-fits .ensures) �
 fill-answer-requires : tie.Need-fill-answer-requires
 fill-answer-requires c κs =
     let a = c .before .before .before .before .before .before .args in
-    let p = answer-fits (a .measure) (a .d) (a .probe .now) (a .p) (a .last) (a .count) (a .items .now) (sym (c .before .before .before .answer-fits .ensures) ∙ c .before .before .if1 .taken) in
-    omega arith
+    let w = answer-fits (queryIn (a .q)) (a .p) (a .last) (a .count) (a .items .now) (sym (c .before .before .before .answer-fits .ensures) ∙ c .before .before .if1 .taken) in
+    omega (arith, w .query .range .narrow)
 
 same-length : tie.Need-same-length
 same-length c = search needs
@@ -29,7 +30,7 @@ returns-2 c =
 returns-3 : tie.Need-returns-3
 returns-3 c = refused-10 _ _ _ _ (sym (c .before .answer-fits .ensures) ∙ c .if1 .left)
 
-pub write-answer-as-spec : {M : Type 1} → statement M
-write-answer-as-spec =
+pub write-answer-spec : {M : Type 1} → statement M
+write-answer-spec =
     tie.close
     (tie.spec answer-fits-requires returns fill-answer-requires same-length returns-2 returns-3)

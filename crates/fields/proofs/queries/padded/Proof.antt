@@ -1,4 +1,4 @@
--- `tablet::opening::padded` meets its contract: after i turns the first i coordinates stand in their places. Assumes nothing.
+-- `fields::queries::padded` meets its contract: after i turns the first i coordinates stand in their places. Assumes nothing.
 use Prim.Native.Nat.{_+_, _-_, _≤_}
 use mathlib.Core.Path.{_≡_, refl, ap, _∙_}
 use mathlib.Core.List.{List, _++_}
@@ -7,9 +7,10 @@ use lib.IntN.{ℤ, pos}
 use lib.ListN.{length, set, getD, replicate}
 use lib.Seq.{take-all}
 use mir.Facts.{toZ-ofZ}
-use Rattle.tablet.proofs.PadLaws.{soFar, one-more}
-use Rattle.tablet.proofs.opening.padded.Statement.{statement}
-use Rattle.tablet.proofs.opening.padded.Tie as tie
+use Rattle.paper.specs.Fields.{places}
+use Rattle.fields.proofs.PadLaws.{soFar, one-more}
+use Rattle.fields.proofs.queries.padded.Statement.{statement}
+use Rattle.fields.proofs.queries.padded.Tie as tie
 
 abbrev Inv-loop : tie.InvT-loop
 Inv-loop probe places₀ i₀ places i = (i ≤ length probe) × (places ≡ soFar probe i)
@@ -48,6 +49,7 @@ loop-again c =
     )
 
 returns : tie.Need-returns Inv-loop μ-loop
+unfolding places
 returns c =
     let l = c .before .loop in
     let p = c .before .before .args .probe .now in

@@ -1,0 +1,73 @@
+// A query with its probe in eight places, from a probe of d coordinates and from a frame.
+ghost use mathlib.Core.Path.{_≡_};
+ghost use Prim.Native.Nat.{_≤_};
+ghost use lib.ListN.{length};
+ghost use Rattle.paper.specs.Fields.{places, inPlaces};
+ghost use Rattle.paper.specs.Orders.{queryIn};
+ghost use Rattle.paper.specs.Lines.{queryAt, queryFits};
+ghost use Rattle.digits.specs.Places.{held};
+ghost use Rattle.fields.specs.Fronts.{Begun};
+ghost use Rattle.paper.specs.Limits.{mostPlaces};
+use super::parts::coords_at;
+use paper::limits::MOST_PLACES;
+use paper::lines::has_lines;
+use paper::orders::Order;
+use paper::points::in_range;
+use paper::queries::Query;
+
+// A probe in eight places, the unused ones 0.
+fn padded(probe: &[i32]) -> [i32; MOST_PLACES]
+    requires { ⌜ length (now probe) ≤ mostPlaces ⌝ }
+    ensures { λ r. ⌜ r ≡ places (length (now (probe .entry))) (now (probe .entry)) ⌝ }
+{
+    let mut places = [0i32; MOST_PLACES];
+    let mut i: usize = 0;
+    while i < probe.len() {
+        places[i] = probe[i];
+        i += 1;
+    }
+    places
+}
+
+pub fn query_of(order: Order, table: u32, measure: u8, d: usize, probe: &[i32], reach: u64) -> Query
+    requires { ⌜ (length (now probe) ≡ d) × (d ≤ mostPlaces) ⌝ }
+    ensures { λ r. ⌜ r ≡ inPlaces (record { order = order; table = table; measure = measure; d = d; probe = now (probe .entry); reach = reach }) ⌝ }
+{
+    let places = padded(probe);
+    Query {
+        order,
+        table,
+        measure,
+        d,
+        probe: places,
+        reach,
+    }
+}
+
+// Whether a line can carry a query: its order has lines, and measure and d are in range.
+pub fn query_fits(q: Query) -> bool
+    ensures { λ r. ⌜ r ≡ queryFits (queryIn q) ⌝ }
+{
+    let order = q.order;
+    if has_lines(order) {
+        return in_range(q.measure, q.d);
+    }
+    false
+}
+
+// The query of an ask's or an answer's frame, in the order that its kind tells.
+pub fn query_at(order: Order, src: &[u8]) -> Query
+    requires { ⌜ Begun (held (now src)) ⌝ }
+    ensures { λ r. ⌜ r ≡ queryAt order (held (now (src .entry))) ⌝ }
+{
+    let d = digits::number(src, 6, 1) as usize;
+    let probe = coords_at(src, 7, d);
+    Query {
+        order,
+        table: digits::number(src, 1, 4) as u32,
+        measure: digits::number(src, 5, 1) as u8,
+        d,
+        probe,
+        reach: digits::number(src, 7 + 4 * d, 8),
+    }
+}

@@ -1,0 +1,25 @@
+// What a list is opened with: its asks and their answers repeat it.
+use crate::limits::MOST_PLACES;
+use crate::orders::Order;
+
+pub struct Query {
+    pub order: Order,
+    pub table: u32,
+    pub measure: u8,
+    pub d: usize,
+    // Unused places are 0.
+    pub probe: [i32; MOST_PLACES],
+    pub reach: u64,
+}
+
+impl Query {
+    // What stands beside a refusal.
+    pub const NONE: Query = Query {
+        order: Order::Near,
+        table: 0,
+        measure: 0,
+        d: 0,
+        probe: [0i32; MOST_PLACES],
+        reach: 0,
+    };
+}
