@@ -26,7 +26,7 @@ use Rattle.paper.specs.Ends.{answerOf, tableOf, matches}
 use Rattle.paper.specs.Codec.{placeIn, scopeOf, answerLine}
 use Rattle.paper.proofs.Tests.{and-first, and-second, and-both}
 use Rattle.paper.proofs.Ranges.{is-range}
-use Rattle.paper.proofs.Places.{place-start, place-after}
+use Rattle.checks.proofs.Naming.{place-start, place-after}
 use Rattle.tree.proofs.Known.{good-few}
 use Rattle.paper.specs.Calls.{tableQuery}
 use Rattle.walk.specs.Asking.{Pageable, Markable, PageIs}

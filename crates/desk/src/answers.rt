@@ -8,13 +8,14 @@ ghost use Rattle.paper.specs.Program.{replyTo};
 ghost use Rattle.paper.specs.Lines.{Writes};
 ghost use Rattle.desk.specs.Desk.{Open, Answering, Asking, askIn, pageReply};
 use super::pages::tell_page;
+use checks::is_ours;
+use checks::place_of;
+use checks::snapshot_holds;
 use paper::lines::Ask;
 use paper::lines::Scope;
 use paper::lines::Wrote;
-use paper::lines::place_of;
 use paper::queries::Query;
 use paper::tables::Table;
-use paper::tables::is_ours;
 
 // The answer to an ask that is about this table.
 fn answer_here(
@@ -31,7 +32,7 @@ fn answer_here(
     ensures { λ r. ⌜ Writes (pageReply (tableOf (lent t (references .entry) (coordinates .entry) (rooms .entry))) (askIn q p size)) (now (out .entry)) r (now (out .exit)) ⌝ }
 {
     let place = place_of(p);
-    if !place.snapshot_holds(t.count) {
+    if !snapshot_holds(place, t.count) {
         return Wrote::Refused(7);
     }
     let d = q.d;

@@ -8,11 +8,11 @@ ghost use Rattle.paper.specs.Ends.{tableOf};
 ghost use Rattle.paper.specs.Codec.{placeIn, scopeOf};
 ghost use Rattle.paper.specs.Lines.{Writes};
 ghost use Rattle.desk.specs.Desk.{Paging, askIn, pageLine};
+use checks::flag;
+use checks::place_of;
 use paper::limits::ITEM_ROOM;
 use paper::lines::Scope;
 use paper::lines::Wrote;
-use paper::lines::flag;
-use paper::lines::place_of;
 use paper::queries::Query;
 use paper::tables::Table;
 

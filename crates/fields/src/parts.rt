@@ -9,9 +9,9 @@ ghost use Rattle.paper.specs.Orders.{queryIn};
 ghost use Rattle.paper.specs.Lines.{headOk};
 ghost use Rattle.digits.specs.Places.{held, over};
 ghost use Rattle.paper.specs.Limits.{mostPlaces};
+use checks::in_range;
 use paper::limits::MOST_PLACES;
 use paper::lines::Scope;
-use paper::points::in_range;
 use paper::queries::Query;
 
 // The kind of the frame that `src` holds.

@@ -9,10 +9,10 @@ ghost use Rattle.digits.specs.Places.{held};
 ghost use Rattle.fields.specs.Fronts.{Begun};
 ghost use Rattle.paper.specs.Limits.{mostPlaces};
 use super::parts::coords_at;
+use checks::has_lines;
+use checks::in_range;
 use paper::limits::MOST_PLACES;
-use paper::lines::has_lines;
 use paper::orders::Order;
-use paper::points::in_range;
 use paper::queries::Query;
 
 // A probe in eight places, the unused ones 0.

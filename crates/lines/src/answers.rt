@@ -11,6 +11,7 @@ ghost use Rattle.paper.specs.Lines.{Writes, bareLine, answerFrame, answerRanges
 ghost use Rattle.digits.specs.Places.{held, over};
 ghost use Rattle.lines.specs.Kinds.{IsAnswer};
 ghost use Rattle.paper.specs.Limits.{longestAnswer, mostPage, mostPlaces};
+use checks::answer_kind;
 use paper::limits::ITEM_ROOM;
 use paper::limits::LONGEST_ANSWER;
 use paper::limits::LONGEST_FRAME;
@@ -19,7 +20,6 @@ use paper::lines::Answer;
 use paper::lines::AnswerRead;
 use paper::lines::Scope;
 use paper::lines::Wrote;
-use paper::lines::answer_kind;
 use paper::orders::Order;
 use paper::queries::Query;
 

@@ -8,15 +8,15 @@ ghost use Rattle.paper.specs.Lines.{Writes, bareLine, askFrame, askRanges, askF
 ghost use Rattle.paper.specs.Orders.{queryIn};
 ghost use Rattle.digits.specs.Places.{held};
 ghost use Rattle.paper.specs.Limits.{longestAsk, mostPlaces};
+use checks::ask_kind;
+use checks::ask_order;
+use checks::size_holds;
 use paper::limits::LONGEST_ASK;
 use paper::limits::LONGEST_FRAME;
 use paper::lines::Ask;
 use paper::lines::AskRead;
 use paper::lines::Scope;
 use paper::lines::Wrote;
-use paper::lines::ask_kind;
-use paper::lines::ask_order;
-use paper::orders::size_holds;
 use paper::queries::Query;
 
 fn ask_ranges(p: Scope, size: u64) -> bool

@@ -7,13 +7,13 @@ ghost use Rattle.paper.specs.Frames.{lineOf, written};
 ghost use Rattle.paper.specs.Lines.{Writes, bareLine, claimFrame, claimFits, claimOk, claimAt, noClaim, claimOf};
 ghost use Rattle.digits.specs.Places.{held};
 ghost use Rattle.paper.specs.Limits.{longestClaim, mostPlaces};
+use checks::in_range;
 use paper::limits::LONGEST_CLAIM;
 use paper::limits::LONGEST_FRAME;
 use paper::limits::MOST_PLACES;
 use paper::lines::ClaimLine;
 use paper::lines::ClaimRead;
 use paper::lines::Wrote;
-use paper::points::in_range;
 
 fn claim_fits(measure: u8, d: u8, coords: &[i32]) -> bool
     ensures { λ r. ⌜ r ≡ claimFits measure d (now (coords .entry)) ⌝ }

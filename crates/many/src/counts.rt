@@ -4,7 +4,7 @@ ghost use Prim.Native.Nat.{_*_, _≤_};
 ghost use lib.Dec.{leb};
 ghost use Rattle.paper.specs.Tree.{lent};
 ghost use Rattle.many.specs.Counts.{manyRefusal};
-use paper::counts::is_whole;
+use checks::is_whole;
 use paper::tables::Table;
 
 // Whether a room has w numbers for each of n rows.

@@ -13,9 +13,9 @@ use crate::counts::has_rows;
 use crate::counts::many_refusal;
 use crate::places::place_at;
 use crate::rows::put_page;
-use paper::counts::is_whole;
+use checks::is_whole;
+use checks::size_holds;
 use paper::orders::Order;
-use paper::orders::size_holds;
 use paper::tables::Table;
 use tested::page_here;
 

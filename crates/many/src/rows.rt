@@ -6,7 +6,7 @@ ghost use lib.ListN.{length};
 ghost use lib.Seq.{sets};
 ghost use Rattle.many.specs.Rows.{foundRow};
 ghost use Rattle.many.specs.Pages.{pageRow};
-use paper::lines::flag;
+use checks::flag;
 use paper::orders::Found;
 use paper::orders::Page;
 

@@ -7,11 +7,11 @@ ghost use Rattle.paper.specs.Outcomes.{Promise, Shows};
 ghost use Rattle.paper.specs.Tree.{lent};
 ghost use Rattle.paper.specs.Calls.{nearestCall, farthestCall, nearestShown, pageCall, pageShown, putPage};
 use crate::tables::table_refusal;
+use checks::size_holds;
 use paper::orders::Nearest;
 use paper::orders::Order;
 use paper::orders::Page;
 use paper::orders::Place;
-use paper::orders::size_holds;
 use paper::tables::Table;
 
 // Refusals 1, 2, 5.

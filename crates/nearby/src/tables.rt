@@ -4,7 +4,7 @@ ghost use Rattle.paper.specs.Outcomes.{Promise, Shows, number as Outcomes·numb
 ghost use Rattle.paper.specs.Tree.{lent, lentMemory};
 ghost use Rattle.paper.specs.Runs.{emptyTable, makeCall, madeShown, enterCall, enteredShown, putStore};
 ghost use Rattle.paper.specs.Calls.{tableRefusal};
-use paper::counts::is_whole;
+use checks::is_whole;
 use paper::tables::Entered;
 use paper::tables::Made;
 use paper::tables::Table;

@@ -5,8 +5,6 @@ pub mod LineExamples
 pub mod ProgramExample
 pub mod Tests
 pub mod Ranges
-pub mod Groups
 pub mod Outcomes
-pub mod Places
 pub mod Reading
 pub mod LineKinds

@@ -1,52 +1,8 @@
 // The three kinds of line as values: what readers give, and what writers answer.
-ghost use mathlib.Core.Path.{_≡_};
-ghost use Rattle.paper.specs.Fields.{flagOf};
-ghost use Rattle.paper.specs.Lines.{askKind, answerKind, spoken, askOrder};
-ghost use Rattle.paper.specs.Codec.{placeIn};
 use crate::limits::ITEM_ROOM;
 use crate::limits::MOST_CLAIMS;
 use crate::limits::MOST_PLACES;
-use crate::orders::Mark;
-use crate::orders::Order;
-use crate::orders::Place;
 use crate::queries::Query;
-
-// The kind of an ask in an order; 0 is none, and lists in far order have no lines yet.
-pub fn ask_kind(order: Order) -> u8
-    ensures { λ r. ⌜ r ≡ askKind order ⌝ }
-{
-    match order {
-        Order::Near => 1,
-        Order::Far => 0,
-    }
-}
-
-// The kind of an answer in an order.
-pub fn answer_kind(order: Order) -> u8
-    ensures { λ r. ⌜ r ≡ answerKind order ⌝ }
-{
-    match order {
-        Order::Near => 2,
-        Order::Far => 0,
-    }
-}
-
-// Whether an order has kinds of line.
-pub fn has_lines(order: Order) -> bool
-    ensures { λ r. ⌜ r ≡ spoken order ⌝ }
-{
-    1 <= ask_kind(order)
-}
-
-// The order whose asks are of a kind, near where there is none.
-pub fn ask_order(kind: u64) -> Order
-    ensures { λ r. ⌜ r ≡ askOrder kind ⌝ }
-{
-    if kind == ask_kind(Order::Far) as u64 {
-        return Order::Far;
-    }
-    Order::Near
-}
 
 // What an ask and an answer have behind the reach: distance and number are the mark.
 pub struct Scope {
@@ -116,21 +72,4 @@ pub struct ClaimRead {
 pub enum Wrote {
     Line(usize),
     Refused(u8),
-}
-
-// A flag as a line and C have it.
-pub fn flag(b: bool) -> u8
-    ensures { λ r. ⌜ r ≡ flagOf b ⌝ }
-{
-    if b { 1 } else { 0 }
-}
-
-// Where the page starts that an ask or an answer is about.
-pub fn place_of(p: Scope) -> Place
-    ensures { λ r. ⌜ r ≡ placeIn p ⌝ }
-{
-    if p.from == 0 {
-        return Place::Start;
-    }
-    Place::After(p.snapshot as u64, Mark::at(p.distance, p.number as u64))
 }

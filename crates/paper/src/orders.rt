@@ -1,10 +1,7 @@
 // Document 01, "Near order" and "Asking".
 ghost use mathlib.Core.Path.{_≡_};
-ghost use lib.Dec.{leb};
-ghost use Rattle.paper.specs.Orders.{startMark, markAt, snapshotOf};
+ghost use Rattle.paper.specs.Orders.{startMark, markAt};
 ghost use Rattle.paper.specs.Orders.{rank as Orders·rank, before as Orders·before};
-ghost use Rattle.paper.specs.Ends.{sizeHolds};
-use crate::limits::MOST_PAGE;
 
 // Near order is the base's order of a list; far order is farthest's.
 pub enum Order {
@@ -69,28 +66,6 @@ impl Mark {
 pub enum Place {
     Start,
     After(u64, Mark),
-}
-
-impl Place {
-    // Whether the snapshot is within the count: refusal 7. From the start it is the count itself.
-    pub fn snapshot_holds(self, count: usize) -> bool
-        ensures { λ r. ⌜ r ≡ leb (snapshotOf self count) count ⌝ }
-    {
-        match self {
-            Place::Start => true,
-            Place::After(snapshot, _) => snapshot <= count as u64,
-        }
-    }
-}
-
-// Whether a page may have so many items: refusal 6.
-pub fn size_holds(size: usize) -> bool
-    ensures { λ r. ⌜ r ≡ sizeHolds size ⌝ }
-{
-    if size < 1 {
-        return false;
-    }
-    size <= MOST_PAGE
 }
 
 // What a page call gives beside the room's filled front: how many items stand there, and whether the page is the last.

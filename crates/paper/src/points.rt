@@ -1,9 +1,8 @@
 // Document 01, "Points and measures".
 ghost use mathlib.Core.Path.{_≡_};
 ghost use Prim.Native.Nat.{_≤_};
-ghost use Rattle.paper.specs.Points.{measureOf, greatestOf, inRange};
+ghost use Rattle.paper.specs.Points.{measureOf, greatestOf};
 ghost use Rattle.paper.specs.Limits.{mostPlaces};
-use crate::limits::MOST_PLACES;
 
 pub enum Measure {
     CityBlock,
@@ -44,20 +43,4 @@ impl Measure {
             Measure::Hamming => d,
         }
     }
-}
-
-// Whether there is such a measure, and d is in range: the first part of refusal 1 for tables and lists, and of 10 for lines.
-pub fn in_range(measure: u8, d: usize) -> bool
-    ensures { λ r. ⌜ r ≡ inRange measure d ⌝ }
-{
-    if measure < Measure::FIRST {
-        return false;
-    }
-    if Measure::LAST < measure {
-        return false;
-    }
-    if d < 1 {
-        return false;
-    }
-    d <= MOST_PLACES
 }

@@ -1,9 +1,4 @@
 // Document 01, "Building the tree": the header of a table. Its claims and rooms lie in memory that the caller lends.
-
-ghost use mathlib.Core.Path.{_≡_};
-ghost use mathlib.Core.Bool.{_&&_};
-ghost use lib.Dec.{eqb};
-
 #[repr(C)]
 pub struct Table {
     pub number: u32,
@@ -25,17 +20,4 @@ pub enum Made {
 pub enum Entered {
     Table(Table),
     Refused(u8),
-}
-
-// Whether a line is about this table: its number, measure and d, the test behind 11.
-pub fn is_ours(t: Table, number: u32, measure: u8, d: usize) -> bool
-    ensures { λ r. ⌜ r ≡ eqb number (t .number) && (eqb measure (t .measure) && eqb d (t .d)) ⌝ }
-{
-    if number != t.number {
-        return false;
-    }
-    if measure != t.measure {
-        return false;
-    }
-    d == t.d
 }

@@ -5,9 +5,9 @@ ghost use Rattle.paper.specs.Tree.{lent};
 ghost use Rattle.paper.specs.Program.{tableFor, entering, claimTurn};
 ghost use Rattle.serve.specs.Serving.{booksOf, headerFor, Claiming, Served};
 use super::saying::refuse;
+use checks::is_ours;
 use paper::lines::ClaimLine;
 use paper::tables::Table;
-use paper::tables::is_ours;
 
 // What a line leads to: the table after it, and where what was said ends.
 pub struct Step {

@@ -11,11 +11,11 @@ ghost use Rattle.paper.specs.Lines.{Writes};
 ghost use Rattle.paper.specs.Codec.{scopeOf, askLine, lines};
 ghost use Rattle.tablet.specs.Holding.{Asks};
 ghost use Rattle.paper.specs.Limits.{longestAsk, mostPage};
+use checks::size_holds;
 use paper::limits::LONGEST_ASK;
 use paper::lines::Scope;
 use paper::lines::Wrote;
 use paper::lists::List;
-use paper::orders::size_holds;
 
 // Where the next page starts, as lines write it.
 pub fn present(l: List, room: &[u64]) -> Scope

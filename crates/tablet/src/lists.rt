@@ -7,10 +7,10 @@ ghost use Rattle.tablet.specs.Holding.{startedBy, fieldsHold};
 ghost use Rattle.paper.specs.Limits.{mostPlaces};
 use crate::items::items_hold;
 use crate::probes::unused_zero;
-use paper::lines::has_lines;
+use checks::has_lines;
+use checks::in_range;
 use paper::lists::List;
 use paper::orders::Place;
-use paper::points::in_range;
 
 fn started_well(started: bool, count: usize, snapshot: u64, complete: bool) -> bool
     ensures { λ r. ⌜ r ≡ startedBy started count snapshot complete ⌝ }

@@ -1,10 +1,10 @@
 // Opening a list: nothing is held yet, and the probe stands in eight places.
 ghost use mathlib.Core.Path.{_≡_};
 ghost use Rattle.paper.specs.Lists.{noList, openingHeld, openedTold};
+use checks::in_range;
 use paper::lists::List;
 use paper::lists::Opened;
 use paper::orders::Order;
-use paper::points::in_range;
 use paper::queries::Query;
 
 fn no_list(n: u8) -> Opened

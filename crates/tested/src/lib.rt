@@ -6,6 +6,7 @@ ghost use Rattle.paper.specs.Outcomes.{number, Promise};
 ghost use Rattle.paper.specs.Tree.{lent};
 ghost use Rattle.paper.specs.Calls.{pageCall, pageShown, putPage};
 ghost use Rattle.tested.specs.Askable.{Askable};
+use checks::snapshot_holds;
 use paper::orders::Order;
 use paper::orders::Page;
 use paper::orders::Place;
@@ -27,7 +28,7 @@ fn place_refusal(
     requires { ⌜ Askable (lent t references coordinates rooms) (length (now probe)) size ⌝ }
     ensures { λ r. ⌜ r ≡ number (pageCall (lent t (references .entry) (coordinates .entry) (rooms .entry)) order (now (probe .entry)) reach place size room) ⌝ }
 {
-    if !place.snapshot_holds(t.count) {
+    if !snapshot_holds(place, t.count) {
         return 7;
     }
     if !walk::questions::mark_holds(t, coordinates, probe, reach, place) {

@@ -8,9 +8,9 @@ ghost use Rattle.tree.specs.Rooms.{Located};
 ghost use Rattle.tree.specs.Soundness.{Lent};
 ghost use Rattle.paper.specs.Limits.{mostClaims};
 use super::entering::enter;
+use checks::in_range;
 use paper::limits::MOST_CLAIMS;
 use paper::limits::SCRATCH_ROOM;
-use paper::points::in_range;
 use paper::tables::Table;
 
 // Whether the table is in range, and the lent memory holds what it needs.

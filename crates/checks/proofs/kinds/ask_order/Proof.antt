@@ -1,9 +1,9 @@
--- `paper::lines::ask_order` meets its contract: the kind of far asks is tried first. Assumes nothing.
+-- `checks::kinds::ask_order` meets its contract: the kind of far asks is tried first. Assumes nothing.
 use mathlib.Core.Path.{_∙_}
 use borrow.Author.Tests.{eq-eqb, ne-eqb}
 use borrow.Author.Needs.{needs}
-use Rattle.paper.proofs.lines.ask_order.Statement.{statement}
-use Rattle.paper.proofs.lines.ask_order.Tie as tie
+use Rattle.checks.proofs.kinds.ask_order.Statement.{statement}
+use Rattle.checks.proofs.kinds.ask_order.Tie as tie
 
 ask-kind-requires : tie.Need-ask-kind-requires
 ask-kind-requires c κs = search needs

@@ -1,8 +1,8 @@
--- `paper::counts::is_whole` meets its contract. Assumes nothing.
+-- `checks::counts::is_whole` meets its contract. Assumes nothing.
 use borrow.Author.Needs.{needs}
-use Rattle.paper.proofs.Groups.{whole-part, whole-other, whole-is}
-use Rattle.paper.proofs.counts.is_whole.Statement.{statement}
-use Rattle.paper.proofs.counts.is_whole.Tie as tie
+use Rattle.checks.proofs.Groups.{whole-part, whole-other, whole-is}
+use Rattle.checks.proofs.counts.is_whole.Statement.{statement}
+use Rattle.checks.proofs.counts.is_whole.Tie as tie
 
 rem-if1 : tie.Need-rem-if1
 rem-if1 c = search needs

@@ -1,10 +1,10 @@
--- `paper::lines::place_of` meets its contract: 0 is the start, 1 a place. Assumes nothing.
+-- `checks::places::place_of` meets its contract: 0 is the start, 1 a place. Assumes nothing.
 use mathlib.Core.Path.{sym, ap, _∙_}
 use Rattle.paper.specs.declared.orders.Place.the-variants.{After}
-use Rattle.paper.proofs.Places.{place-start, place-after}
+use Rattle.checks.proofs.Naming.{place-start, place-after}
 use borrow.Author.Needs.{needs}
-use Rattle.paper.proofs.lines.place_of.Statement.{statement}
-use Rattle.paper.proofs.lines.place_of.Tie as tie
+use Rattle.checks.proofs.places.place_of.Statement.{statement}
+use Rattle.checks.proofs.places.place_of.Tie as tie
 
 returns : tie.Need-returns
 returns c = sym (place-start (c .before .before .args .p) (c .if1 .taken))

@@ -1,7 +1,7 @@
--- `paper::lines::has_lines` meets its contract. Assumes nothing.
+-- `checks::kinds::has_lines` meets its contract. Assumes nothing.
 use borrow.Author.Needs.{needs}
-use Rattle.paper.proofs.lines.has_lines.Statement.{statement}
-use Rattle.paper.proofs.lines.has_lines.Tie as tie
+use Rattle.checks.proofs.kinds.has_lines.Statement.{statement}
+use Rattle.checks.proofs.kinds.has_lines.Tie as tie
 
 ask-kind-requires : tie.Need-ask-kind-requires
 ask-kind-requires c κs = search needs

@@ -1,7 +1,7 @@
--- `paper::tables::is_ours` meets its contract, a law for each way. Assumes nothing.
-use Rattle.paper.proofs.Places.{ours-not, ours-nor, ours-then}
-use Rattle.paper.proofs.tables.is_ours.Statement.{statement}
-use Rattle.paper.proofs.tables.is_ours.Tie as tie
+-- `checks::tables::is_ours` meets its contract, a law for each way. Assumes nothing.
+use Rattle.checks.proofs.Naming.{ours-not, ours-nor, ours-then}
+use Rattle.checks.proofs.tables.is_ours.Statement.{statement}
+use Rattle.checks.proofs.tables.is_ours.Tie as tie
 
 returns : tie.Need-returns
 returns c = ours-not (c .before .before .args .number) (c .before .before .args .t .number) (c .before .before .args .measure) (c .before .before .args .t .measure) (c .before .before .args .d) (c .before .before .args .t .d) (c .if1 .taken)

@@ -1,8 +1,8 @@
--- `paper::points::in_range` meets its contract: its tests are the definition's. Assumes nothing.
+-- `checks::ranges::in_range` meets its contract: its tests are the definition's. Assumes nothing.
 use borrow.Author.Tests.{le-leb, lt-leb}
 use Rattle.paper.specs.Points.{inRange}
-use Rattle.paper.proofs.points.in_range.Statement.{statement}
-use Rattle.paper.proofs.points.in_range.Tie as tie
+use Rattle.checks.proofs.ranges.in_range.Statement.{statement}
+use Rattle.checks.proofs.ranges.in_range.Tie as tie
 
 returns : tie.Need-returns
 unfolding inRange

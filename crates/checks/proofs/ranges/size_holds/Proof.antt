@@ -1,7 +1,7 @@
--- `paper::orders::size_holds` meets its contract: its tests are the definition's. Assumes nothing.
+-- `checks::ranges::size_holds` meets its contract: its tests are the definition's. Assumes nothing.
 use borrow.Author.Tests.{le-leb, lt-leb}
-use Rattle.paper.proofs.orders.size_holds.Statement.{statement}
-use Rattle.paper.proofs.orders.size_holds.Tie as tie
+use Rattle.checks.proofs.ranges.size_holds.Statement.{statement}
+use Rattle.checks.proofs.ranges.size_holds.Tie as tie
 
 returns : tie.Need-returns
 returns c = rw (lt-leb 1 (c .before .args .size) (c .if1 .taken))

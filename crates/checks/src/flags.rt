@@ -1,0 +1,10 @@
+// A flag as a number.
+ghost use mathlib.Core.Path.{_≡_};
+ghost use Rattle.paper.specs.Fields.{flagOf};
+
+// A flag as a line and C have it.
+pub fn flag(b: bool) -> u8
+    ensures { λ r. ⌜ r ≡ flagOf b ⌝ }
+{
+    if b { 1 } else { 0 }
+}

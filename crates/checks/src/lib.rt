@@ -1,0 +1,20 @@
+// Tests that several layers put, and small readings that they share. They stand apart from `paper`, whose examples are then checked in
+// seconds.
+mod counts;
+mod flags;
+mod kinds;
+mod places;
+mod ranges;
+mod tables;
+
+pub use counts::is_whole;
+pub use flags::flag;
+pub use kinds::answer_kind;
+pub use kinds::ask_kind;
+pub use kinds::ask_order;
+pub use kinds::has_lines;
+pub use places::place_of;
+pub use places::snapshot_holds;
+pub use ranges::in_range;
+pub use ranges::size_holds;
+pub use tables::is_ours;

@@ -1,0 +1,33 @@
+// The ranges of measure and d, and of page sizes.
+ghost use mathlib.Core.Path.{_≡_};
+ghost use Rattle.paper.specs.Points.{inRange};
+ghost use Rattle.paper.specs.Ends.{sizeHolds};
+use paper::limits::MOST_PAGE;
+use paper::limits::MOST_PLACES;
+use paper::points::Measure;
+
+// Whether there is such a measure, and d is in range: the first part of refusal 1 for tables and lists, and of 10 for lines.
+pub fn in_range(measure: u8, d: usize) -> bool
+    ensures { λ r. ⌜ r ≡ inRange measure d ⌝ }
+{
+    if measure < Measure::FIRST {
+        return false;
+    }
+    if Measure::LAST < measure {
+        return false;
+    }
+    if d < 1 {
+        return false;
+    }
+    d <= MOST_PLACES
+}
+
+// Whether a page may have so many items: refusal 6.
+pub fn size_holds(size: usize) -> bool
+    ensures { λ r. ⌜ r ≡ sizeHolds size ⌝ }
+{
+    if size < 1 {
+        return false;
+    }
+    size <= MOST_PAGE
+}
