@@ -4,7 +4,7 @@
 ghost use mathlib.Core.Path.{_≡_};
 ghost use Prim.Native.Nat.{_≤_};
 ghost use Rattle.paper.specs.Limits.{mostPlaces};
-ghost use Rattle.c_values.specs.Values.{noTable, madeOut, enteredOut, itemOut, filledOut, writtenOf, placeOf, listIn, listOut, scopeIn, extentOut, askOut, answerOut};
+ghost use Rattle.c_values.specs.Values.{noTable, madeOut, enteredOut, itemOut, filledOut, writtenOf, placeOf, listIn, listOut, openedOut, takenOut, scopeIn, extentOut, askOut, answerOut};
 use checks::flag;
 use paper::limits::ITEM_ROOM;
 use paper::limits::MOST_PLACES;
@@ -13,6 +13,8 @@ use paper::lines::AskRead;
 use paper::lines::Scope;
 use paper::lines::Wrote;
 use paper::lists::List;
+use paper::lists::Opened;
+use paper::lists::Taken;
 use paper::orders::Found;
 use paper::orders::Mark;
 use paper::orders::Nearest;
@@ -267,7 +269,7 @@ pub fn list_in(l: Listing) -> List
     }
 }
 
-pub fn list_out(l: List) -> Listing
+fn list_out(l: List) -> Listing
     ensures { λ r. ⌜ r ≡ listOut l ⌝ }
 {
     let query = l.query;
@@ -282,6 +284,26 @@ pub fn list_out(l: List) -> Listing
         reach: query.reach,
         snapshot: l.snapshot,
         count: l.count,
+    }
+}
+
+pub fn list_opened(o: Opened) -> Listed
+    ensures { λ r. ⌜ r ≡ openedOut o ⌝ }
+{
+    let list = o.list;
+    Listed {
+        refusal: o.refusal,
+        list: list_out(list),
+    }
+}
+
+pub fn list_taken(t: Taken) -> Listed
+    ensures { λ r. ⌜ r ≡ takenOut t ⌝ }
+{
+    let list = t.list;
+    Listed {
+        refusal: t.refusal,
+        list: list_out(list),
     }
 }
 

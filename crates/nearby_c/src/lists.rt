@@ -9,7 +9,8 @@ use c_values::Listing;
 use c_values::Written;
 use c_values::line_of;
 use c_values::list_in;
-use c_values::list_out;
+use c_values::list_opened;
+use c_values::list_taken;
 
 // Refusals 1, 5.
 #[no_mangle]
@@ -23,11 +24,7 @@ pub extern "C" fn nearby_open_list(
     ensures { λ r. ⌜ r ≡ openedOut (openedTold (openingHeld (nearQuery table measure d (now (probe .entry)) reach))) ⌝ }
 {
     let opened = nearby::open_list(table, measure, d, probe, reach);
-    let list = opened.list;
-    Listed {
-        refusal: opened.refusal,
-        list: list_out(list),
-    }
+    list_opened(opened)
 }
 
 // Refusals 2, 16, 6, 12.
@@ -47,9 +44,5 @@ pub extern "C" fn nearby_take(l: Listing, room: &mut [u64], line: &[u8]) -> List
 {
     let list = list_in(l);
     let taken = nearby::take(list, room, line);
-    let after = taken.list;
-    Listed {
-        refusal: taken.refusal,
-        list: list_out(after),
-    }
+    list_taken(taken)
 }

@@ -1,5 +1,5 @@
 -- `nearby_c::lists::nearby_open_list` meets its contract: what `nearby::open_list` gives. Assumes nothing.
-use mathlib.Core.Path.{ap}
+use mathlib.Core.Path.{ap, _∙_}
 use Rattle.c_values.specs.Values.{openedOut}
 use borrow.Author.Needs.{needs}
 use Rattle.nearby_c.proofs.lists.nearby_open_list.Statement.{statement}
@@ -8,11 +8,11 @@ use Rattle.nearby_c.proofs.lists.nearby_open_list.Tie as tie
 open-list-requires : tie.Need-open-list-requires
 open-list-requires c κs = search needs
 
-list-out-requires : tie.Need-list-out-requires
-list-out-requires c κs = search needs
+list-opened-requires : tie.Need-list-opened-requires
+list-opened-requires c κs = search needs
 
 returns : tie.Need-returns
-returns c = rw (c .list-out .ensures) (ap openedOut (c .before .before .open-list .ensures))
+returns c = c .list-opened .ensures ∙ ap openedOut (c .before .open-list .ensures)
 
 pub nearby-open-list-spec : {M : Type 1} → statement M
-nearby-open-list-spec = tie.close (tie.spec open-list-requires list-out-requires returns)
+nearby-open-list-spec = tie.close (tie.spec open-list-requires list-opened-requires returns)

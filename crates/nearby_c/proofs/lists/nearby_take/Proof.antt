@@ -12,15 +12,17 @@ list-in-requires c κs = search needs
 take-requires : tie.Need-take-requires
 take-requires c κs = search needs
 
-list-out-requires : tie.Need-list-out-requires
-list-out-requires c κs = search needs
+list-taken-requires : tie.Need-list-taken-requires
+list-taken-requires c κs = search needs
 
 same-length : tie.Need-same-length
 same-length c = search needs
 
 returns : tie.Need-returns
-returns c = taken-from (λ x. takingHeld lines (held x (c .before .before .before .before .before .before .before .before .before .args .room .now)) (c .before .before .before .before .before .before .before .before .before .args .line .now)) _ _ _ _ _ _ (c .before .before .before .before .before .before .list-in .ensures) (c .before .before .before .before .take .ensures) (rw (c .list-out .ensures))
+returns c =
+    let a = c .before .before .before .before .before .before .before .before .args in
+    taken-from (λ x. takingHeld lines (held x (a .room .now)) (a .line .now)) _ _ _ _ _ _ (c .before .before .before .before .before .list-in .ensures) (c .before .before .before .take .ensures) (c .list-taken .ensures)
 
 pub nearby-take-spec : {M : Type 1} → statement M
 nearby-take-spec =
-    tie.close (tie.spec list-in-requires take-requires list-out-requires same-length returns)
+    tie.close (tie.spec list-in-requires take-requires list-taken-requires same-length returns)
