@@ -70,6 +70,7 @@ unfolding inRange be num glyph digit hexes lineOf frameOf ended sound head front
 lines-marked =
     record {
       askWritten = refl;
+      behind = refl;
       ask12 = refl;
       askSize10 = refl;
       askProbe10 = refl;

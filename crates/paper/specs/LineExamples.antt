@@ -19,7 +19,7 @@ use Rattle.paper.specs.Outcomes.{Outcome, refused, gives, number}
 use Rattle.paper.specs.Frames.{lineOf}
 use Rattle.paper.specs.Ends.{Listing}
 use Rattle.paper.specs.Lists.{Held, held, openingHeld, askingHeld, takingHeld, put}
-use Rattle.paper.specs.Lines.{bareLine, askFits, askFrame, anAsk, noAsk, askOf, answerFits, answerFrame, anAnswer, noAnswer, answerOf, claimFits, claimFrame, aClaim, noClaim, claimOf}
+use Rattle.paper.specs.Lines.{putLine, bareLine, askFits, askFrame, anAsk, noAsk, askOf, answerFits, answerFrame, anAnswer, noAnswer, answerOf, claimFits, claimFrame, aClaim, noClaim, claimOf}
 use Rattle.paper.specs.Codec.{lines}
 use Rattle.paper.specs.Limits.{itemRoom, longestAsk, longestAnswer, longestClaim}
 use Rattle.paper.specs.EndExamples.{sampleAsk, sampleAnswer}
@@ -205,6 +205,8 @@ pub record TakingMarked : Type 0 where
 
 pub record LinesMarked : Type 0 where
   pub askWritten : writesAsk (opens 1 1 four) (scope 0 0 0 0) 2 longestAsk ≡ gives sampleAsk
+  -- what stands behind the line stays
+  pub behind : putLine sampleAsk (replicate longestAsk 0 ++ (7 ∷ [])) ≡ sampleAsk ++ (replicate 56 0 ++ (7 ∷ []))
   pub ask12 : writesAsk (opens 1 1 four) (scope 0 0 0 0) 2 (longestAsk - 1) ≡ refused 12
   pub askSize10 : writesAsk (opens 1 1 four) (scope 0 0 0 0) tooMany (longestAsk - 1) ≡ refused 10
   pub askProbe10 : writesAsk (opens 1 1 wide) (scope 0 0 0 0) 2 longestAsk ≡ refused 10

@@ -12,6 +12,7 @@ ghost use Rattle.paper.specs.Tree.{lent};
 ghost use Rattle.walk.specs.Asking.{Answerable};
 ghost use Rattle.scan_beside.specs.Questions.{Small, Drawn};
 use checked::closed;
+use paper::limits::ITEM_ROOM;
 use paper::orders::Found;
 use paper::orders::Mark;
 use paper::orders::Order;
@@ -108,7 +109,7 @@ fn same_page(
     points: &[u64; 384],
     codes: &[u64; 8],
     a: Asking,
-    room: &[u64; 48],
+    room: &[u64; ITEM_ROOM],
     paged: Paged,
 ) -> bool
     requires { ⌜ (a .snapshot ≤ 48) × (a .d ≤ 8) ⌝ }
@@ -135,7 +136,7 @@ fn page_beside(
 ) -> Tally
     requires { ⌜ Answerable (lent t references coordinates rooms) (now probe) × Drawn t a ⌝ }
 {
-    let mut room = [7777777u64; 48];
+    let mut room = [7777777u64; ITEM_ROOM];
     let place = place_of(a);
     let reach = a.reach;
     if !mark_holds(t, coordinates, probe, reach, place) {
