@@ -1,9 +1,9 @@
--- `batch::rows::said_of` meets its contract, a case for each variant. Assumes nothing.
+-- `batch::outcomes::said_of` meets its contract, a case for each variant. Assumes nothing.
 use mathlib.Core.Path.{sym, ap}
 use Rattle.batch.specs.Batch.{saidBy}
 use borrow.Author.Needs.{needs}
-use Rattle.batch.proofs.rows.said_of.Statement.{statement}
-use Rattle.batch.proofs.rows.said_of.Tie as tie
+use Rattle.batch.proofs.outcomes.said_of.Statement.{statement}
+use Rattle.batch.proofs.outcomes.said_of.Tie as tie
 
 enum-known-w : tie.Need-enum-known-w
 enum-known-w c = search needs

@@ -1,12 +1,12 @@
--- `batch::rows::line_end` meets its contract: what is left of the line stays the same. Assumes nothing.
+-- `batch::ends::line_end` meets its contract: what is left of the line stays the same. Assumes nothing.
 use Prim.Native.Nat.{_+_, _-_, _≤_}
 use mathlib.Core.Path.{_≡_, refl}
 use native.Mathlib.Omega.{arith}
 use lib.ListN.{length, drop}
 use Rattle.batch.specs.Batch.{cutAt}
 use Rattle.batch.proofs.Cutting.{cut-ends, cut-goes, cut-none}
-use Rattle.batch.proofs.rows.line_end.Statement.{statement}
-use Rattle.batch.proofs.rows.line_end.Tie as tie
+use Rattle.batch.proofs.ends.line_end.Statement.{statement}
+use Rattle.batch.proofs.ends.line_end.Tie as tie
 
 abbrev Inv-loop : tie.InvT-loop
 Inv-loop asks at i₀ i = (i ≤ length asks) × (i + cutAt (drop i asks) ≡ at + cutAt (drop at asks))

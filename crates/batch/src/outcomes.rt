@@ -1,30 +1,14 @@
-// The end of a line in the asks, and the row of its outcome.
+// The row of a line's outcome.
 ghost use mathlib.Core.Path.{_≡_};
-ghost use Prim.Native.Nat.{_+_, _*_, _<_, _≤_};
-ghost use lib.ListN.{length, drop};
-ghost use Rattle.batch.specs.Batch.{cutAt, rowPut, saidBy};
+ghost use Prim.Native.Nat.{_+_, _*_, _≤_};
+ghost use lib.ListN.{length};
+ghost use Rattle.batch.specs.Batch.{rowPut, saidBy};
 use paper::lines::Wrote;
 
 // What a call said to a line: the refusal's number or 0, and the answer line's length or 0.
 pub struct Said {
     pub refusal: u8,
     pub length: usize,
-}
-
-// Where the line that starts at `at` ends.
-pub fn line_end(asks: &[u8], at: usize) -> usize
-    requires { ⌜ at < length (now asks) ⌝ }
-    ensures { λ r. ⌜ r ≡ at + cutAt (drop at (now (asks .entry))) ⌝ }
-{
-    let mut i = at;
-    while i < asks.len() {
-        let b = asks[i];
-        i += 1;
-        if b == 10 {
-            return i;
-        }
-    }
-    i
 }
 
 pub fn said_of(w: Wrote) -> Said

@@ -1,10 +1,10 @@
--- `batch::rows::put_row` meets its contract. Assumes nothing.
+-- `batch::outcomes::put_row` meets its contract. Assumes nothing.
 use native.Mathlib.Omega.{arith}
 use lib.ListN.{length-set}
 use Rattle.batch.specs.Batch.{rowPut}
 use borrow.Author.Needs.{needs}
-use Rattle.batch.proofs.rows.put_row.Statement.{statement}
-use Rattle.batch.proofs.rows.put_row.Tie as tie
+use Rattle.batch.proofs.outcomes.put_row.Statement.{statement}
+use Rattle.batch.proofs.outcomes.put_row.Tie as tie
 
 mul-i : tie.Need-mul-i
 mul-i c = search needs
