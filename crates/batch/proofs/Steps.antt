@@ -19,7 +19,7 @@ use Rattle.paper.specs.Lines.{wroteOf, putLine, Writes}
 use Rattle.desk.specs.Desk.{Open}
 use Rattle.nearby.proofs.CallLaws.{office-open, office-answers}
 use Rattle.batch.specs.declared.Answered.{Answered}
-use Rattle.batch.specs.declared.rows.Said.{Said}
+use Rattle.batch.specs.declared.outcomes.Said.{Said}
 use Rattle.batch.specs.Batch.{cutAt, lineAt, Batch, answerNow, lengthSaid, rowPut, stepBy, step, goes, batchOf, Stands, Turning, saidBy}
 use Rattle.batch.proofs.Cutting.{cut-inside}
 use Rattle.paper.specs.Limits.{longestAnswer}

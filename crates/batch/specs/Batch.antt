@@ -13,7 +13,7 @@ use Rattle.paper.specs.Ends.{answerRoom}
 use Rattle.paper.specs.Lines.{putLine}
 use Rattle.paper.specs.Calls.{onTable, tableRefusal, officeCall}
 use Rattle.batch.specs.declared.Answered.{Answered}
-use Rattle.batch.specs.declared.rows.Said.{Said}
+use Rattle.batch.specs.declared.outcomes.Said.{Said}
 use Rattle.paper.specs.Limits.{longestAnswer}
 
 -- how long the first line of a buffer is: up to and with its first 0A, or all that there is

@@ -1,6 +1,7 @@
 // A buffer of ask lines in, answer lines out: the table is tested once, and then line after line is answered as the
 // office's single call would answer it.
-mod rows;
+mod ends;
+mod outcomes;
 mod turns;
 
 ghost use Rattle.paper.specs.Tree.{lent};

@@ -5,6 +5,7 @@ use mathlib.Core.List.{List, [], _∷_, _++_, append-assoc}
 use native.Mathlib.Omega.{arith}
 use lib.ListN.{length, take, drop, getD, set, length-append, length-set, length-drop, length-take, take-append-drop}
 use lib.Seq.{take-set-le, drop-set-add, set-split, drop-at, take-at, set-at, take-suc, getD-drop, take-append-add, sets}
+use Rattle.rows.proofs.Putting.{three}
 use Rattle.keep.specs.Kept.{shifted}
 
 pub record Shifting (a e : ℕ) (o₀ o : List ℕ) (i : ℕ) : Type 0 where
@@ -58,13 +59,6 @@ shifting-done a e o₀ o i g h =
     let z : a - a ≡ 0 = omega arith in
     let t : shifted a a o ≡ o = rw z (take-append-drop (a + 3) o) in
     sym t ∙ subst (λ (u : ℕ). shifted a u o ≡ shifted a e o₀) x (g .todo)
-
--- three numbers put one after the other
-pub three : (l : List ℕ) (a x y z : ℕ) → set (set (set l a x) (a + 1) y) (a + 2) z ≡ sets l a (x ∷ y ∷ z ∷ [])
-three l a x y z =
-    let p : a + 1 ≡ suc a = omega arith in
-    let q : a + 2 ≡ suc (suc a) = omega arith in
-    rw (p, q)
 
 written-at : (A Y T : List ℕ) (a x y z : ℕ) → length A ≡ a → length Y ≡ 3 → sets ((A ++ Y) ++ T) a (x ∷ y ∷ z ∷ []) ≡ A ++ (x ∷ y ∷ z ∷ T)
 written-at A (p ∷ q ∷ r ∷ []) T a x y z hA hY =

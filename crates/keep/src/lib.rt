@@ -3,13 +3,12 @@
 ghost use mathlib.Core.Path.{_≡_};
 ghost use Prim.Native.Nat.{_+_, _*_, _<_, _≤_};
 ghost use lib.ListN.{length};
-ghost use lib.Seq.{sets};
 ghost use mathlib.Core.Bool.{cond};
-ghost use mathlib.Core.List.{[], _∷_};
 ghost use Rattle.keep.specs.Kept.{Roomy, PlaceIs, shifted, heldAt, KeepIs};
 ghost use Rattle.keep.specs.Skips.{admitted, boundOf, halfOf, beyondOf, passedOf};
 use paper::orders::Mark;
 use paper::orders::Order;
+use rows::put_three;
 
 // A question to a table, as the walk asks it.
 pub struct Asked {
@@ -132,16 +131,6 @@ fn shift(room: &mut [u64], a: usize, e: usize)
         room[i + 2] = room[i - 1];
         i -= 1;
     }
-}
-
-// Puts three numbers at a: an item, or a row of a caller that keeps rows of three.
-pub fn put_three(room: &mut [u64], a: usize, x: u64, y: u64, z: u64)
-    requires { ⌜ a + 3 ≤ length (now room) ⌝ }
-    ensures { λ _. ⌜ now (room .exit) ≡ sets (now (room .entry)) a (x ∷ y ∷ z ∷ []) ⌝ }
-{
-    room[a] = x;
-    room[a + 1] = y;
-    room[a + 2] = z;
 }
 
 // Whether item p is there, and is claim k.

@@ -14,17 +14,20 @@ use borrow.Author.Tests.{leb-true, eqb-true, eq-eqb}
 use Rattle.paper.specs.declared.orders.Order.the-variants.{Near}
 use Rattle.paper.specs.declared.orders.Place.{Place}
 use Rattle.paper.specs.Points.{point}
-use Rattle.paper.specs.Orders.{Query, Found, nothing, found, foundShown, following, pageOf, snapshotHolds, markHolds}
-use Rattle.paper.specs.Outcomes.{Outcome, refused, gives, must, leaves}
+use Rattle.paper.specs.Orders.{Query, Found, foundShown, following, pageOf, snapshotHolds, markHolds}
+use Rattle.paper.specs.Outcomes.{Outcome, gives, must, leaves}
 use Rattle.paper.specs.Tree.{Store, claimsIn, fits, sound}
 use Rattle.paper.specs.Ends.{sizeHolds}
 use Rattle.paper.specs.Calls.{tableQuery, aimed, PageOf, thePage, nearestCall, farthestCall, pageCall, pageShown, putPage}
 use Rattle.tree.proofs.Places.{before-next}
 use Rattle.orders.proofs.Rooms.{fronted-length}
 use Rattle.paper.proofs.Outcomes.{must-test, must-rest, must-go, same-given}
-use Rattle.many.specs.Rows.{row, each, foundRow, putFound}
+use Rattle.rows.specs.Answers.{foundRow, pageRow}
+use Rattle.rows.specs.Places.{placeAt}
+use Rattle.rows.proofs.AnswerRows.{found-wide, page-wide}
+use Rattle.many.specs.Rows.{row, each, putFound}
 use Rattle.many.specs.Many.{probeAt, nearestAt, farthestAt, firstsCall, nearestEach, farthestEach, AsAlone}
-use Rattle.many.specs.Pages.{placeAt, pageAt, pageRow, putOutcome, putItems, Rooms, bothRooms, pagesEach, PageAlone}
+use Rattle.many.specs.Pages.{pageAt, putOutcome, putItems, Rooms, bothRooms, pagesEach, PageAlone}
 use Rattle.many.proofs.RowLaws.{OneRow, Rowed, each-rowed}
 
 -- ---- what is written to a row
@@ -35,16 +38,6 @@ set-rows w vs wide =
       writes = λ i l h. sets-eq (vs i) l (i * w) (omega (arith, wide i)) ∙ append-assoc (take (i * w) l) (vs i) (drop (i * w + length (vs i)) l) ∙ ap (λ (k : ℕ). take (i * w) l ++ (vs i ++ drop (i * w + k) l)) (wide i);
       fills = λ i l e. wide i;
     }
-
-found-wide : (x : Found) → length (foundRow (foundShown x)) ≡ 4
-unfolding foundRow foundShown
-found-wide nothing = refl
-found-wide (found a) = refl
-
-told-wide : (o : Outcome PageOf) → length (pageRow (pageShown o)) ≡ 3
-unfolding pageRow
-told-wide (refused n) = refl
-told-wide (gives p) = refl
 
 -- a page fits its row
 room-kept : (b : Bool) (n : ℕ) (x : Outcome PageOf) (l : List ℕ) → length (leaves putPage x l) ≡ length l → length (leaves putPage (must b n x) l) ≡ length l
@@ -95,7 +88,7 @@ module _ (s : Store) (probes : List ℤ) (n : ℕ) (answer : ℕ → Found) (out
 
   rowed : Rowed 4 (λ i l. foundRow (foundShown (answer i))) n out Done
   rowed =
-      each-rowed 4 (putFound answer) (λ i l. foundRow (foundShown (answer i))) (set-rows 4 (λ i. foundRow (foundShown (answer i))) (λ i. found-wide (answer i))) n out
+      each-rowed 4 (putFound answer) (λ i l. foundRow (foundShown (answer i))) (set-rows 4 (λ i. foundRow (foundShown (answer i))) (λ i. found-wide (foundShown (answer i)))) n out
       (leb-true (n * 4) (length out) (must-test (leb (n * 4) (length out)) 12 (gives Done) after past-5))
 
   done : Done ≡ after
@@ -168,7 +161,7 @@ module _ (s : Store) (probes : List ℤ) (reaches places : List ℕ) (size : ℕ
 
   told-rows : Rowed 3 (λ i l. pageRow (pageShown (page i))) n (before .outcomes) Told
   told-rows =
-      each-rowed 3 (putOutcome page) (λ i l. pageRow (pageShown (page i))) (set-rows 3 (λ i. pageRow (pageShown (page i))) (λ i. told-wide (page i))) n (before .outcomes)
+      each-rowed 3 (putOutcome page) (λ i l. pageRow (pageShown (page i))) (set-rows 3 (λ i. pageRow (pageShown (page i))) (λ i. page-wide (pageShown (page i)))) n (before .outcomes)
       (leb-true (n * 3) (length (before .outcomes)) (must-test (leb (n * 3) (length (before .outcomes))) 12 _ after past-6))
 
   item-rows : Rowed (size * 3) (λ i l. leaves putPage (page i) l) n (before .items) Items

@@ -1,22 +1,18 @@
 -- One law for each way through the calls for many pages. Assumes nothing.
 use Prim.Native.Nat.{ℕ, _+_, _-_, _*_, _<_, _≤_}
 use mathlib.Core.Path.{_≡_, refl, sym, ap, _∙_}
-use mathlib.Core.Bool.{Bool, true, false, not, cond}
-use mathlib.Core.List.{List, [], _∷_, _++_}
+use mathlib.Core.Bool.{Bool, true, false, not}
+use mathlib.Core.List.{List, _++_}
 use native.Mathlib.Nat.{mul-comm}
 use native.Mathlib.Omega.{arith}
 use lib.Dec.{leb, eqb}
 use lib.IntN.{ℤ}
-use lib.ListN.{length, getD, take, drop}
+use lib.ListN.{length, take, drop}
 use lib.Seq.{sets, drop-drop}
-use borrow.Author.Tests.{leb-true, eqb-true, eq-eqb, ne-eqb, not-true, not-false}
-use Rattle.paper.specs.declared.orders.Mark.{Mark}
+use borrow.Author.Tests.{leb-true, eqb-true, not-true, not-false}
 use Rattle.paper.specs.declared.orders.Page as answers
-use Rattle.paper.specs.declared.orders.Paged.{Paged}
 use Rattle.paper.specs.declared.orders.Place.{Place}
-use Rattle.paper.specs.declared.orders.Place.the-variants.{Start, After}
 use Rattle.paper.specs.Points.{point}
-use Rattle.paper.specs.Orders.{markAt}
 use Rattle.paper.specs.Outcomes.{Outcome, refused, gives, must, onto, number, leaves, Promise}
 use Rattle.paper.specs.Tree.{Store, fits, sound}
 use Rattle.paper.specs.Ends.{sizeHolds}
@@ -25,36 +21,13 @@ use Rattle.paper.proofs.Tests.{and-first, and-second}
 use Rattle.tree.proofs.Places.{before-next}
 use Rattle.paper.proofs.Outcomes.{must-stop, must-go, number-0, behind, stops, promise-refused, promise-given}
 use Rattle.tested.specs.Askable.{Askable}
+use Rattle.rows.specs.Answers.{pageRow}
+use Rattle.rows.specs.Places.{placeAt}
 use Rattle.many.specs.Rows.{row, each, instead}
 use Rattle.many.specs.Counts.{manyRefusal}
-use Rattle.many.specs.Pages.{placeAt, pageAt, pageRow, putOutcome, putItems, Rooms, bothRooms, onPages, pagesRefusal, pagesEach, OnePage, AllPages}
+use Rattle.many.specs.Pages.{pageAt, putOutcome, putItems, Rooms, bothRooms, onPages, pagesRefusal, pagesEach, OnePage, AllPages}
 use Rattle.many.proofs.Ways.{part-point, part-length, many-refused, many-goes}
 use Rattle.paper.specs.Limits.{mostPage}
-
--- ---- rows
-
-module _ (a : answers.Page) (before after : List ℕ) (at : ℕ) where
-  pub row-refused : (n : ℕ) → a ≡ answers.the-variants.Refused n → after ≡ sets before at (n ∷ 0 ∷ 0 ∷ []) → after ≡ sets before at (pageRow a)
-  unfolding pageRow
-  row-refused n e w = w ∙ sym (ap (λ (x : answers.Page). sets before at (pageRow x)) e)
-
-  pub row-filled : (p : Paged) (l : ℕ) → a ≡ answers.the-variants.Filled p → l ≡ cond (p .last) 1 0 → after ≡ sets before at (0 ∷ p .count ∷ l ∷ [])
-      → after ≡ sets before at (pageRow a)
-  unfolding pageRow
-  row-filled p l e f w =
-      w ∙ ap (λ (x : ℕ). sets before at (0 ∷ p .count ∷ x ∷ [])) f ∙ sym (ap (λ (x : answers.Page). sets before at (pageRow x)) e)
-
--- ---- a place as four numbers
-
-module _ (places : List ℕ) (i : ℕ) where
-  pub place-start : getD places (i * 4) 0 ≡ 0 → Start ≡ placeAt places i
-  unfolding placeAt
-  place-start h = rw (eq-eqb (getD places (i * 4) 0) 0 h)
-
-  pub place-after : (getD places (i * 4) 0 ≡ 0 → ⊥) → (m : Mark) → m ≡ markAt (getD places (i * 4 + 2) 0) (getD places (i * 4 + 3) 0)
-      → After (getD places (i * 4 + 1) 0) m ≡ placeAt places i
-  unfolding placeAt
-  place-after h m e = rw (ne-eqb (getD places (i * 4) 0) 0 h, e)
 
 -- ---- the whole call: 1, 2, 5, 6, 12
 

@@ -1,15 +1,15 @@
 -- One law for each way through a call for many questions. Assumes nothing.
-use Prim.Native.Nat.{ℕ, suc, _+_, _-_, _*_, _/_, _<_, _≤_}
+use Prim.Native.Nat.{ℕ, suc, _+_, _-_, _*_, _<_, _≤_}
 use mathlib.Core.Path.{_≡_, refl, sym, ap, _∙_}
 use mathlib.Core.Bool.{Bool, true, false, not}
-use mathlib.Core.List.{List, [], _∷_}
-use native.Mathlib.Nat.{div-lt-iff-lt-mul, le-div-iff-mul-le, mul-comm}
+use mathlib.Core.List.{List}
+use native.Mathlib.Nat.{mul-comm}
 use native.Mathlib.Omega.{arith}
 use lib.Dec.{leb, eqb}
 use lib.IntN.{ℤ}
 use lib.ListN.{length, take, drop, length-drop}
 use lib.Seq.{sets, length-take-le}
-use borrow.Author.Tests.{le-leb, lt-leb, leb-true, eqb-true, not-true, not-false}
+use borrow.Author.Tests.{leb-true, eqb-true, not-true, not-false}
 use Rattle.paper.specs.Points.{point}
 use Rattle.paper.specs.declared.orders.Found as answers
 use Rattle.paper.specs.Orders.{Found, told, foundShown}
@@ -22,17 +22,10 @@ use Rattle.paper.specs.Calls.{tableRefusal}
 use Rattle.paper.proofs.Outcomes.{must-stop, must-go, number-0, behind, stops, promise-refused, promise-given}
 use Rattle.tested.proofs.TableLaws.{table-refused, table-good, table-goes}
 use Rattle.nearby.proofs.CallLaws.{found-shown}
-use Rattle.many.specs.Rows.{each, instead, foundRow, putFound}
+use Rattle.rows.specs.Answers.{foundRow}
+use Rattle.many.specs.Rows.{each, instead, putFound}
 use Rattle.many.specs.Counts.{onMany, manyRefusal}
 use Rattle.many.specs.Many.{firstsCall, Many, One}
-
--- ---- rows
-
-pub rows-short : (n w room : ℕ) → 1 ≤ w → room / w < n → false ≡ leb (n * w) room
-rows-short n w room h s = sym (lt-leb (n * w) room (div-lt-iff-lt-mul h .0 s))
-
-pub rows-enough : (n w room : ℕ) → 1 ≤ w → n ≤ room / w → true ≡ leb (n * w) room
-rows-enough n w room h s = sym (le-leb (n * w) room (le-div-iff-mul-le h .0 s))
 
 -- ---- 1, 2, 5
 
@@ -161,14 +154,3 @@ module _ (s : Store) (probes n why : ℕ) (we : why ≡ manyRefusal s probes n) 
       firsts-answered h after w =
           promise-given number instead call out (each (putFound answer) n out) 0 after
           (many-goes ok _ ∙ must-go (leb (n * 4) (length out)) 12 _ (sym be ∙ not-false b h)) refl w
-
--- ---- the cases of what was found
-
-module _ (a : answers.Found) (before after : List ℕ) (at : ℕ) where
-  pub row-nothing : a ≡ answers.the-variants.Nothing → after ≡ sets before at (0 ∷ 0 ∷ 0 ∷ 0 ∷ []) → after ≡ sets before at (foundRow a)
-  unfolding foundRow
-  row-nothing e w = w ∙ sym (ap (λ (x : answers.Found). sets before at (foundRow x)) e)
-
-  pub row-item : (k y x : ℕ) → a ≡ answers.the-variants.Item k y x → after ≡ sets before at (1 ∷ k ∷ y ∷ x ∷ []) → after ≡ sets before at (foundRow a)
-  unfolding foundRow
-  row-item k y x e w = w ∙ sym (ap (λ (z : answers.Found). sets before at (foundRow z)) e)

@@ -11,8 +11,9 @@ use Rattle.paper.specs.Orders.{Found, foundShown, nearestOf, farthestOf}
 use Rattle.paper.specs.Outcomes.{Outcome, gives, must}
 use Rattle.paper.specs.Tree.{Store, claimsIn}
 use Rattle.paper.specs.Calls.{tableQuery, tableRefusal}
+use Rattle.rows.specs.Answers.{foundRow}
 use Rattle.many.specs.Counts.{onMany}
-use Rattle.many.specs.Rows.{each, foundRow, putFound}
+use Rattle.many.specs.Rows.{each, putFound}
 
 -- the probe of question i: probes stand one after another
 abbrev pub probeAt : Store → List ℤ → ℕ → List ℤ

@@ -1,41 +1,29 @@
 -- Many pages of one table. Definitions only.
 use Prim.Native.Nat.{ℕ, _+_, _*_, _≤_}
 use mathlib.Core.Path.{_≡_}
-use mathlib.Core.Bool.{true, cond}
-use mathlib.Core.List.{List, [], _∷_, _++_}
+use mathlib.Core.Bool.{true}
+use mathlib.Core.List.{List, _++_}
 use lib.Dec.{leb, eqb}
 use lib.IntN.{ℤ}
 use lib.ListN.{length, getD, take, drop}
 use lib.Seq.{sets}
 use Rattle.paper.specs.declared.orders.Order.the-variants.{Near}
-use Rattle.paper.specs.declared.orders.Page as answers
-use Rattle.paper.specs.declared.orders.Place.{Place}
-use Rattle.paper.specs.declared.orders.Place.the-variants.{Start, After}
-use Rattle.paper.specs.Orders.{markAt}
 use Rattle.paper.specs.Outcomes.{Outcome, gives, must, number, leaves}
 use Rattle.paper.specs.Tree.{Store}
 use Rattle.paper.specs.Ends.{sizeHolds}
 use Rattle.paper.specs.Calls.{PageOf, pageCall, pageShown, putPage, tableRefusal}
+use Rattle.rows.specs.Answers.{pageRow}
+use Rattle.rows.specs.Places.{placeAt}
 use Rattle.many.specs.Counts.{onMany}
 use Rattle.many.specs.Rows.{row, each}
 use Rattle.many.specs.Many.{probeAt}
-
--- the place of question i, four numbers: 0 for the start, or another number, the snapshot, and the mark's distance and number
-unfoldable pub placeAt : List ℕ → ℕ → Place
-placeAt places i =
-    cond (eqb (getD places (i * 4) 0) 0) Start
-    (After (getD places (i * 4 + 1) 0) (markAt (getD places (i * 4 + 2) 0) (getD places (i * 4 + 3) 0)))
 
 -- what the single call gives for question i, in a room for one page
 abbrev pub pageAt : Store → List ℤ → List ℕ → List ℕ → ℕ → ℕ → Outcome PageOf
 pageAt s probes reaches places size i =
     pageCall s Near (probeAt s probes i) (getD reaches i 0) (placeAt places i) size (size * 3)
 
--- its outcome as three numbers: the refusal, how many items, and 1 where they are the last
-unfoldable pub pageRow : answers.Page → List ℕ
-pageRow (answers.the-variants.Refused n) = n ∷ 0 ∷ 0 ∷ []
-pageRow (answers.the-variants.Filled p) = 0 ∷ p .count ∷ cond (p .last) 1 0 ∷ []
-
+-- its outcome in row i
 abbrev pub putOutcome : (ℕ → Outcome PageOf) → ℕ → List ℕ → List ℕ
 putOutcome page i l = sets l (i * 3) (pageRow (pageShown (page i)))
 

@@ -1,10 +1,10 @@
 -- Rows of a room, answered one after another. Definitions only.
 use Prim.Native.Nat.{ℕ, zero, suc, _*_}
-use mathlib.Core.List.{List, [], _∷_}
+use mathlib.Core.List.{List}
 use lib.ListN.{take, drop}
 use lib.Seq.{sets}
-use Rattle.paper.specs.declared.orders.Found as answers
 use Rattle.paper.specs.Orders.{Found, foundShown}
+use Rattle.rows.specs.Answers.{foundRow}
 
 -- row i of a room with w numbers to a row
 abbrev pub row : ℕ → ℕ → List ℕ → List ℕ
@@ -19,10 +19,6 @@ each f (suc i) l = f i (each f i l)
 abbrev pub instead : {M : Type 0} → M → M → M
 instead after before = after
 
--- what nearest and farthest found, as four numbers: whether there is an item, its number, reference and distance
-unfoldable pub foundRow : answers.Found → List ℕ
-foundRow answers.the-variants.Nothing = 0 ∷ 0 ∷ 0 ∷ 0 ∷ []
-foundRow (answers.the-variants.Item k y x) = 1 ∷ k ∷ y ∷ x ∷ []
-
+-- row i is what was found for question i
 abbrev pub putFound : (ℕ → Found) → ℕ → List ℕ → List ℕ
 putFound answer i l = sets l (i * 4) (foundRow (foundShown (answer i)))

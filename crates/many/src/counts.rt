@@ -1,22 +1,9 @@
 // Whether many questions may be asked.
 ghost use mathlib.Core.Path.{_≡_};
-ghost use Prim.Native.Nat.{_*_, _≤_};
-ghost use lib.Dec.{leb};
 ghost use Rattle.paper.specs.Tree.{lent};
 ghost use Rattle.many.specs.Counts.{manyRefusal};
 use checks::is_whole;
 use paper::tables::Table;
-
-// Whether a room has w numbers for each of n rows.
-pub fn has_rows(n: usize, w: usize, room: usize) -> bool
-    requires { ⌜ 1 ≤ w ⌝ }
-    ensures { λ r. ⌜ r ≡ leb (n * w) room ⌝ }
-{
-    if room / w < n {
-        return false;
-    }
-    true
-}
 
 // Why n questions may not be asked with so many probe coordinates: 1, 2, 5, or 0 where they may.
 pub fn many_refusal(

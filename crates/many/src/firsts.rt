@@ -9,12 +9,13 @@ ghost use Rattle.paper.specs.Orders.{foundShown, nearestOf};
 ghost use Rattle.paper.specs.Outcomes.{Promise, number};
 ghost use Rattle.paper.specs.Tree.{lent, claimsIn};
 ghost use Rattle.paper.specs.Calls.{tableQuery};
-ghost use Rattle.many.specs.Rows.{each, putFound, foundRow, instead};
+ghost use Rattle.rows.specs.Answers.{foundRow};
+ghost use Rattle.many.specs.Rows.{each, putFound, instead};
 ghost use Rattle.many.specs.Many.{nearestAt, farthestAt, nearestEach, farthestEach, Many, One};
-use crate::counts::has_rows;
 use crate::counts::many_refusal;
-use crate::rows::put_found;
 use paper::tables::Table;
+use rows::has_rows;
+use rows::put_found;
 
 // Question i for the nearest claim.
 fn nearest_row(

@@ -2,8 +2,6 @@
 mod counts;
 mod firsts;
 mod pages;
-mod places;
-mod rows;
 
 pub use firsts::farthest_each;
 pub use firsts::nearest_each;

@@ -7,16 +7,17 @@ ghost use Rattle.paper.specs.Points.{point};
 ghost use Rattle.paper.specs.Outcomes.{Promise, number};
 ghost use Rattle.paper.specs.Tree.{lent};
 ghost use Rattle.paper.specs.Calls.{pageCall};
+ghost use Rattle.rows.specs.Places.{placeAt};
 ghost use Rattle.many.specs.Rows.{each, instead};
-ghost use Rattle.many.specs.Pages.{placeAt, pageAt, putOutcome, putItems, bothRooms, pagesRefusal, pagesEach, OnePage, AllPages};
-use crate::counts::has_rows;
+ghost use Rattle.many.specs.Pages.{pageAt, putOutcome, putItems, bothRooms, pagesRefusal, pagesEach, OnePage, AllPages};
 use crate::counts::many_refusal;
-use crate::places::place_at;
-use crate::rows::put_page;
 use checks::is_whole;
 use checks::size_holds;
 use paper::orders::Order;
 use paper::tables::Table;
+use rows::has_rows;
+use rows::place_at;
+use rows::put_page;
 use tested::page_here;
 
 // Question i: its page in row i of the items, and its outcome in row i of the outcomes.

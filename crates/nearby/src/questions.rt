@@ -100,5 +100,5 @@ pub fn page(
 pub fn front<'a>(room: &'a [u64], count: usize) -> &'a [u64]
     ensures { λ r. ⌜ now r ≡ take (3 * count) (now (room .entry)) ⌝ }
 {
-    walk::questions::front(room, count)
+    rows::front(room, count)
 }

@@ -19,6 +19,7 @@ use paper::lines::Scope;
 use paper::lists::List;
 use paper::lists::Taken;
 use paper::queries::Query;
+use rows::join;
 
 fn same_place(p: Scope, q: Scope) -> bool
     ensures { λ r. ⌜ r ≡ samePlace (placeIn p) (placeIn q) ⌝ }
@@ -100,18 +101,6 @@ fn page_holds(y: Answer) -> bool
         return true;
     }
     y.last == 1
-}
-
-// Copies the first n numbers of a page behind the items that stand in the room.
-fn join(room: &mut [u64], at: usize, items: &[u64], n: usize)
-    requires { ⌜ (at + n ≤ length (now room)) × (n ≤ length (now items)) ⌝ }
-    ensures { λ _. ⌜ now (room .exit) ≡ paste (now (room .entry)) at (now (items .entry)) n ⌝ }
-{
-    let mut i = 0;
-    while i < n {
-        room[at + i] = items[i];
-        i += 1;
-    }
 }
 
 // Joins an answer's page to the items that stand in the room.

@@ -1,14 +1,13 @@
 -- One law for each way through the questions. Assumes nothing.
-use Prim.Native.Nat.{ℕ, _-_, _*_, _/_, _<_, _≤_}
+use Prim.Native.Nat.{ℕ, _*_, _<_, _≤_}
 use mathlib.Core.Path.{_≡_, refl, sym, ap, subst, _∙_}
 use mathlib.Core.Bool.{Bool, true, false}
 use mathlib.Core.List.{List, [], _∷_}
 use native.Mathlib.Omega.{arith}
-use native.Mathlib.Nat.{sub-zero}
 use lib.Dec.{ltb, leb}
 use lib.IntN.{ℤ}
 use lib.ListN.{length, getD, take, drop}
-use lib.Seq.{take-all, take-at}
+use lib.Seq.{take-at}
 use borrow.Author.Tests.{lt-ltb, le-ltb, eq-eqb, ne-eqb}
 use Rattle.paper.specs.declared.orders.Found.{Found as Answer}
 use Rattle.paper.specs.declared.orders.Found.the-variants.{Nothing, Item as AnItem}
@@ -174,13 +173,6 @@ module _ (t : Table) (coordinates probe : List ℤ) (reach : ℕ) (place : Place
       pub mark-within : x ≡ m .distance → Holds (leb (m .distance) reach)
       unfolding markHolds
       mark-within e order references = rw (is, lt-ltb (m .number) n l, far-is order references, eq-eqb (m .distance) x (sym e))
-
--- the filled front
-pub front-part : (count n : ℕ) (room : List ℕ) → n ≡ 3 * count → take (n - 0) (drop 0 room) ≡ take (3 * count) room
-front-part count n room e = rw (sub-zero, e)
-
-pub front-whole : (count : ℕ) (room : List ℕ) → length room / 3 < count → room ≡ take (3 * count) room
-front-whole count room h = sym (take-all (3 * count) room (omega arith))
 
 -- what the front of the room shows after a page: the page's items
 pub page-front : (q : Query) (cs : List Claim) (place : Place) (size : ℕ) (o o' : List ℕ) (r : Paged) → PageIs q cs place size o o' r

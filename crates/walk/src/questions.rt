@@ -1,8 +1,7 @@
 // Nearest, farthest and page of a sound table, by the definitions of the paper.
 ghost use mathlib.Core.Path.{_≡_};
-ghost use Prim.Native.Nat.{ℕ, _*_};
+ghost use Prim.Native.Nat.{ℕ};
 ghost use mathlib.Core.List.{List};
-ghost use lib.ListN.{take};
 ghost use Rattle.paper.specs.declared.orders.Order.{Order};
 ghost use Rattle.paper.specs.declared.orders.Order.the-variants.{Near, Far};
 ghost use Rattle.paper.specs.Orders.{told, listed, pageOf, firstOf, nearestOf, farthestOf, markHolds};
@@ -107,17 +106,6 @@ pub fn page_of(
         count,
         last: count < size,
     }
-}
-
-// The filled front of a room, as a part of it.
-pub fn front<'a>(room: &'a [u64], count: usize) -> &'a [u64]
-    ensures { λ r. ⌜ now r ≡ take (3 * count) (now (room .entry)) ⌝ }
-{
-    if count <= room.len() / 3 {
-        let n = 3 * count;
-        return &room[0..n];
-    }
-    room
 }
 
 // The first claim within reach, in the order.

@@ -1,0 +1,52 @@
+-- `rows::numbers::put_three` meets its contract. Assumes nothing.
+use native.Mathlib.Omega.{arith}
+use lib.ListN.{length-set}
+use Rattle.rows.proofs.Putting.{three}
+use borrow.Author.Needs.{needs}
+use Rattle.rows.proofs.numbers.put_three.Statement.{statement}
+use Rattle.rows.proofs.numbers.put_three.Tie as tie
+
+mul-room : tie.Need-mul-room
+mul-room c = search needs
+
+slice-write-room : tie.Need-slice-write-room
+slice-write-room c = search needs
+
+add-room : tie.Need-add-room
+add-room c = search needs
+
+mul-room-2 : tie.Need-mul-room-2
+mul-room-2 c = search needs
+
+slice-write-room-2 : tie.Need-slice-write-room-2
+slice-write-room-2 c = simp length-set (omega arith)
+
+add-room-2 : tie.Need-add-room-2
+add-room-2 c = search needs
+
+mul-room-3 : tie.Need-mul-room-3
+mul-room-3 c = search needs
+
+slice-write-room-3 : tie.Need-slice-write-room-3
+slice-write-room-3 c = simp length-set (omega arith)
+
+same-length : tie.Need-same-length
+same-length c = search needs
+
+returns : tie.Need-returns
+returns c = let a = c .args in three (a .room .now) (a .a) (a .x) (a .y) (a .z)
+
+pub put-three-spec : {M : Type 1} → statement M
+put-three-spec =
+    tie.close
+    (tie.spec
+    mul-room
+    slice-write-room
+    add-room
+    mul-room-2
+    slice-write-room-2
+    add-room-2
+    mul-room-3
+    slice-write-room-3
+    same-length
+    returns)
