@@ -1,8 +1,11 @@
 // The plain scan: every claim is measured, and the first one in order behind the last one taken is looked for anew for each item.
 ghost use mathlib.Core.Path.{_≡_};
 ghost use Prim.Native.Nat.{_≤_, _<_};
+ghost use Rattle.paper.specs.Limits.{mostPage};
 use super::tables::above;
 use super::tables::reference;
+use paper::limits::ITEM_ROOM;
+use paper::limits::MOST_PAGE;
 use std::num::wrapping_add_u64;
 
 // A question, as the scan knows it. Where `after` is set, only what comes after the mark counts.
@@ -130,8 +133,8 @@ fn behind(a: Asking, best: Best) -> Asking
 }
 
 // Whether item i of the room is the scan's.
-fn same_item(room: &[u64; 48], i: usize, best: Best) -> bool
-    requires { ⌜ i < 16 ⌝ }
+fn same_item(room: &[u64; ITEM_ROOM], i: usize, best: Best) -> bool
+    requires { ⌜ i < mostPage ⌝ }
 {
     if room[i * 3] != best.number {
         return false;
@@ -143,11 +146,11 @@ fn same_item(room: &[u64; 48], i: usize, best: Best) -> bool
 }
 
 // Whether the rooms from item i on hold what they held.
-fn untouched(room: &[u64; 48], i: usize) -> bool
-    requires { ⌜ i ≤ 16 ⌝ }
+fn untouched(room: &[u64; ITEM_ROOM], i: usize) -> bool
+    requires { ⌜ i ≤ mostPage ⌝ }
 {
     let mut j = i * 3;
-    while j < 48 {
+    while j < ITEM_ROOM {
         if room[j] != 7777777 {
             return false;
         }
@@ -157,13 +160,13 @@ fn untouched(room: &[u64; 48], i: usize) -> bool
 }
 
 // How many items of the room's front are the scan's, one after another; 99 where one is not, or one is written behind them.
-pub fn agreed(points: &[u64; 384], codes: &[u64; 8], a: Asking, room: &[u64; 48]) -> usize
+pub fn agreed(points: &[u64; 384], codes: &[u64; 8], a: Asking, room: &[u64; ITEM_ROOM]) -> usize
     requires { ⌜ (a .snapshot ≤ 48) × (a .d ≤ 8) ⌝ }
 {
     let size = a.size;
     let mut rest = a;
     let mut i: usize = 0;
-    while i < 16 {
+    while i < MOST_PAGE {
         if size <= i {
             return if untouched(room, i) { i } else { 99 };
         }

@@ -1,14 +1,15 @@
 -- `scan_beside::scan::agreed` is safe, and ends. Assumes nothing.
 use Prim.Native.Nat.{_-_, _≤_}
+use Rattle.paper.specs.Limits.{mostPage}
 use borrow.Author.Needs.{needs}
 use Rattle.scan_beside.proofs.scan.agreed.Statement.{statement}
 use Rattle.scan_beside.proofs.scan.agreed.Tie as tie
 
 abbrev Inv-loop : tie.InvT-loop
-Inv-loop points codes room size rest₀ i₀ rest i = (i ≤ 16) × ((rest .snapshot ≤ 48) × (rest .d ≤ 8))
+Inv-loop points codes room size rest₀ i₀ rest i = (i ≤ mostPage) × ((rest .snapshot ≤ 48) × (rest .d ≤ 8))
 
 abbrev μ-loop : tie.MeasureT-loop
-μ-loop points codes room size rest₀ i₀ rest i = 16 - i
+μ-loop points codes room size rest₀ i₀ rest i = mostPage - i
 
 loop-holds : tie.Need-loop-holds Inv-loop μ-loop
 loop-holds c = search needs

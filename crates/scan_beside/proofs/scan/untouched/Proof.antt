@@ -1,14 +1,15 @@
 -- `scan_beside::scan::untouched` is safe, and ends. Assumes nothing.
 use Prim.Native.Nat.{_-_, _≤_}
+use Rattle.paper.specs.Limits.{itemRoom}
 use borrow.Author.Needs.{needs}
 use Rattle.scan_beside.proofs.scan.untouched.Statement.{statement}
 use Rattle.scan_beside.proofs.scan.untouched.Tie as tie
 
 abbrev Inv-loop : tie.InvT-loop
-Inv-loop room i j₀ j = j ≤ 48
+Inv-loop room i j₀ j = j ≤ itemRoom
 
 abbrev μ-loop : tie.MeasureT-loop
-μ-loop room i j₀ j = 48 - j
+μ-loop room i j₀ j = itemRoom - j
 
 mul-j : tie.Need-mul-j Inv-loop μ-loop
 mul-j c = search needs
