@@ -11,7 +11,7 @@ use crate::orders::Order;
 use crate::orders::Place;
 use crate::queries::Query;
 
-// The kind of an ask in an order; 0 is none, and lists in far order have no lines yet.
+// [5.5] The kind of an ask in an order; 0 is none, and lists in far order have no lines yet.
 pub fn ask_kind(order: Order) -> u8
     ensures { λ r. ⌜ r ≡ askKind order ⌝ }
 {
@@ -21,7 +21,7 @@ pub fn ask_kind(order: Order) -> u8
     }
 }
 
-// The kind of an answer in an order.
+// [5.6] The kind of an answer in an order.
 pub fn answer_kind(order: Order) -> u8
     ensures { λ r. ⌜ r ≡ answerKind order ⌝ }
 {
@@ -31,7 +31,7 @@ pub fn answer_kind(order: Order) -> u8
     }
 }
 
-// Whether an order has kinds of line.
+// [2.1] Whether an order has kinds of line.
 pub fn has_lines(order: Order) -> bool
     ensures { λ r. ⌜ r ≡ spoken order ⌝ }
 {
@@ -48,7 +48,7 @@ pub fn ask_order(kind: u64) -> Order
     Order::Near
 }
 
-// What an ask and an answer have behind the reach: distance and number are the mark.
+// [5.5] What an ask and an answer have behind the reach: distance and number are the mark.
 pub struct Scope {
     pub from: u8,
     pub snapshot: u16,
@@ -57,12 +57,12 @@ pub struct Scope {
 }
 
 impl Scope {
-    // The largest snapshot and number, at the widths of these fields.
+    // [5.9] The largest snapshot and number, at the widths of these fields.
     pub const MOST_SNAPSHOT: u16 = MOST_CLAIMS as u16;
 
     pub const MOST_NUMBER: u16 = MOST_CLAIMS as u16 - 1;
 
-    // What stands beside a refusal.
+    // [5.14] What stands beside a refusal.
     pub const NONE: Scope = Scope {
         from: 0,
         snapshot: 0,
@@ -71,13 +71,15 @@ impl Scope {
     };
 }
 
+// [5.5] What an ask line says.
 pub struct Ask {
     pub query: Query,
     pub scope: Scope,
     pub size: u8,
 }
 
-// The items are triples of number, reference and distance; places that are not in use hold 0, here as in a probe.
+// [5.6] [5.14] What an answer line says. The items are triples of number, reference and distance; places that are not in use hold 0, here
+// as in a probe.
 pub struct Answer {
     pub query: Query,
     pub scope: Scope,
@@ -95,7 +97,7 @@ pub struct ClaimLine {
     pub coordinates: [i32; MOST_PLACES],
 }
 
-// What a reader gives: refusal 0 beside the fields, or 9 or 10 beside zeros.
+// [5.14] [9.15] What a reader gives: refusal 0 beside the fields, or 9 or 10 beside zeros.
 pub struct AskRead {
     pub refusal: u8,
     pub ask: Ask,
@@ -112,20 +114,20 @@ pub struct ClaimRead {
     pub claim: ClaimLine,
 }
 
-// What a writer answers: the length of the line that it wrote, or the number of its refusal.
+// [5.12] What a writer answers: the length of the line that it wrote, or the number of its refusal.
 pub enum Wrote {
     Line(usize),
     Refused(u8),
 }
 
-// A flag as a line and C have it.
+// [5.8] [9.19] A flag as a line and C have it.
 pub fn flag(b: bool) -> u8
     ensures { λ r. ⌜ r ≡ flagOf b ⌝ }
 {
     if b { 1 } else { 0 }
 }
 
-// Where the page starts that an ask or an answer is about.
+// [5.8] Where the page starts that an ask or an answer is about.
 pub fn place_of(p: Scope) -> Place
     ensures { λ r. ⌜ r ≡ placeIn p ⌝ }
 {

@@ -1,9 +1,10 @@
-// Document 01, "Building the tree": the header of a table. Its claims and rooms lie in memory that the caller lends.
+// The header of a table. Its claims and rooms lie in memory that the caller lends.
 
 ghost use mathlib.Core.Path.{_≡_};
 ghost use mathlib.Core.Bool.{_&&_};
 ghost use lib.Dec.{eqb};
 
+// [3.1] What a table is called and measured by, and how much of its memory is in use.
 #[repr(C)]
 pub struct Table {
     pub number: u32,
@@ -15,19 +16,19 @@ pub struct Table {
     pub used: usize,
 }
 
-// What making an empty table answers.
+// [3.16] What making an empty table answers.
 pub enum Made {
     Table(Table),
     Refused(u8),
 }
 
-// What entering a run of claims answers: the table's header afterwards.
+// [3.14] What entering a run of claims answers: the table's header afterwards.
 pub enum Entered {
     Table(Table),
     Refused(u8),
 }
 
-// Whether a line is about this table: its number, measure and d, the test behind 11.
+// [6.2] [8.11] Whether a line is for this table: its number, measure and d.
 pub fn is_ours(t: Table, number: u32, measure: u8, d: usize) -> bool
     ensures { λ r. ⌜ r ≡ eqb number (t .number) && (eqb measure (t .measure) && eqb d (t .d)) ⌝ }
 {

@@ -1,4 +1,4 @@
--- `Place::snapshot_holds` meets its contract: from the start the snapshot is the count. Assumes nothing.
+-- `Place::snapshot_holds` meets its contract: at the start the count is the snapshot. Assumes nothing.
 use mathlib.Core.Path.{sym, ap, _∙_}
 use native.Mathlib.Omega.{arith}
 use lib.Dec.{leb}
