@@ -56,7 +56,7 @@ module _ (places : List ℕ) (i : ℕ) where
   unfolding placeAt
   place-after h m e = rw (ne-eqb (getD places (i * 4) 0) 0 h, e)
 
--- ---- the whole call: 1, 2, 5, 6, 12
+-- ---- [9.17] the whole call: 1, 2, 5, 6, 12
 
 module _ (s : Store) (probes n places size outcomes items : ℕ) where
   abbrev whole : ℕ

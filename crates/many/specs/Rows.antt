@@ -10,7 +10,7 @@ use Rattle.paper.specs.Orders.{Found, foundShown}
 abbrev pub row : ℕ → ℕ → List ℕ → List ℕ
 row w i l = take w (drop (i * w) l)
 
--- rows 0 to n - 1, where `f i` writes row i
+-- [4.16] rows 0 to n - 1, where `f i` writes row i
 unfoldable pub each : (ℕ → List ℕ → List ℕ) → ℕ → List ℕ → List ℕ
 each f zero l = l
 each f (suc i) l = f i (each f i l)
@@ -19,7 +19,7 @@ each f (suc i) l = f i (each f i l)
 abbrev pub instead : {M : Type 0} → M → M → M
 instead after before = after
 
--- what nearest and farthest found, as four numbers: whether there is an item, its number, reference and distance
+-- [4.17] what nearest and farthest found, as four numbers: whether there is an item, its number, reference and distance
 unfoldable pub foundRow : answers.Found → List ℕ
 foundRow answers.the-variants.Nothing = 0 ∷ 0 ∷ 0 ∷ 0 ∷ []
 foundRow (answers.the-variants.Item k y x) = 1 ∷ k ∷ y ∷ x ∷ []

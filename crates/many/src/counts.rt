@@ -7,7 +7,7 @@ ghost use Rattle.many.specs.Counts.{manyRefusal};
 use paper::counts::is_whole;
 use paper::tables::Table;
 
-// Whether a room has w numbers for each of n rows.
+// [8.12] Whether a room has w numbers for each of n rows.
 pub fn has_rows(n: usize, w: usize, room: usize) -> bool
     requires { ⌜ 1 ≤ w ⌝ }
     ensures { λ r. ⌜ r ≡ leb (n * w) room ⌝ }
@@ -18,7 +18,7 @@ pub fn has_rows(n: usize, w: usize, room: usize) -> bool
     true
 }
 
-// Why n questions may not be asked with so many probe coordinates: 1, 2, 5, or 0 where they may.
+// [8.5] Why n questions may not be asked with so many probe coordinates: 1, 2, 5, or 0 where they may.
 pub fn many_refusal(
     t: Table,
     references: &[u32],

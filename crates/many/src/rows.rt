@@ -19,7 +19,7 @@ fn put_four(out: &mut [u64], a: usize, w: u64, x: u64, y: u64, z: u64)
     keep::put_three(out, a + 1, x, y, z);
 }
 
-// Row i: whether an item was found, and the item.
+// [4.17] Row i: whether an item was found, and the item.
 pub fn put_found(out: &mut [u64], i: usize, f: Found)
     requires { ⌜ i * 4 + 4 ≤ length (now out) ⌝ }
     ensures { λ _. ⌜ now (out .exit) ≡ sets (now (out .entry)) (i * 4) (foundRow f) ⌝ }
@@ -32,7 +32,7 @@ pub fn put_found(out: &mut [u64], i: usize, f: Found)
     }
 }
 
-// Row i: the refusal, how many items, and whether they are the last.
+// [4.19] Row i: the refusal, how many items, and whether they are the last.
 pub fn put_page(outcomes: &mut [u64], i: usize, p: Page)
     requires { ⌜ i * 3 + 3 ≤ length (now outcomes) ⌝ }
     ensures { λ _. ⌜ now (outcomes .exit) ≡ sets (now (outcomes .entry)) (i * 3) (pageRow p) ⌝ }

@@ -11,7 +11,7 @@ use c_values::line_of;
 use c_values::list_in;
 use c_values::list_out;
 
-// Refusals 1, 5.
+// [9.11] Refusals 1, 5.
 #[no_mangle]
 pub extern "C" fn nearby_open_list(
     table: u32,
@@ -30,7 +30,7 @@ pub extern "C" fn nearby_open_list(
     }
 }
 
-// Refusals 2, 16, 6, 12.
+// [9.12] Refusals 2, 16, 6, 12.
 #[no_mangle]
 pub extern "C" fn nearby_write_ask(l: Listing, room: &[u64], size: usize, out: &mut [u8]) -> Written
     ensures { λ r. ⌜ WritesOut (askingHeld lines (held (listIn l) (now (room .entry))) size (length (now (out .entry)))) (now (out .entry)) r (now (out .exit)) ⌝ }
@@ -40,7 +40,7 @@ pub extern "C" fn nearby_write_ask(l: Listing, room: &[u64], size: usize, out: &
     line_of(wrote)
 }
 
-// Refusals 2, 9, 10, 16, 13, 14, 15.
+// [9.13] Refusals 2, 9, 10, 16, 13, 14, 15.
 #[no_mangle]
 pub extern "C" fn nearby_take(l: Listing, room: &mut [u64], line: &[u8]) -> Listed
     ensures { λ r. ⌜ TakesOut (listIn l) (takingHeld lines (held (listIn l) (now (room .entry))) (now (line .entry))) (now (room .entry)) r (now (room .exit)) ⌝ }
