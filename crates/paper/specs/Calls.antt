@@ -31,7 +31,7 @@ onTable s x = must (fits s) 1 (must (sound s) 2 x)
 unfoldable pub tableRefusal : Store → ℕ
 tableRefusal s = number (onTable s (gives s))
 
--- [8.5] and then with 5, where it has a probe: its coordinates are d
+-- [8.5] and one with a probe goes on with 5: the probe has d coordinates
 abbrev pub aimed : {A : Type 0} → Store → List ℤ → Outcome A → Outcome A
 aimed s probe x = onTable s (must (eqb (length probe) (s .table .d)) 5 x)
 

@@ -49,11 +49,11 @@ unfoldable pub answerLine : Answer → List ℕ
 answerLine y =
     lineOf (answerFrame (y .query) (scopeOf (y .place) (y .snapshot)) (flagOf (y .last)) (length (y .items)) (flat (y .items)))
 
--- [8.9] [8.10] the ask that a line is, refused by 9 and 10
+-- [8.9] [8.10] a line read as an ask
 unfoldable pub readAsk : List ℕ → Outcome Ask
 readAsk line = must (sound line) 9 (must (isAsk (frameOf line)) 10 (gives (asked (askAt (frameOf line)))))
 
--- [8.9] [8.10] the answer in an order that a line is
+-- [8.9] [8.10] a line read as an answer in an order
 unfoldable pub readAnswer : Order → List ℕ → Outcome Answer
 readAnswer o line =
     must (sound line) 9 (must (answerOk (answerKind o) (frameOf line)) 10 (gives (answered (answerAt o (frameOf line)))))

@@ -95,6 +95,7 @@ served c t line = onto (c .readAsk line) (λ a. onto (answerTo t a) (λ y. gives
 abbrev pub answerRoom : ℕ → Bool
 answerRoom out = leb longestAnswer out
 
+-- [9.10] the same in an output room of so many characters
 unfoldable pub office : Codec → Table → ℕ → List ℕ → Outcome (List ℕ)
 office c t out line = must (answerRoom out) 12 (served c t line)
 

@@ -135,11 +135,11 @@ unfoldable pub firstOf : List Item → Found
 firstOf [] = nothing
 firstOf (a ∷ l) = found a
 
--- [4.1] the first item within reach
+-- [4.1] the first item within reach, in the query's order
 unfoldable pub nearestOf : Query → List Claim → Found
 nearestOf q cs = firstOf (listed q cs (length cs))
 
--- [4.2] [1.9] the same in far order, with a reach that leaves out no claim: the measure's greatest distance
+-- [4.2] [1.9] the query in far order, with a reach that leaves out no claim: the measure's greatest distance
 abbrev pub farQuery : Query → Query
 farQuery q =
     record {

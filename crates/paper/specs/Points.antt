@@ -13,7 +13,7 @@ use Rattle.paper.specs.Limits.{mostPlaces, firstMeasure, lastMeasure}
 unfoldable pub measureOf : ℕ → Measure
 measureOf n = cond (eqb n 1) CityBlock (cond (eqb n 2) Maximum Hamming)
 
--- [1.5] what one coordinate counts: how far it differs, taken exactly; for Hamming 1 where it is not the same
+-- [1.5] [1.8] what one coordinate counts: how far it differs, taken exactly; for Hamming 1 where it is not the same
 unfoldable pub weigh : Measure → ℤ → ℤ → ℕ
 weigh CityBlock x y = natAbs (x -ℤ y)
 weigh Maximum x y = natAbs (x -ℤ y)

@@ -38,11 +38,11 @@ unfoldable pub withClaim : Table → Claim → Table
 withClaim t c =
     record { number = t .number; measure = t .measure; d = t .d; capacity = t .capacity; claims = t .claims ++ (c ∷ []) }
 
--- [10.6] a claim is tested for 11 and 3, and entered
+-- [10.6] [8.11] [8.3] a claim is tested for 11 and 3, and entered
 unfoldable pub entering : Table → ClaimLine → Outcome Table
 entering t c = must (ours t c) 11 (must (leb (count t + 1) (t .capacity)) 3 (gives (withClaim t (claimIn c))))
 
--- [10.6] an ask is tested for 11, 7 and 8, and answered
+-- [10.6] [6.1] an ask is tested for 11, 7 and 8, and answered
 unfoldable pub replyTo : Table → Ask → Outcome (List ℕ)
 replyTo t a = onto (answerTo t a) (λ y. gives (answerLine y))
 
@@ -128,7 +128,7 @@ atEnd (suc n) o (x ∷ h) = ended o (x ∷ h)
 unfoldable pub over : Office → Office
 over o = atEnd (o .left) o (o .held)
 
--- [10.10] the office before its first byte
+-- [10.10] the office before its first byte, with all the lines that it may read
 unfoldable pub start : Office
 start = record { books = closed; held = []; left = 4294967295; said = [] }
 
