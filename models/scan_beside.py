@@ -1,7 +1,7 @@
-"""A model of scan_beside: the same tables and questions, answered from document 01 by a sort; prints what the program has to print.
+"""A model of scan_beside: the same tables and questions, answered from the rules by a sort; prints what the program has to print.
 
-Far order is document 02's, One. Two ways that share only the distance: a sort of all claims, and a neartree built and walked by
-document 01. The sort gives the counts; the last line counts where the neartree's answer is another one.
+Two ways that share only the distance: a sort of all claims, in near and in far order, and a neartree built and walked by the
+rules. The sort gives the counts; the last line counts where the neartree's answer is another one.
 """
 
 # ---------------------------------------------------------------- the generator, as the program draws
@@ -33,7 +33,7 @@ def reach_of(x, other):
     return [0, NO_REACH, 2, 3, 4, 5000, other, other][pick(x, 8)]
 
 
-# ---------------------------------------------------------------- document 01: measures, orders, a table as a list of claims
+# ---------------------------------------------------------------- sections 1, 2 and 4: measures, orders, a table as a list of claims
 
 
 def distance(measure, p, q):
@@ -241,7 +241,7 @@ def one_table(i, c):
 
 
 def examples():
-    """Document 01's marked examples, so that the model itself is checked."""
+    """Examples a to j of crates/paper/specs/Examples.antt, so that the model itself is checked."""
     t = Table(1, 1, 1024)
     assert t.enter([(101 + i, [v]) for i, v in enumerate([2, 3, 9, 6, 5])]) == 0
     tree = Tree(t)

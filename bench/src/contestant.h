@@ -21,7 +21,7 @@ struct answers {
 
 struct contestant {
     const char *name;
-    /* Whether equal distances come by rising number, as the paper says. Otherwise distances alone can be compared. */
+    /* Whether equal distances come by rising number, as the rules say. Otherwise distances alone can be compared. */
     int ties_by_number;
     int (*can)(const struct cell *cell, enum question question);
     /* Enters the claims; the table lives until `leave`. */

@@ -1,4 +1,4 @@
-// The papers' own NearTree, from Debian's libcneartree: the C++ template, because the k nearest of the C library of the same version are
+// NearTree itself, from Debian's libcneartree: the C++ template, because the k nearest of the C library of the same version are
 // not the nearest. Coordinates are doubles, in which every distance here is exact. Claims at equal distances come in its own order.
 #include "contestant.h"
 

@@ -1,5 +1,5 @@
 /* A scan that the compiler vectorizes: -O3 for the machine at hand, a column for each coordinate, no branch in the loops over claims.
- * A claim's distance and number are one number, its key, so that the least key is the first claim in near order. */
+ * A claim's distance and number are one number, its key, so that the least key is that of the first claim in order. */
 #include "office.h"
 
 #include <stdlib.h>

@@ -1,6 +1,6 @@
 /*
- * Examples that were worked by hand: distances, and the marked examples a to j of document 01. These have claims 2, 3, 9, 6, 5 of
- * one coordinate, measure 1, probe 4, and reach 5 unless said.
+ * Examples that were worked by hand: distances, and examples a to j of crates/paper/specs/Examples.antt. These have claims at 2, 3, 9,
+ * 6 and 5 of one coordinate, measure 1 and probe 4; the reach is 5 where none is named.
  */
 #include "stores.h"
 #include "tests.h"
@@ -18,7 +18,7 @@ static const struct {
     int32_t a[8], b[8];
     uint64_t apart[3];
 } distances[] = {
-    /* document 001's two examples, and the marked examples' probe beside two of their claims */
+    /* two in which the measures differ, and the probe of examples a to j beside two of their claims */
     { 3, { 1, 2, 3 }, { 4, 4, 4 }, { 6, 3, 3 } },
     { 3, { 1, 2, 3 }, { 1, 3, 2 }, { 2, 1, 2 } },
     { 1, { 4 }, { 9 }, { 5, 5, 1 } },
@@ -70,7 +70,7 @@ static void distances_by_hand(void)
 
 /* ---- The tree ---- */
 
-/* a: root 2 and 3, far distance 6 on its right; below it 9 and 6, far distance 1 on the right; below that 5. */
+/* a: [3.5] to [3.10] three nodes, one below the other on the right, with far distances 6 and 1. */
 static void example_a(void)
 {
     seeded from = seed(82);
@@ -80,7 +80,7 @@ static void example_a(void)
     free_store(&s);
 }
 
-/* "below the left one when the distances are equal": a claim at 1 beside 0 and 2. */
+/* [3.8] The left of two as near: a claim at 1 beside 0 and 2. */
 static void ties_go_left(void)
 {
     seeded from = seed(83);
@@ -108,7 +108,7 @@ static bool found(nearby_item item, uint64_t number)
         && item.distance == from_probe[number];
 }
 
-/* c: nearest 1; farthest 2, distance 5. d: nearest within 0 nothing, within 1 number 1. */
+/* c: [4.1] [4.2] the nearest of a pair, and the farthest. d: [2.4] no claim is at the probe; one at the reach itself is found. */
 static void examples_c_and_d(void)
 {
     seeded from = seed(84);
@@ -141,7 +141,7 @@ static void check_pages(const store *s, nearby_start start, size_t size, const e
     }
 }
 
-/* b: near order by number is 1, 4, 0, 3, 2. e: in pages of 2. In pages of 1 and of 3 marks stand between claims as far. */
+/* b: [2.5] all five in near order. e: [4.6] in pages of 2. In pages of 1 and of 3 marks stand between claims as far. */
 static void examples_b_and_e(void)
 {
     seeded from = seed(85);
@@ -157,7 +157,7 @@ static void examples_b_and_e(void)
     free_store(&s);
 }
 
-/* f: a claim at 4 entered after the first page changes none of e. */
+/* f: [4.5] what is entered after the first page is on none of the others. */
 static void example_f(void)
 {
     seeded from = seed(86);
@@ -169,7 +169,7 @@ static void example_f(void)
     free_store(&s);
 }
 
-/* g: snapshot 5, mark distance 2, number 4: 8. h: snapshot 6 with five claims: 7. */
+/* g: [8.8] claim 4 is not at distance 2. h: [8.7] the sixth claim is not there. */
 static void examples_g_and_h(void)
 {
     seeded from = seed(87);
@@ -181,7 +181,7 @@ static void examples_g_and_h(void)
     free_store(&s);
 }
 
-/* j: a page of 5 is not last, and the next is empty and last. */
+/* j: [4.7] a full page is not the last, even where nothing is left. */
 static void example_j(void)
 {
     seeded from = seed(88);

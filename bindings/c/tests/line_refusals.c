@@ -1,6 +1,6 @@
 /*
  * What the bare writers and readers refuse, and of two faults at once the one that stands first in the call's order: 10 before 12,
- * 9 before 10. The numbers are document 01's; neither the library nor the model had a part in them, and both have to give them.
+ * 9 before 10. The numbers are those of the rules; neither the library nor the model had a part in them, and both have to give them.
  * 12 alone stands beside the good lines, in line_vectors.c.
  */
 #include "line_fields.h"
@@ -183,7 +183,7 @@ static const line_row other_kinds[] = {
     { READ_ASK, "040000000701010000000400000000000000050000000000000000000000000002\n" },
 };
 
-/* A field outside its range or against its zero rule, or a line that is too short or too long for its fields. */
+/* [8.10] A field that breaks 5.8 to 5.10, or a line that is too short or too long for its fields. */
 static const line_row fields_amiss[] = {
     { READ_CLAIM, "030000000700010000006500000002\n" },
     { READ_CLAIM, "030000000704010000006500000002\n" },

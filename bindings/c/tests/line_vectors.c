@@ -1,5 +1,5 @@
 /*
- * Lines beside their fields: the fields give the line, and the line gives the fields. The digits were worked out from document 01
+ * Lines beside their fields: the fields give the line, and the line gives the fields. The digits were worked out from the rules
  * alone; neither the library nor the model had a part in them, and both have to give them.
  */
 #include "line_fields.h"

@@ -1,4 +1,4 @@
-/* The bare writers and readers: what is written reads back, and what is damaged is told apart as document 01 says. */
+/* The bare writers and readers: what is written reads back, and what is damaged is told apart as the rules say. */
 #include "stores.h"
 #include "tests.h"
 

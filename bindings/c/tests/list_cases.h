@@ -1,4 +1,4 @@
-/* Document 01's list with something amiss: cases beside the numbers that they have to be refused with. */
+/* The list of the examples with something amiss: cases beside the numbers that they have to be refused with. */
 #ifndef LIST_CASES_H
 #define LIST_CASES_H
 

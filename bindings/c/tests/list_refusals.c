@@ -66,7 +66,7 @@ static void lists_not_sound(void)
     take_cases(not_sound, LENGTH(not_sound));
 }
 
-/* ---- Writing an ask: 2, 16, 6, 12 ---- */
+/* ---- [9.12] Writing an ask ---- */
 
 static void size_0(situation *c) { c->size = 0; }
 static void size_17(situation *c) { c->size = 17; }

@@ -1,4 +1,4 @@
-/* Lists: document 01's list page by page, and generated ones where a list or a line is damaged. */
+/* Lists: the list of the examples page by page, and generated ones where a list or a line is damaged. */
 #include "stores.h"
 #include "tablets.h"
 #include "tests.h"
@@ -48,7 +48,7 @@ static void drop_scene(scene *c)
     free_room(c->t.items);
 }
 
-/* The list of document 01's sample, in pages of 2. A claim at 4 is entered after each page; the list never gets it. */
+/* [4.5] The list of the examples, in pages of 2. A claim at 4 is entered after each page; the list never gets it. */
 static void page_by_page(void)
 {
     const struct {
@@ -149,7 +149,7 @@ static void answers_amiss(void)
     }
 }
 
-/* A list with one field or item amiss asks nothing and takes nothing, unless document 01 calls it sound. */
+/* A list with one field or item amiss asks nothing and takes nothing, unless the rules call it sound. */
 static void damage_list(seeded *from, nearby_list *l, room items)
 {
     const uint8_t flags[] = { 0, 1, 2, 255 };
@@ -188,7 +188,7 @@ static void lists_damaged(void)
     }
 }
 
-/* Taking a late first answer into a started list would mix two snapshots. */
+/* [7.5] A list that has started does not take an answer from the start, which may be of another snapshot. */
 static void late_first_answer(void)
 {
     seeded from = seed(36);
@@ -207,7 +207,7 @@ static void late_first_answer(void)
 
 void list_tests(void)
 {
-    run_test("lists: document 01's list page by page", page_by_page);
+    run_test("lists: the examples' list page by page", page_by_page);
     run_test("lists: both ends with a digit changed", ends_with_a_digit_changed);
     run_test("lists: answers amiss", answers_amiss);
     run_test("lists: damaged lists", lists_damaged);

@@ -1,5 +1,5 @@
 /*
- * Document 01 told again in plain C: every call as measuring every claim and sorting gives it, with a tree of linked nodes for the
+ * The rules told again in plain C: every call as measuring every claim and sorting gives it, with a tree of linked nodes for the
  * rooms alone. It shares no code with the library; of nearby.h it uses the structs.
  */
 #ifndef MODEL_H

@@ -19,7 +19,7 @@ store full_store(seeded *from, uint8_t measure, size_t d, size_t capacity, size_
 /* Enters one run of n claims. */
 void enter_run(seeded *from, store *s, size_t n, style how);
 
-/* The marked examples' table of document 01: claims 2, 3, 9, 6, 5 at d = 1 and measure 1, number 7, references 0x65 and on. */
+/* The table of examples a to j: claims at 2, 3, 9, 6 and 5, d = 1 and measure 1, number 7, references 0x65 and on. */
 store marked_store(seeded *from, size_t capacity);
 
 /* A reach that lets through none, some or all of a table's claims. */

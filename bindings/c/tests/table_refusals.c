@@ -1,6 +1,6 @@
 /*
  * What each call on a table refuses, by number, and of two faults at once the one that stands first in the call's order. The
- * numbers are document 01's; neither the library nor the model had a part in them, and both have to give them.
+ * numbers are those of the rules; neither the library nor the model had a part in them, and both have to give them.
  */
 #include "orders.h"
 #include "table_scene.h"

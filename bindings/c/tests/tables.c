@@ -2,7 +2,7 @@
 #include "stores.h"
 #include "tests.h"
 
-static void runs_go_in_whole_or_not_at_all(void)
+static void all_of_a_run_or_nothing(void)
 {
     seeded from = seed(4);
     uint32_t given[12] = { 0 };
@@ -154,7 +154,7 @@ static void memory_too_small(void)
 
 void table_tests(void)
 {
-    run_test("tables: runs go in whole or not at all", runs_go_in_whole_or_not_at_all);
+    run_test("tables: all of a run or nothing", all_of_a_run_or_nothing);
     run_test("tables: runs with coordinates amiss", runs_with_coordinates_amiss);
     run_test("tables: damaged rooms", rooms_damaged);
     run_test("tables: damaged claims", claims_damaged);

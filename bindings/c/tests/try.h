@@ -1,4 +1,4 @@
-/* Every call beside the model: the result and all lent memory have to be what document 01 gives. Each gives the library's result. */
+/* Every call beside the model: the result and all lent memory have to be what the rules say. Each gives the library's result. */
 #ifndef TRY_H
 #define TRY_H
 

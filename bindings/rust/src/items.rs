@@ -12,11 +12,11 @@ use crate::raw;
 #[derive(Clone, Copy, Debug, PartialEq, Eq, Hash)]
 #[repr(u8)]
 pub enum Measure {
-    /// The sum of the absolute coordinate differences.
+    /// How far the coordinates differ, added up.
     CityBlock = 1,
-    /// The largest absolute coordinate difference.
+    /// How far that coordinate differs that differs most.
     Maximum = 2,
-    /// How many coordinates differ.
+    /// How many coordinates are not the same.
     Hamming = 3,
 }
 
@@ -38,7 +38,7 @@ impl Measure {
 /// A claim as a question finds it.
 #[derive(Clone, Copy, Debug, PartialEq, Eq, Hash)]
 pub struct Item {
-    /// The claim's number in its table: 0 for the first entered, then rising by one.
+    /// The claim's number in its table: claims are counted from 0, as they are entered.
     pub number: u16,
     /// The claim's reference.
     pub reference: u32,
@@ -75,7 +75,7 @@ pub struct Mark {
 /// Where a page starts.
 #[derive(Clone, Copy, Debug, PartialEq, Eq, Hash)]
 pub enum Place {
-    /// At the start: the snapshot is the table's present count.
+    /// At the start: the table's present count is the snapshot.
     Start,
     /// After a claim's mark, among the first so many claims.
     After {

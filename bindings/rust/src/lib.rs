@@ -25,8 +25,8 @@
 //! # What is safe
 //!
 //! Every call of the library checks its own input, ends, and writes only the memory that it is lent. The types here own that memory
-//! and lend all of it under Rust's own rules, so nothing that safe code does can be undefined. [`raw`] has the bare calls for those
-//! who keep their own memory.
+//! and lend all of it under Rust's own rules, so nothing that safe code does can be undefined (rule 9.21 of `docs/RULES.md`).
+//! [`raw`] has the bare calls for those who keep their own memory.
 //!
 //! # What a call costs
 //!

@@ -25,7 +25,7 @@ macro_rules! refusals {
             /// Every refusal, by rising number.
             pub const ALL: &'static [Refusal] = &[$(Refusal::$name),*];
 
-            /// What the number means, as document 01 has it.
+            /// What the number means: rule 8.N of `docs/RULES.md` in few words.
             pub fn meaning(self) -> &'static str {
                 match self {
                     $(Refusal::$name => $meaning,)*
@@ -36,22 +36,22 @@ macro_rules! refusals {
 }
 
 refusals! {
-    OutOfRange = 1, "measure, d or capacity out of range, or lent memory smaller than these need";
-    NotSound = 2, "table or list not sound";
-    OverCapacity = 3, "count plus run over capacity";
-    NoRoomFree = 4, "no node room free", "It never arises on a table of this crate.";
-    WrongLength = 5, "probe length not d, or a run's coordinates not d for each reference";
-    PageSize = 6, "page size out of range";
-    SnapshotOverCount = 7, "snapshot over the count";
-    MarkNotHeld = 8, "mark number not below the snapshot, or mark distance not that claim's distance, or over reach";
-    NotALine = 9, "not an even, nonzero run of the sixteen digits and a final 0A, or over 573 characters";
-    NotThisKind = 10, "not this kind of line, or a field outside its range";
-    NotThisTable = 11, "table number, measure or d not this table's";
-    OutputTooSmall = 12, "output room too small";
-    NotToPresentAsk = 13, "not an answer to the list's present ask", "The line is late, repeated or another list's, which is no fault.";
-    PageDoesNotHold = 14, "a page whose items do not hold";
-    ListRoomTooSmall = 15, "list room too small for the page", "[`List::grow`](crate::List::grow) makes room.";
-    Complete = 16, "list complete";
+    OutOfRange = 1, "measure, d or capacity is not in its range, or a slice is too short for them";
+    NotSound = 2, "the table is not sound, or the list is not";
+    OverCapacity = 3, "the run has more claims than the capacity leaves free";
+    NoRoomFree = 4, "the run has more claims than there are nodes left", "It never arises on a table of this crate.";
+    WrongLength = 5, "not d coordinates in a probe or for each claim of a run, or not four numbers for each place";
+    PageSize = 6, "a page size that is not 1 to 16";
+    SnapshotOverCount = 7, "a snapshot of more claims than there are";
+    MarkNotHeld = 8, "a mark that no claim of the snapshot has within the reach";
+    NotALine = 9, "not pairs of digits, one at least, with 0A behind them, or more than 573 characters";
+    NotThisKind = 10, "another kind of line, or a length or a field that this kind cannot have";
+    NotThisTable = 11, "the line is for another table";
+    OutputTooSmall = 12, "the output room is too short";
+    NotToPresentAsk = 13, "the answer is not to the list's present ask", "The line is late, repeated or another list's, which is no fault.";
+    PageDoesNotHold = 14, "the answer's page does not hold";
+    ListRoomTooSmall = 15, "the page does not fit what is left of the list's room", "[`List::grow`](crate::List::grow) makes room.";
+    Complete = 16, "the list is complete already";
 }
 
 impl Refusal {

@@ -319,7 +319,7 @@ fn fields_at_their_edges() {
 }
 
 #[test]
-fn the_sample_of_document_01() {
+fn the_sample_lines() {
     let mut table = nearby::Table::new(7, Measure::CityBlock, 1, 1024).unwrap();
     for (reference, place) in [(0x65, 2), (0x66, 3), (0x67, 9), (0x68, 6), (0x69, 5)] {
         let line = format!("03000000070101{reference:08x}{place:08x}\n");

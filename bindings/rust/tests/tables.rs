@@ -55,7 +55,7 @@ fn tables_out_of_range() {
 }
 
 #[test]
-fn runs_go_in_whole_or_not_at_all() {
+fn all_of_a_run_is_entered_or_nothing() {
     let from = &mut Seeded(4);
     let (mut table, claims) = filled(from, Measure::CityBlock, 2, 20, 18, Style::Tied);
     let before = (table.clone().into_parts(), rooms(&claims));

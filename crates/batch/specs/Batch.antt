@@ -16,7 +16,7 @@ use Rattle.batch.specs.declared.Answered.{Answered}
 use Rattle.batch.specs.declared.outcomes.Said.{Said}
 use Rattle.paper.specs.Limits.{longestAnswer}
 
--- how long the first line of a buffer is: up to and with its first 0A, or all that there is
+-- [6.5] how long the first line of a buffer is: up to and with its first 0A, or all that there is
 unfoldable pub cutAt : List ℕ → ℕ
 cutAt [] = 0
 cutAt (x ∷ l) = cond (eqb x 10) 1 (suc (cutAt l))
@@ -25,7 +25,7 @@ cutAt (x ∷ l) = cond (eqb x 10) 1 (suc (cutAt l))
 unfoldable pub lineAt : List ℕ → ℕ → List ℕ
 lineAt asks at = take (cutAt (drop at asks)) (drop at asks)
 
--- how far the answering is: lines answered, characters of asks used and of answers written, and the two rooms
+-- [6.7] how far the answering is: lines answered, characters of asks used and of answers written, and the two rooms
 pub record Batch : Type 0 where
   pub lines : ℕ
   pub used : ℕ
@@ -36,7 +36,7 @@ pub record Batch : Type 0 where
 abbrev pub start : List ℕ → List ℕ → Batch
 start outcomes out = record { lines = 0; used = 0; written = 0; outcomes = outcomes; out = out }
 
--- what the single call gives for the line at hand, in the room that is left
+-- [6.5] what the single call gives for the line at hand, in the room that is left
 unfoldable pub answerNow : Store → List ℕ → Batch → Outcome (List ℕ)
 answerNow s asks b = officeCall s (length (drop (b .written) (b .out))) (lineAt asks (b .used))
 
@@ -44,7 +44,7 @@ unfoldable pub lengthSaid : Outcome (List ℕ) → ℕ
 lengthSaid (refused n) = 0
 lengthSaid (gives line) = length line
 
--- row k of the outcomes: the refusal's number, and how long the answer line is
+-- [6.6] row k of the outcomes: the refusal's number, and how long the answer line is
 unfoldable pub rowPut : List ℕ → ℕ → ℕ → ℕ → List ℕ
 rowPut l k refusal size = set (set l (2 * k) refusal) (2 * k + 1) size
 
@@ -62,7 +62,7 @@ stepBy o asks b =
 unfoldable pub step : Store → List ℕ → Batch → Batch
 step s asks b = stepBy (answerNow s asks b) asks b
 
--- while a byte of the asks is left, a row of the outcomes, and room for the longest line
+-- [6.7] while a byte of the asks is left, a row of the outcomes, and room for the longest line
 unfoldable pub goes : List ℕ → Batch → Bool
 goes asks b =
     ltb (b .used) (length asks)
@@ -73,7 +73,7 @@ unfoldable pub answered : ℕ → Store → List ℕ → Batch → Batch
 answered zero s asks b = b
 answered (suc f) s asks b = cond (goes asks b) (answered f s asks (step s asks b)) b
 
--- "Refusals 12, 1, 2", and then line after line: every line uses a byte, so the bytes bound the steps
+-- [9.18] refusals 12, 1, 2, and then line after line: every line uses a byte, so the bytes bound the steps
 unfoldable pub batchCall : Store → List ℕ → List ℕ → List ℕ → Outcome Batch
 batchCall s asks outcomes out =
     must (answerRoom (length out)) 12 (onTable s (gives (answered (length asks) s asks (start outcomes out))))
@@ -88,7 +88,7 @@ startAt (suc k) asks = startAt k asks + cutAt (drop (startAt k asks) asks)
 unfoldable pub nthLine : ℕ → List ℕ → List ℕ
 nthLine k asks = lineAt asks (startAt k asks)
 
--- what the single call gives for line k
+-- [6.5] what the single call gives for line k
 unfoldable pub alone : Store → List ℕ → ℕ → Outcome (List ℕ)
 alone s asks k = officeCall s longestAnswer (nthLine k asks)
 
@@ -96,7 +96,7 @@ unfoldable pub lineSaid : Outcome (List ℕ) → List ℕ
 lineSaid (refused n) = []
 lineSaid (gives line) = line
 
--- the answer lines to the first n lines, one after another, and the rows of their outcomes
+-- [6.5] [6.6] the answer lines to the first n lines, one after another, and the rows of their outcomes
 unfoldable pub answersOf : ℕ → Store → List ℕ → List ℕ
 answersOf zero s asks = []
 answersOf (suc n) s asks = answersOf n s asks ++ lineSaid (alone s asks n)
@@ -116,7 +116,7 @@ batchAt n s asks outcomes out =
       out = answersOf n s asks ++ drop (length (answersOf n s asks)) out;
     }
 
--- line k stands in the batch as the single call answers it
+-- [6.5] [6.6] line k stands in the batch as the single call answers it
 pub record AsAlone (s : Store) (asks : List ℕ) (b : Batch) (k : ℕ) : Type 0 where
   pub refusal : getD (b .outcomes) (2 * k) 0 ≡ number (alone s asks k)
   pub size : getD (b .outcomes) (2 * k + 1) 0 ≡ lengthSaid (alone s asks k)
@@ -131,7 +131,7 @@ batchOf r outcomes out = record { lines = r .lines; used = r .used; written = r 
 abbrev pub refusedBy : ℕ → Answered
 refusedBy n = record { refusal = n; lines = 0; used = 0; written = 0 }
 
--- how the call shows its outcome: how far it came, or the refusal's number beside zeros
+-- [6.7] [9.18] how the call shows its outcome: how far it came, or the refusal's number beside zeros
 abbrev pub answeredAs : Outcome Batch → Answered
 answeredAs (refused n) = refusedBy n
 answeredAs (gives b) = record { refusal = 0; lines = b .lines; used = b .used; written = b .written }

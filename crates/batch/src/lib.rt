@@ -1,4 +1,4 @@
-// A buffer of ask lines in, answer lines out: the table is tested once, and then line after line is answered as the
+// [6.5] A buffer of ask lines in, answer lines out: the table is tested once, and then line after line is answered as the
 // office's single call would answer it.
 mod ends;
 mod outcomes;
@@ -11,7 +11,7 @@ use paper::limits::LONGEST_ANSWER;
 use paper::tables::Table;
 use turns::answer_lines;
 
-// How many lines were answered, how many characters of the asks they used, and how many characters of answers were
+// [6.7] [9.18] How many lines were answered, how many characters of the asks they used, and how many characters of answers were
 // written; all 0 beside a refusal.
 #[repr(C)]
 pub struct Answered {
@@ -32,7 +32,7 @@ fn refused(n: u8) -> Answered
     }
 }
 
-// Refusals 12, 1, 2; a line's own refusals stand beside it.
+// [9.18] Refusals 12, 1, 2; a line's own refusals stand beside it.
 pub fn answer_all(
     t: Table,
     references: &[u32],

@@ -5,7 +5,7 @@ ghost use lib.ListN.{length};
 ghost use Rattle.batch.specs.Batch.{rowPut, saidBy};
 use paper::lines::Wrote;
 
-// What a call said to a line: the refusal's number or 0, and the answer line's length or 0.
+// [6.6] What a call said to a line: the refusal's number or 0, and the answer line's length or 0.
 pub struct Said {
     pub refusal: u8,
     pub length: usize,
@@ -26,7 +26,7 @@ pub fn said_of(w: Wrote) -> Said
     }
 }
 
-// Puts row k.
+// [6.6] Puts row k.
 pub fn put_row(outcomes: &mut [u64], k: usize, said: Said)
     requires { ⌜ 2 * k + 2 ≤ length (now outcomes) ⌝ }
     ensures { λ _. ⌜ now (outcomes .exit) ≡ rowPut (now (outcomes .entry)) k (said .refusal) (said .length) ⌝ }

@@ -15,7 +15,7 @@ use crate::Answered;
 use paper::limits::LONGEST_ANSWER;
 use paper::tables::Table;
 
-// Whether a byte of the asks is left, a row of the outcomes, and room for the longest line.
+// [6.7] Whether a byte of the asks is left, a row of the outcomes, and room for the longest line.
 fn goes_on(d: Answered, asks: usize, outcomes: usize, out: usize) -> bool
     ensures { λ r. ⌜ r ≡ (ltb (d .used) asks && (leb (2 * d .lines + 2) outcomes && leb (d .written + longestAnswer) out)) ⌝ }
 {
@@ -67,7 +67,7 @@ fn answer_next(
     }
 }
 
-// Answers lines while there is one, and room for it.
+// [6.5] [6.7] Answers lines while there is one, and room for it.
 pub fn answer_lines(
     t: Table,
     references: &[u32],

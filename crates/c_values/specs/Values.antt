@@ -1,4 +1,5 @@
--- Cases as numbers, for C: the refusal's number, 0 where nothing is refused, beside the values, 0 where there are none. Definitions only.
+-- [9.19] Cases as numbers, for C: the refusal's number, 0 where nothing is refused, beside the values, 0 where there are none. Definitions
+-- only.
 use Prim.Native.Nat.{ℕ}
 use mathlib.Core.Bool.{Bool, cond, not}
 use mathlib.Core.List.{List}
@@ -38,10 +39,11 @@ use Rattle.c_values.specs.declared.AnswerShown.{AnswerShown}
 use Rattle.c_values.specs.declared.Listing.{Listing}
 use Rattle.c_values.specs.declared.Listed.{Listed}
 
+-- [9.19] a flag from C: anything but 0 is on
 abbrev pub flagIn : ℕ → Bool
 flagIn n = not (eqb n 0)
 
--- a refusal beside a table of zeros, or the table
+-- [9.19] a refusal beside a table of zeros, or the table
 abbrev pub noTable : ℕ → Tabled
 noTable n = record { refusal = n; table = emptyTable 0 0 0 0 }
 
@@ -69,7 +71,7 @@ abbrev pub writtenOf : Wrote → Written
 writtenOf (Line n) = record { refusal = 0; length = n }
 writtenOf (Refused n) = record { refusal = n; length = 0 }
 
--- a query of C: its order is near
+-- [2.1] a query of C: its order is near
 abbrev pub nearQuery : ℕ → ℕ → ℕ → List ℤ → ℕ → Query
 nearQuery table measure d probe reach =
     record { order = Near; table = table; measure = measure; d = d; probe = probe; reach = reach }

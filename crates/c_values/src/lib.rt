@@ -1,4 +1,4 @@
-// What goes to C and comes back: numbers, and structs of numbers. A refusal's number stands beside the values, 0 where nothing was
+// What goes to C and comes back: numbers, and structs of numbers. [9.19] A refusal's number stands beside the values, 0 where nothing was
 // refused; where a case is not given its values are 0. A flag from C is off when it is 0 and on otherwise; a flag to C is 0 or 1.
 // This is a crate of its own so that wrong conversions are tried in seconds, apart from the exports.
 ghost use mathlib.Core.Path.{_≡_};

@@ -3,7 +3,7 @@ ghost use mathlib.Core.Path.{_≡_};
 ghost use Prim.Native.Nat.{_*_, _≤_};
 ghost use lib.Dec.{eqb};
 
-// Whether there are d of them for each of so many: refusal 5.
+// [8.5] Whether there are d of them for each of so many.
 pub fn is_whole(d: usize, given: usize, places: usize) -> bool
     requires { ⌜ 1 ≤ d ⌝ }
     ensures { λ r. ⌜ r ≡ eqb places (d * given) ⌝ }

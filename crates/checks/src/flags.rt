@@ -2,7 +2,7 @@
 ghost use mathlib.Core.Path.{_≡_};
 ghost use Rattle.paper.specs.Fields.{flagOf};
 
-// A flag as a line and C have it.
+// [5.8] [9.19] A flag as a line and C have it.
 pub fn flag(b: bool) -> u8
     ensures { λ r. ⌜ r ≡ flagOf b ⌝ }
 {

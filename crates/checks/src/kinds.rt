@@ -3,7 +3,7 @@ ghost use mathlib.Core.Path.{_≡_};
 ghost use Rattle.paper.specs.Lines.{askKind, answerKind, spoken, askOrder};
 use paper::orders::Order;
 
-// The kind of an ask in an order; 0 is none, and lists in far order have no lines yet.
+// [5.5] The kind of an ask in an order; 0 is none, and lists in far order have no lines yet.
 pub fn ask_kind(order: Order) -> u8
     ensures { λ r. ⌜ r ≡ askKind order ⌝ }
 {
@@ -13,7 +13,7 @@ pub fn ask_kind(order: Order) -> u8
     }
 }
 
-// The kind of an answer in an order.
+// [5.6] The kind of an answer in an order.
 pub fn answer_kind(order: Order) -> u8
     ensures { λ r. ⌜ r ≡ answerKind order ⌝ }
 {
@@ -23,7 +23,7 @@ pub fn answer_kind(order: Order) -> u8
     }
 }
 
-// Whether an order has kinds of line.
+// [2.1] Whether an order has kinds of line.
 pub fn has_lines(order: Order) -> bool
     ensures { λ r. ⌜ r ≡ spoken order ⌝ }
 {

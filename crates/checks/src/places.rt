@@ -7,7 +7,7 @@ use paper::lines::Scope;
 use paper::orders::Mark;
 use paper::orders::Place;
 
-// Where the page starts that an ask or an answer is about.
+// [5.8] Where the page starts that an ask or an answer is about.
 pub fn place_of(p: Scope) -> Place
     ensures { λ r. ⌜ r ≡ placeIn p ⌝ }
 {
@@ -17,7 +17,7 @@ pub fn place_of(p: Scope) -> Place
     Place::After(p.snapshot as u64, Mark::at(p.distance, p.number as u64))
 }
 
-// Whether the snapshot is within the count: refusal 7. From the start it is the count itself.
+// [8.7] Whether the snapshot is within the count. At the start it is the count itself.
 pub fn snapshot_holds(place: Place, count: usize) -> bool
     ensures { λ r. ⌜ r ≡ leb (snapshotOf place count) count ⌝ }
 {

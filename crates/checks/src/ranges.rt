@@ -6,7 +6,7 @@ use paper::limits::MOST_PAGE;
 use paper::limits::MOST_PLACES;
 use paper::points::Measure;
 
-// Whether there is such a measure, and d is in range: the first part of refusal 1 for tables and lists, and of 10 for lines.
+// [1.3] [1.5] Whether there is such a measure, and d is in range: the first part of refusal 1 for tables and lists, and of 10 for lines.
 pub fn in_range(measure: u8, d: usize) -> bool
     ensures { λ r. ⌜ r ≡ inRange measure d ⌝ }
 {
@@ -22,7 +22,7 @@ pub fn in_range(measure: u8, d: usize) -> bool
     d <= MOST_PLACES
 }
 
-// Whether a page may have so many items: refusal 6.
+// [4.3] [8.6] Whether a page may have so many items.
 pub fn size_holds(size: usize) -> bool
     ensures { λ r. ⌜ r ≡ sizeHolds size ⌝ }
 {

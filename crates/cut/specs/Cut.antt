@@ -1,4 +1,4 @@
--- Lines of an input that comes in chunks: what one cut leaves, and what that means. "Later programs cut lines alike." Definitions only.
+-- Lines of an input that comes in chunks: what one cut leaves, and what that means. Definitions only.
 use Prim.Native.Nat.{ℕ, _+_, _≤_, min}
 use mathlib.Core.Path.{_≡_}
 use mathlib.Core.List.{List, [], _∷_}
@@ -7,7 +7,8 @@ use lib.ListN.{length, set, take}
 use lib.Dec.{leb, eqb}
 use Rattle.cut.specs.declared.Piece.{Piece}
 
--- the size of a line of n bytes with one more, where every size over `most` counts as the next one: `most` + 1 stands for any longer line
+-- [10.8] the size of a line of n bytes with one more, where every size over `most` counts as the next one: `most` + 1 stands for any
+-- longer line
 unfoldable pub longer : ℕ → ℕ → ℕ
 longer most n = cond (leb n most) (n + 1) n
 
@@ -19,7 +20,7 @@ pub record Taken : Type 0 where
 abbrev pub taken : List ℕ → Piece → Taken
 taken l p = record { line = l; piece = p }
 
--- the bytes xs, which start at i in the chunk, are added to a line of size n in the room l
+-- [10.8] the bytes xs, which start at i in the chunk, are added to a line of size n in the room l
 unfoldable pub cutOf : ℕ → List ℕ → ℕ → ℕ → List ℕ → Taken
 cutOf most l n i [] = taken l (record { at = i; size = n; whole = false })
 cutOf most l n i (x ∷ xs) =
@@ -28,7 +29,7 @@ cutOf most l n i (x ∷ xs) =
 
 -- ---- what that means
 
--- the bytes up to the first 0A, which is the last of them
+-- [10.8] the bytes up to the first 0A, which is the last of them
 unfoldable pub lineIn : List ℕ → List ℕ
 lineIn [] = []
 lineIn (x ∷ xs) = x ∷ cond (eqb x 10) [] (lineIn xs)

@@ -1,5 +1,5 @@
-// The lines of an input that comes in chunks, for every program. The line so far stands in a lent room, and the room's
-// length is the longest line: of a longer one the front is kept, and its size is one more than the room's length.
+// The lines of an input that comes in chunks, for every program. [10.8] The line so far stands in a lent room, and the room's length is
+// the longest line: of a longer one the front is kept, and its size is one more than the room's length.
 ghost use mathlib.Core.Path.{_≡_};
 ghost use Prim.Native.Nat.{_<_, _^_};
 ghost use lib.ListN.{length, drop, set};
@@ -21,7 +21,7 @@ fn keep(line: &mut [u8], n: usize, b: u8)
     }
 }
 
-// The size of a line of n bytes with one more, where more than `most` count as one more than that.
+// [10.8] The size of a line of n bytes with one more, where more than `most` count as one more than that.
 fn grow(most: usize, n: usize) -> usize
     requires { ⌜ most < 2 ^ 63 ⌝ }
     ensures { λ r. ⌜ r ≡ longer most n ⌝ }
@@ -29,7 +29,7 @@ fn grow(most: usize, n: usize) -> usize
     if n <= most { n + 1 } else { n }
 }
 
-// Adds the bytes of the chunk from `from` on to the line so far, up to the end of the line or of the chunk.
+// [10.8] [10.11] Adds the bytes of the chunk from `from` on to the line so far, up to the end of the line or of the chunk.
 pub fn cut(line: &mut [u8], size: usize, chunk: &[u8], from: usize) -> Piece
     ensures { λ r. ⌜ taken (now (line .exit)) r ≡ cutOf (length (now (line .entry))) (now (line .entry)) size from (drop from (now (chunk .entry))) ⌝ }
 {

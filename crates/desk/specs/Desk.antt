@@ -17,7 +17,7 @@ use Rattle.paper.specs.Codec.{placeIn, answerLine}
 use Rattle.tree.specs.Soundness.{Good}
 use Rattle.paper.specs.Limits.{longestAnswer, mostPage, mostPlaces}
 
--- an ask that a reader gives
+-- [5.8] [5.9] [5.10] an ask that a reader gives
 pub record Given (a : lines-Ask.Ask) : Type 0 where
   pub known : spoken (a .query .order) ≡ true
   pub narrow : a .query .d ≤ mostPlaces
@@ -25,7 +25,7 @@ pub record Given (a : lines-Ask.Ask) : Type 0 where
   pub some : 1 ≤ a .size
   pub most : a .size ≤ mostPage
 
--- a sound table, with room for the longest line
+-- [8.12] a sound table, with room for the longest line
 pub record Open (s : Store) (out : ℕ) : Type 0 where
   pub good : Good s
   pub room : longestAnswer ≤ out
@@ -34,13 +34,13 @@ pub record Answering (s : Store) (a : lines-Ask.Ask) (out : ℕ) : Type 0 where
   pub isOpen : Open s out
   pub ask : Given a
 
--- an ask to this very table
+-- [6.2] an ask to this very table
 pub record Asking (s : Store) (q : queries.Query) (p : Scope) (size out : ℕ) : Type 0 where
   pub isOpen : Open s out
   pub ask : Given (record { query = q; scope = p; size = size })
   pub ours : matches (tableOf s) (queryIn q) ≡ true
 
--- whose snapshot is not over the count
+-- [8.7] whose snapshot is not over the count
 pub record Paging (s : Store) (q : queries.Query) (p : Scope) (size out : ℕ) : Type 0 where
   pub asking : Asking s q p size out
   pub stored : snapshotOf (placeIn p) (s .table .count) ≤ s .table .count
@@ -49,10 +49,10 @@ pub record Paging (s : Store) (q : queries.Query) (p : Scope) (size out : ℕ) :
 abbrev pub askIn : queries.Query → Scope → ℕ → Ask
 askIn q p size = record { query = queryIn q; place = placeIn p; size = size }
 
--- the line of the page that is asked for
+-- [6.3] the line of the page that is asked for
 abbrev pub pageLine : Ends.Table → Ask → Outcome (List ℕ)
 pageLine t a = gives (answerLine (answerOf t a))
 
--- the line, or 7, 8
+-- [8.7] [8.8] the line, or 7, 8
 unfoldable pub pageReply : Ends.Table → Ask → Outcome (List ℕ)
 pageReply t a = must (snapshotHolds (t .claims) (a .place)) 7 (must (markHolds (a .query) (t .claims) (a .place)) 8 (pageLine t a))

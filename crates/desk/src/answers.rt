@@ -17,7 +17,7 @@ use paper::lines::Wrote;
 use paper::queries::Query;
 use paper::tables::Table;
 
-// The answer to an ask that is about this table.
+// [8.7] [8.8] The answer to an ask that is for this table.
 fn answer_here(
     t: Table,
     references: &[u32],
@@ -43,7 +43,7 @@ fn answer_here(
     tell_page(t, references, coordinates, rooms, q, p, size, out)
 }
 
-// Answers an ask that a reader gave.
+// [6.2] [8.11] Answers an ask that a reader gave.
 pub fn answer_ask(
     t: Table,
     references: &[u32],
@@ -63,7 +63,7 @@ pub fn answer_ask(
     answer_here(t, references, coordinates, rooms, q, scope, ask.size, out)
 }
 
-// Answers an ask line.
+// [6.1] [9.10] Answers an ask line.
 pub fn answer_line(
     t: Table,
     references: &[u32],

@@ -1,4 +1,4 @@
-// The office's end: one ask line in, one answer line out, from a sound table. Nothing is remembered between asks.
+// [6.1] The office's end: the answer line to an ask line, by that line and a sound table alone.
 mod answers;
 mod pages;
 

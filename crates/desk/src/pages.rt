@@ -16,7 +16,7 @@ use paper::lines::Wrote;
 use paper::queries::Query;
 use paper::tables::Table;
 
-// The fields that the answer repeats, with the snapshot that it used.
+// [6.4] The fields that an answer has of its ask, with the snapshot of the page.
 fn answer_scope(p: Scope, count: u16) -> Scope
     requires { ⌜ p .from ≤ 1 ⌝ }
     ensures { λ r. ⌜ r ≡ scopeOf (placeIn p) (snapshotOf (placeIn p) count) ⌝ }
@@ -32,7 +32,7 @@ fn answer_scope(p: Scope, count: u16) -> Scope
     p
 }
 
-// Finds the page and writes its line.
+// [6.3] Finds the page and writes its line.
 pub fn tell_page(
     t: Table,
     references: &[u32],

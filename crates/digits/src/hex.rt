@@ -1,4 +1,4 @@
-// Hexadecimal digits: a line's soundness, and its frame.
+// Digits: a line's soundness, and its frame.
 ghost use mathlib.Core.Path.{_≡_};
 ghost use mathlib.Core.List.{_++_};
 ghost use Prim.Native.Nat.{_/_, _≤_, _<_};
@@ -9,6 +9,7 @@ ghost use Rattle.paper.specs.Limits.{longestFrame};
 ghost use Rattle.digits.specs.Places.{Framed};
 use paper::limits::LONGEST_ANSWER;
 
+// [5.1] The digit of a number below 16.
 pub fn glyph(n: u64) -> u8
     requires { ⌜ n < 16 ⌝ }
     ensures { λ r. ⌜ r ≡ Frames·glyph n ⌝ }
@@ -16,7 +17,7 @@ pub fn glyph(n: u64) -> u8
     if n < 10 { 48 + n as u8 } else { 87 + n as u8 }
 }
 
-// The value of a digit, or 16 for a byte that is none.
+// [5.1] The value of a digit, or 16 for a byte that is none.
 pub fn digit(b: u8) -> u64
     ensures { λ r. ⌜ r ≡ Frames·digit b ⌝ }
 {
@@ -35,7 +36,7 @@ pub fn digit(b: u8) -> u64
     16
 }
 
-// Whether a line is an even, nonzero run of digits and a final 0A, of at most 573 characters.
+// [8.9] Whether a line is pairs of digits, one at least, with 0A behind them, and not too long.
 pub fn is_sound(line: &[u8]) -> bool
     ensures { λ r. ⌜ r ≡ sound (now (line .entry)) ⌝ }
 {
@@ -60,7 +61,7 @@ pub fn is_sound(line: &[u8]) -> bool
     line[last] == 10
 }
 
-// Writes the frame of a line to the front of `out`, and gives the frame's length.
+// [5.1] Writes the frame of a line to the front of `out`, and gives the frame's length.
 fn unhex(line: &[u8], out: &mut [u8]) -> usize
     requires { ⌜ length (now line) / 2 ≤ length (now out) ⌝ }
     ensures { λ r. ⌜ (r ≡ length (now (line .entry)) / 2) × (now (out .exit) ≡ frameOf (now (line .entry)) ++ drop r (now (out .entry))) ⌝ }

@@ -8,7 +8,7 @@ ghost use Rattle.paper.specs.Frames.{be};
 ghost use Rattle.digits.specs.Places.{over, held, Field};
 use crate::hex::glyph;
 
-// Writes n in w bytes, as digits, at byte `at` of the line that `out` holds.
+// [5.2] Writes n in w bytes, as digits, at byte `at` of the line that `out` holds.
 pub fn put(out: &mut [u8], at: usize, w: usize, n: u64)
     requires { ⌜ 2 * (at + w) ≤ length (now out) ⌝ }
     ensures { λ _. ⌜ now (out .exit) ≡ over (now (out .entry)) at (be w n) ⌝ }
@@ -32,7 +32,7 @@ pub fn size(src: &[u8]) -> usize
     src.len()
 }
 
-// The number in the w bytes from byte `at` on of the frame that `src` holds.
+// [5.2] The number in the w bytes from byte `at` on of the frame that `src` holds.
 pub fn number(src: &[u8], at: usize, w: usize) -> u64
     requires { ⌜ (at + w ≤ length (held (now src))) × (w ≤ 8) ⌝ }
     ensures { λ r. ⌜ Field (now (src .entry)) at w r ⌝ }
@@ -46,7 +46,7 @@ pub fn number(src: &[u8], at: usize, w: usize) -> u64
     acc
 }
 
-// A signed number's pattern in two's complement.
+// [5.3] A signed number's pattern in two's complement.
 pub fn pattern(x: i32) -> u32
     ensures { λ r. ⌜ r ≡ ofZ w32 x ⌝ }
 {
@@ -57,7 +57,7 @@ pub fn pattern(x: i32) -> u32
     }
 }
 
-// The signed number of a pattern.
+// [5.3] The signed number of a pattern.
 pub fn signed(n: u32) -> i32
     ensures { λ r. ⌜ r ≡ toZ w32 n ⌝ }
 {

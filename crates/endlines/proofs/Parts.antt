@@ -99,7 +99,7 @@ unfolding coordsIn
 probe-read zero f b = tt
 probe-read (suc d) f b = (sfits-toZ {w = w32} {n = num 4 f} (record { fits = num-lt 4 f b }) .sfits, probe-read d (drop 4 f) (bytes-drop 4 f b))
 
--- a query in range has the bits that a line gives it: "measure 1 to 3, d 1 to 8"
+-- [1.3] [1.5] a query in range has the bits that a line gives it
 pub query-fit : (q : Query) → QueryOk q → QueryFit q
 query-fit q ok =
     let r = range-is (q .measure) (q .d) (ok .range) in

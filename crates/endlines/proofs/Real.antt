@@ -1,4 +1,4 @@
--- The lines obey what the two ends need of their lines, in every order. Assumes nothing.
+-- [5.13] The lines obey what the two ends need of their lines, in every order. Assumes nothing.
 use mathlib.Core.Path.{sym, _∙_}
 use Rattle.paper.proofs.LineKinds.{answers-apart, asks-apart}
 use Rattle.paper.specs.Codec.{askLine, answerLine, lines}

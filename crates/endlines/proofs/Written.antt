@@ -1,4 +1,4 @@
--- What is written reads back, and begins with its order's kind. Assumes nothing.
+-- [5.13] What is written reads back, and begins with its order's kind. Assumes nothing.
 use Prim.Native.Nat.{ℕ, _-_, _*_, _≤_}
 use mathlib.Core.Path.{_≡_, refl, ap, _∙_}
 use mathlib.Core.Bool.{Bool, true, false}

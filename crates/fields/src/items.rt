@@ -1,4 +1,4 @@
-// The items of an answer line: number, reference and distance for each.
+// [5.6] The items of an answer line: number, reference and distance for each.
 ghost use mathlib.Core.Path.{_≡_};
 ghost use mathlib.Core.Bool.{_&&_};
 ghost use Prim.Native.Nat.{_+_, _*_, _≤_};
@@ -31,6 +31,7 @@ pub fn put_items(out: &mut [u8], at: usize, items: &[u64], k: usize)
     }
 }
 
+// [5.14] The k items from byte `at` on, and 0 behind them.
 pub fn items_at(src: &[u8], at: usize, k: usize) -> [u64; ITEM_ROOM]
     requires { ⌜ (at + 14 * k ≤ length (held (now src))) × (k ≤ mostPage) ⌝ }
     ensures { λ r. ⌜ r ≡ itemPlaces k (itemsIn k (drop at (held (now (src .entry))))) ⌝ }
@@ -48,7 +49,7 @@ pub fn items_at(src: &[u8], at: usize, k: usize) -> [u64; ITEM_ROOM]
     found
 }
 
-// Whether each of the k items from byte `at` on has a number in range.
+// [5.9] Whether each of the k items from byte `at` on has a number in range.
 pub fn numbers_ok(src: &[u8], at: usize, k: usize) -> bool
     requires { ⌜ at + 14 * k ≤ length (held (now src)) ⌝ }
     ensures { λ r. ⌜ r ≡ numbersOk (itemsIn k (drop at (held (now (src .entry))))) ⌝ }
@@ -63,7 +64,7 @@ pub fn numbers_ok(src: &[u8], at: usize, k: usize) -> bool
     true
 }
 
-// Whether a writer was handed k items, and each fits its fields.
+// [8.10] Whether a writer was handed k items, and each fits its fields.
 pub fn items_fit(items: &[u64], k: u8) -> bool
     ensures { λ r. ⌜ r ≡ eqb (length (now (items .entry))) (3 * k) && (referencesOk (now (items .entry)) && numbersOk (now (items .entry))) ⌝ }
 {

@@ -22,7 +22,7 @@ pub fn kind(src: &[u8]) -> u64
     digits::number(src, 0, 1)
 }
 
-// Whether a frame begins with a head of this kind, in range.
+// [5.4] [8.10] Whether a frame begins with a head of this kind, in range.
 pub fn head_ok(src: &[u8], kind: u8) -> bool
     requires { ⌜ 7 ≤ length (held (now src)) ⌝ }
     ensures { λ r. ⌜ r ≡ headOk kind (held (now (src .entry))) ⌝ }
@@ -39,6 +39,7 @@ pub fn head_ok(src: &[u8], kind: u8) -> bool
     false
 }
 
+// [5.4] Writes a head.
 pub fn put_head(out: &mut [u8], kind: u8, table: u32, measure: u8, d: u8)
     requires { ⌜ 14 ≤ length (now out) ⌝ }
     ensures { λ _. ⌜ now (out .exit) ≡ over (now (out .entry)) 0 (head kind table measure d) ⌝ }
@@ -49,6 +50,7 @@ pub fn put_head(out: &mut [u8], kind: u8, table: u32, measure: u8, d: u8)
     digits::put(out, 6, 1, d as u64);
 }
 
+// [5.3] Writes coordinates.
 pub fn put_coords(out: &mut [u8], at: usize, coords: &[i32])
     requires { ⌜ 2 * (at + 4 * length (now coords)) ≤ length (now out) ⌝ }
     ensures { λ _. ⌜ now (out .exit) ≡ over (now (out .entry)) at (coordBytes (now (coords .entry))) ⌝ }
@@ -60,6 +62,7 @@ pub fn put_coords(out: &mut [u8], at: usize, coords: &[i32])
     }
 }
 
+// [5.3] [5.14] The d coordinates from byte `at` on, and 0 behind them.
 pub fn coords_at(src: &[u8], at: usize, d: usize) -> [i32; MOST_PLACES]
     requires { ⌜ (at + 4 * d ≤ length (held (now src))) × (d ≤ mostPlaces) ⌝ }
     ensures { λ r. ⌜ r ≡ places d (coordsIn d (drop at (held (now (src .entry))))) ⌝ }
@@ -73,6 +76,7 @@ pub fn coords_at(src: &[u8], at: usize, d: usize) -> [i32; MOST_PLACES]
     found
 }
 
+// [5.8] [5.9] [5.10] Whether a scope is in range, and its mark 0 at the start.
 pub fn scope_ok(p: Scope) -> bool
     ensures { λ r. ⌜ r ≡ scopeOk p ⌝ }
 {
@@ -94,7 +98,7 @@ pub fn scope_ok(p: Scope) -> bool
     false
 }
 
-// Writes the reach and the scope behind it.
+// [5.5] Writes the reach and the scope behind it.
 fn put_scope(out: &mut [u8], at: usize, reach: u64, p: Scope)
     requires { ⌜ 2 * (at + 21) ≤ length (now out) ⌝ }
     ensures { λ _. ⌜ now (out .exit) ≡ over (now (out .entry)) at (scopeBytes reach p) ⌝ }
@@ -106,7 +110,7 @@ fn put_scope(out: &mut [u8], at: usize, reach: u64, p: Scope)
     digits::put(out, at + 19, 2, p.number as u64);
 }
 
-// The scope behind the reach that stands at byte `at`.
+// [5.5] The scope behind the reach that stands at byte `at`.
 pub fn scope_at(src: &[u8], at: usize) -> Scope
     requires { ⌜ at + 21 ≤ length (held (now src)) ⌝ }
     ensures { λ r. ⌜ r ≡ scopeIn (drop at (held (now (src .entry)))) ⌝ }
@@ -119,7 +123,7 @@ pub fn scope_at(src: &[u8], at: usize) -> Scope
     }
 }
 
-// Writes what an ask and an answer begin with.
+// [5.5] [5.6] Writes what an ask and an answer begin with.
 pub fn put_front(out: &mut [u8], kind: u8, q: Query, p: Scope)
     requires { ⌜ (q .d ≤ mostPlaces) × (2 * (28 + 4 * q .d) ≤ length (now out)) ⌝ }
     ensures { λ _. ⌜ now (out .exit) ≡ over (now (out .entry)) 0 (Fields·front kind (queryIn q) p) ⌝ }

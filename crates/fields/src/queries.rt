@@ -15,7 +15,7 @@ use paper::limits::MOST_PLACES;
 use paper::orders::Order;
 use paper::queries::Query;
 
-// A probe in eight places, the unused ones 0.
+// [7.3] [5.14] A probe in eight places, the unused ones 0.
 fn padded(probe: &[i32]) -> [i32; MOST_PLACES]
     requires { ⌜ length (now probe) ≤ mostPlaces ⌝ }
     ensures { λ r. ⌜ r ≡ places (length (now (probe .entry))) (now (probe .entry)) ⌝ }
@@ -44,7 +44,7 @@ pub fn query_of(order: Order, table: u32, measure: u8, d: usize, probe: &[i32], 
     }
 }
 
-// Whether a line can carry a query: its order has lines, and measure and d are in range.
+// [8.10] Whether a line can carry a query: its order has lines, and there are such a measure and d.
 pub fn query_fits(q: Query) -> bool
     ensures { λ r. ⌜ r ≡ queryFits (queryIn q) ⌝ }
 {
@@ -55,7 +55,7 @@ pub fn query_fits(q: Query) -> bool
     false
 }
 
-// The query of an ask's or an answer's frame, in the order that its kind tells.
+// [5.5] [5.6] The query of an ask's or an answer's frame, in the order that its kind tells.
 pub fn query_at(order: Order, src: &[u8]) -> Query
     requires { ⌜ Begun (held (now src)) ⌝ }
     ensures { λ r. ⌜ r ≡ queryAt order (held (now (src .entry))) ⌝ }

@@ -1,4 +1,4 @@
--- Demand 3 over any lines that obey the laws, in both orders, and with lines from elsewhere. Assumes nothing.
+-- The promise over a link, for any lines that obey the laws, in both orders, and with lines from elsewhere. Assumes nothing.
 use Prim.Native.Nat.{ℕ, _≤_}
 use mathlib.Core.Path.{_≡_, _∙_}
 use mathlib.Core.Bool.{true}

@@ -1,4 +1,4 @@
--- Demand 3, in the order of the promise, for every reachable world whose lines are those of document 01. Assumes nothing.
+-- The promise over a link, in its order, for every reachable world whose lines are the real ones. Assumes nothing.
 use Prim.Native.Nat.{ℕ, _<_, _≤_}
 use mathlib.Core.Path.{_≡_}
 use mathlib.Core.Bool.{true}
@@ -17,26 +17,25 @@ unfolding Unshared
 alone number = λ s f o y e q. f
 
 module _ (w : World) (r : Reachable lines Nowhere w) where
-  -- "at every moment every list is sound and is the first so many, in order, of the claims within reach that the table held at the count the
-  -- list names"
+  -- [7.12] at every moment every list is sound, and the first so many of what is listed at its snapshot
   pub every-list-is-the-first-so-many : (L : Listing) → List·Memᴰ L (w .lists) → Truthful (w .table) L
   every-list-is-the-first-so-many L m = any.truthful lines lawful Nowhere w r L m (alone (L .query .table))
 
-  -- "it says complete only when none of those is missing"
+  -- [7.12] a complete list has all of it
   pub complete-only-when-none-is-missing : (L : Listing) → List·Memᴰ L (w .lists) → L .complete ≡ true → L .items ≡ allOf (w .table) L
   complete-only-when-none-is-missing L m = any.whole lines lawful Nowhere w r L m (alone (L .query .table))
 
-  -- claim by claim
+  -- [7.12] claim by claim
   pub a-complete-list-has-every-claim : (L : Listing) → List·Memᴰ L (w .lists) → L .complete ≡ true → (k : ℕ) → k < L .snapshot
       → itemOf (L .query) (w .table .claims) k .distance ≤ L .query .reach → List·Memᴰ (itemOf (L .query) (w .table .claims) k) (L .items)
   a-complete-list-has-every-claim L m c k below within =
       rw (complete-only-when-none-is-missing L m c) (listed-has (L .query) (w .table .claims) (L .snapshot) k below within)
 
-  -- "the present ask of a list opened with the table's number, measure and d, where it reaches the office and finds room, is answered"
+  -- [7.13] the present ask of a list that is for the table is answered, wherever it reaches the office and finds room
   pub the-present-ask-is-answered : (v : World) → Later lines Nowhere w v → (i size : ℕ) → MayAsk w i size → Answered lines w v i size
   the-present-ask-is-answered v l i size may = any.answered lines lawful Nowhere w r v l i size (alone (theList w i .query .table)) may
 
-  -- "that answer, taken before the list has moved and fitting its room, makes the list grow by the page size or by all that remain"
+  -- [7.13] that answer, taken before the list has moved and with room for it, adds a full page or all that is left
   pub that-answer-makes-the-list-grow : (v u : World) → Later lines Nowhere w v → Later lines Nowhere v u → (i size : ℕ) → MayAsk w i size
       → theList u i ≡ theList w i → Grows lines w v u i size
   that-answer-makes-the-list-grow v u l k i size may stands =

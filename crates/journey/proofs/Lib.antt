@@ -1,4 +1,4 @@
--- Demand 3.
+-- The promise over a link.
 pub mod Kept
 pub mod Answers
 pub mod Growth

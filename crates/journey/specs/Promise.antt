@@ -1,4 +1,4 @@
--- What demand 3 promises of a world. Definitions only.
+-- What is promised of a world: lists over a link. Definitions only.
 use Prim.Native.Nat.{ℕ, _+_, _≤_, _<_}
 use mathlib.Core.Path.{_≡_}
 use mathlib.Core.Bool.{true, false, cond}
@@ -9,26 +9,26 @@ use Rattle.paper.specs.Ends.{Codec, Table, count, matches, answerOf, Listing, p
 use Rattle.journey.specs.World.{World, theList, asks, receives, takes, next}
 use Rattle.paper.specs.Limits.{longestAnswer, longestAsk, mostPage}
 
--- the claims within reach, in order, that the table held at the count that the list names
+-- [2.5] what is listed at the list's snapshot
 abbrev pub allOf : Table → Listing → List Item
 allOf t L = listed (L .query) (t .claims) (L .snapshot)
 
--- "every list is sound and is the first so many, in order, of the claims within reach that the table held at the count the list names"
+-- [7.12] a list is sound, and the first so many of what is listed at its snapshot
 pub record Truthful (t : Table) (L : Listing) : Type 0 where
   pub sound : (room : ℕ) → length (L .items) ≤ room → soundIn room L ≡ true
   pub held : L .snapshot ≤ count t
   pub front : L .items ≡ take (length (L .items)) (allOf t L)
-  -- only a list of the table's number, measure and d has started
+  -- [6.2] only a list that is for this table has started
   pub ours : L .started ≡ true → matches t (L .query) ≡ true
 
--- a list's present ask, and its answer from a table, as lines; the answer's items are the page that the ask names
+-- [6.3] [7.4] a list's present ask, and its answer from a table, as lines; the answer's items are the page that the ask names
 abbrev pub askOf : Codec → Listing → ℕ → List ℕ
 askOf c L size = c .askLine (presentAsk L size)
 
 abbrev pub replyTo : Codec → Table → Listing → ℕ → List ℕ
 replyTo c t L size = c .answerLine (answerOf t (presentAsk L size))
 
--- list i was opened "with the table's number, measure and d", is not complete, and may ask for a page of this size
+-- list i is for this table, is not complete, and may ask for a page of this size
 pub record MayAsk (w : World) (i size : ℕ) : Type 0 where
   pub here : i < length (w .lists)
   pub ours : matches (w .table) (theList w i .query) ≡ true
@@ -36,22 +36,22 @@ pub record MayAsk (w : World) (i size : ℕ) : Type 0 where
   pub one : 1 ≤ size
   pub most : size ≤ mostPage
 
--- list i writes its present ask in w, and the ask reaches the office in v
+-- [7.13] list i writes its present ask in w, and the ask reaches the office in v
 pub record Answered (c : Codec) (w v : World) (i size : ℕ) : Type 0 where
   pub written : (room out : ℕ) → length (theList w i .items) ≤ room → longestAsk ≤ out
       → List·Memᴰ (askOf c (theList w i) size) (next c w (asks i size room out) .air)
   pub answered : (out : ℕ) → longestAnswer ≤ out
       → List·Memᴰ (replyTo c (v .table) (theList w i) size) (next c v (receives (askOf c (theList w i) size) out) .air)
 
--- and list i takes this answer in u
+-- [7.13] and list i takes this answer in u
 pub record Grows (c : Codec) (w v u : World) (i size : ℕ) : Type 0 where
   pub grown : Listing
   pub accepted : (room : ℕ) → length (grown .items) ≤ room
       → theList (next c u (takes i room (replyTo c (v .table) (theList w i) size))) i ≡ grown
-  -- "grow by the page size or by all that remain"
+  -- [7.13] a full page more, or all that is left
   pub more : grown .items ≡ theList w i .items ++ take size (drop (length (theList w i .items)) (allOf (u .table) grown))
   pub front : grown .items ≡ take (length (theList w i .items) + size) (allOf (u .table) grown)
   pub complete : grown .complete ≡ lastOf size (drop (length (theList w i .items)) (allOf (u .table) grown))
   pub query : grown .query ≡ theList w i .query
-  -- "the first fixes the snapshot"
+  -- [7.7] the first answer fixes the snapshot
   pub snapshot : grown .snapshot ≡ cond (theList w i .started) (theList w i .snapshot) (count (v .table))

@@ -41,14 +41,14 @@ noListing = fresh (queryIn noQuery)
 abbrev pub theList : World → ℕ → Listing
 theList w i = getD (w .lists) i noListing
 
--- "a run goes in whole or not at all". "Entering: .. 5, 3": what 1, 2 and 4 are about is memory, which a world has none of
+-- [9.6] [3.15] all claims of a run, or none, by 5 and 3: what 1, 2 and 4 are about is memory, which a world has none of
 unfoldable pub entering : Table → List Claim → Outcome Table
 entering t run =
     must (every (λ k. eqb (length (k .place)) (t .d)) run) 5
     (must (leb (count t + length run) (t .capacity)) 3
     (gives (record { number = t .number; measure = t .measure; d = t .d; capacity = t .capacity; claims = t .claims ++ run })))
 
--- "A refusal returns its number only", and changes nothing
+-- [9.2] a refusal changes nothing
 abbrev pub entered : World → Outcome Table → World
 entered w (refused n) = w
 entered w (gives t) = record { table = t; air = w .air; lists = w .lists }
@@ -73,8 +73,8 @@ next c w (receives s out) = sent w (office c (w .table) out s)
 next c w (takes i room s) = moved w i (taking c room (theList w i) s)
 next c w (strays s) = sent w (gives s)
 
--- the premises: arguments are of their types, an order that is opened has its kinds of line, and what arrives was written by one of the two
--- ends or comes from elsewhere
+-- [7.14] the premises: arguments are of their types, an order that is opened has its kinds of line, and what arrives was written by one of
+-- the two ends or comes from elsewhere
 unfoldable pub Allowed : Codec → (List ℕ → Type 0) → World → Event → Type 0
 Allowed c Elsewhere w (enters run) = (k : Claim) → List·Memᴰ k run → k .reference < 2 ^ 32
 Allowed c Elsewhere w (opens q) = Typed q × (c .speaks (q .order) ≡ true)
@@ -83,6 +83,7 @@ Allowed c Elsewhere w (receives s out) = List·Memᴰ s (w .air)
 Allowed c Elsewhere w (takes i room s) = (i < length (w .lists)) × List·Memᴰ s (w .air)
 Allowed c Elsewhere w (strays s) = Elsewhere s
 
+-- [3.1] [3.12] a table that a world may begin with
 pub record TableOk (t : Table) : Type 0 where
   pub fits : count t ≤ t .capacity
   pub small : t .capacity ≤ mostClaims
@@ -101,7 +102,7 @@ pub data Later (c : Codec) (Elsewhere : List ℕ → Type 0) (w : World) : World
 abbrev pub Nowhere : List ℕ → Type 0
 Nowhere s = ⊥
 
--- no line from elsewhere reads as an answer under this table number
+-- [7.14] no line from elsewhere reads as an answer under this table number
 unfoldable pub Unshared : Codec → (List ℕ → Type 0) → ℕ → Type 0
 Unshared c Elsewhere number =
     (s : List ℕ) → Elsewhere s → (o : Order) (y : Answer) → c .readAnswer o s ≡ gives y → y .query .table ≡ number → ⊥

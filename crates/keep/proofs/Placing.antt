@@ -110,7 +110,7 @@ module _ (rank : ℕ → ℕ) (ok : ℕ → Bool) (n k : ℕ) (hn : n < 2 ^ 64) 
       let z : key rank x + 1 ≤ key rank k = rw e at (y .0) in
       rw (key-sooner rank x k (omega arith) (omega arith) (omega arith)) (ap (λ (t : List ℕ). x ∷ t) (insert-same s (key rank x + 1) l p d (omega arith) e))
 
--- the paper's order is the order of ranks
+-- [2.3] the order of items is the order of ranks
 pub before-ranks : (order : Order) (x k y j : ℕ) → before order x k y j ≡ ahead (rank order x) k (rank order y) j
 unfolding before ahead
 before-ranks order x k y j = refl

@@ -12,7 +12,7 @@ use Rattle.paper.specs.Orders.{rank}
 abbrev pub ranks : Order → (ℕ → ℕ) → ℕ → ℕ
 ranks o dist k = rank o (dist k)
 
--- rank x and number k come before rank y and number j
+-- [2.3] rank x and number k come before rank y and number j
 unfoldable pub ahead : ℕ → ℕ → ℕ → ℕ → Bool
 ahead x k y j = ltb x y || (eqb x y && ltb k j)
 
@@ -25,7 +25,7 @@ unfoldable pub insert : (ℕ → ℕ) → ℕ → List ℕ → List ℕ
 insert rank k [] = k ∷ []
 insert rank k (x ∷ l) = cond (sooner rank x k) (x ∷ insert rank k l) (cond (eqb x k) (x ∷ l) (k ∷ x ∷ l))
 
--- the admitted ones of the first n claims, in order
+-- [2.5] the admitted ones of the first n claims, in order
 unfoldable pub sortedOf : (ℕ → ℕ) → (ℕ → Bool) → ℕ → List ℕ
 sortedOf rank ok zero = []
 sortedOf rank ok (suc n) = cond (ok n) (insert rank n (sortedOf rank ok n)) (sortedOf rank ok n)
@@ -33,16 +33,16 @@ sortedOf rank ok (suc n) = cond (ok n) (insert rank n (sortedOf rank ok n)) (sor
 unfoldable pub firstSorted : (ℕ → ℕ) → (ℕ → Bool) → ℕ → ℕ → List ℕ
 firstSorted rank ok n size = take size (sortedOf rank ok n)
 
--- three numbers a claim: its number, its reference, its distance
+-- [2.6] three numbers a claim: its number, its reference, its distance
 unfoldable pub items : (ℕ → ℕ) → (ℕ → ℕ) → List ℕ → List ℕ
 items ref dist [] = []
 items ref dist (k ∷ l) = k ∷ ref k ∷ dist k ∷ items ref dist l
 
--- the room `base` with the claims of l at its front
+-- [4.8] the room `base` with the claims of l at its front
 abbrev pub filled : (ℕ → ℕ) → (ℕ → ℕ) → List ℕ → List ℕ → List ℕ
 filled ref dist l base = items ref dist l ++ drop (length l * 3) base
 
--- the first so many stand at the front of the room, and what is behind them stays
+-- [4.6] [4.8] the first so many stand at the front of the room, and what is behind them stays
 pub record Filled (order : Order) (ref dist : ℕ → ℕ) (ok : ℕ → Bool) (n size : ℕ) (before after : List ℕ) (count : ℕ) : Type 0 where
   pub room : after ≡ filled ref dist (firstSorted (ranks order dist) ok n size) before
   pub counts : count ≡ length (firstSorted (ranks order dist) ok n size)

@@ -27,7 +27,7 @@ pub struct Asked {
     pub size: usize,
 }
 
-// Whether claim k, at distance x, is admitted.
+// [2.5] [2.7] Whether claim k, at distance x, is admitted.
 pub fn admits(ask: Asked, x: u64, k: u64) -> bool
     ensures { λ r. ⌜ r ≡ admitted ask x k ⌝ }
 {
@@ -47,7 +47,7 @@ pub fn admits(ask: Asked, x: u64, k: u64) -> bool
     true
 }
 
-// Whether no claim within `far` of one at rank x can be at rank `bound` or before.
+// [4.13] Whether no claim within `far` of one at rank x can be at rank `bound` or before.
 pub fn too_far(bound: u64, x: u64, far: u64) -> bool
     ensures { λ r. ⌜ cond r (bound + far < x) (x ≤ bound + far) ⌝ }
 {
@@ -60,7 +60,7 @@ pub fn too_far(bound: u64, x: u64, far: u64) -> bool
     false
 }
 
-// Whether every claim below a side, whose claim is at rank x and the other's at rank y, is on the side's half too deep to be at
+// [4.14] Whether every claim below a side, whose claim is at rank x and the other's at rank y, is on the side's half too deep to be at
 // rank `bound` or before. Near order only.
 pub fn halfway(order: Order, bound: u64, x: u64, y: u64, s: usize) -> bool
     requires { ⌜ s < 2 ⌝ }
@@ -83,7 +83,7 @@ pub fn halfway(order: Order, bound: u64, x: u64, y: u64, s: usize) -> bool
     bound <= rest
 }
 
-// Whether no claim below side s can be at rank `bound` or before.
+// [4.13] [4.14] Whether no claim below side s can be at rank `bound` or before.
 pub fn beyond(order: Order, bound: u64, x: u64, y: u64, s: usize, far: u64) -> bool
     requires { ⌜ s < 2 ⌝ }
     ensures { λ r. ⌜ r ≡ beyondOf order bound x y s far ⌝ }
@@ -94,7 +94,7 @@ pub fn beyond(order: Order, bound: u64, x: u64, y: u64, s: usize, far: u64) -> b
     halfway(order, bound, x, y, s)
 }
 
-// Whether every claim within `far` of one at rank x comes before the mark.
+// [4.15] Whether every claim within `far` of one at rank x comes before the mark.
 pub fn passed(ask: Asked, x: u64, far: u64) -> bool
     ensures { λ r. ⌜ r ≡ passedOf ask x far ⌝ }
 {
@@ -175,7 +175,7 @@ pub fn keep(
     count
 }
 
-// The greatest rank still wanted.
+// [4.12] The greatest rank still wanted.
 pub fn wanted(ask: Asked, room: &[u64], count: usize) -> u64
     requires { ⌜ Roomy (ask .size) (now room) count ⌝ }
     ensures { λ r. ⌜ r ≡ boundOf ask (now (room .entry)) count ⌝ }

@@ -1,5 +1,5 @@
--- The claim line there and back: what a writer accepts is read back, and whatever a reader accepts is the line that the writer writes for
--- the fields read. Assumes nothing.
+-- [5.13] The claim line there and back: what a writer accepts is read back, and whatever a reader accepts is the line that the writer
+-- writes for the fields read. Assumes nothing.
 use Prim.Native.Nat.{ℕ, _+_, _-_, _*_, _^_, _<_}
 use native.Mathlib.Omega.{arith}
 use mathlib.Core.Path.{_≡_, refl, sym, ap, subst, _∙_}

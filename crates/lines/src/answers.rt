@@ -1,4 +1,4 @@
-// The answer line: a list's order tells its kind.
+// [5.6] The answer line: a list's order tells its kind.
 ghost use mathlib.Core.Path.{_≡_};
 ghost use mathlib.Core.Bool.{_&&_};
 ghost use mathlib.Core.List.{_++_};
@@ -23,6 +23,7 @@ use paper::lines::Wrote;
 use paper::orders::Order;
 use paper::queries::Query;
 
+// [5.8] [5.9] Whether scope, last and item count are in range.
 fn answer_ranges(p: Scope, last: u64, count: u64) -> bool
     ensures { λ r. ⌜ r ≡ answerRanges p last count ⌝ }
 {
@@ -35,6 +36,7 @@ fn answer_ranges(p: Scope, last: u64, count: u64) -> bool
     false
 }
 
+// [8.10] Whether an answer can have these fields.
 fn answer_fits(q: Query, p: Scope, last: u8, count: u8, items: &[u64]) -> bool
     ensures { λ r. ⌜ r ≡ answerFits (queryIn q) p last count (now (items .entry)) ⌝ }
 {
@@ -70,6 +72,7 @@ fn fill_answer(q: Query, p: Scope, last: u8, count: u8, items: &[u64], out: &mut
     n + 1
 }
 
+// [9.14] Refusals 10, 12.
 pub fn write_answer(q: Query, p: Scope, last: u8, count: u8, items: &[u64], out: &mut [u8]) -> Wrote
     ensures { λ r. ⌜ Writes (bareLine (answerFits (queryIn q) p last count (now (items .entry))) longestAnswer (answerFrame (queryIn q) p last count (now (items .entry))) (length (now (out .entry)))) (now (out .entry)) r (now (out .exit)) ⌝ }
 {
@@ -95,6 +98,7 @@ fn tail_ok(src: &[u8], at: usize, count: u64) -> bool
     false
 }
 
+// [8.10] Whether a frame of this kind is laid out as an answer.
 fn answer_ok(src: &[u8], kind: u8) -> bool
     ensures { λ r. ⌜ r ≡ answerOk kind (held (now (src .entry))) ⌝ }
 {
@@ -146,6 +150,7 @@ fn no_answer(n: u8) -> AnswerRead
     AnswerRead { refusal: n, answer }
 }
 
+// [9.15] Refusals 9, 10.
 pub fn read_answer(order: Order, line: &[u8]) -> AnswerRead
     ensures { λ r. ⌜ r ≡ answerOf order (now (line .entry)) ⌝ }
 {

@@ -1,4 +1,4 @@
-// The ask line: a list's order tells its kind, and its kind its order.
+// [5.5] The ask line: a list's order tells its kind, and its kind its order.
 ghost use mathlib.Core.Path.{_≡_};
 ghost use mathlib.Core.Bool.{true};
 ghost use Prim.Native.Nat.{_≤_};
@@ -19,6 +19,7 @@ use paper::lines::Scope;
 use paper::lines::Wrote;
 use paper::queries::Query;
 
+// [4.3] [5.10] Whether scope and page size are in range, and the snapshot 0 at the start.
 fn ask_ranges(p: Scope, size: u64) -> bool
     ensures { λ r. ⌜ r ≡ askRanges p size ⌝ }
 {
@@ -34,6 +35,7 @@ fn ask_ranges(p: Scope, size: u64) -> bool
     false
 }
 
+// [8.10] Whether an ask can have these fields.
 fn ask_fits(q: Query, p: Scope, size: u8) -> bool
     ensures { λ r. ⌜ r ≡ askFits (queryIn q) p size ⌝ }
 {
@@ -57,6 +59,7 @@ fn fill_ask(q: Query, p: Scope, size: u8, out: &mut [u8]) -> usize
     n + 1
 }
 
+// [9.14] Refusals 10, 12.
 pub fn write_ask(q: Query, p: Scope, size: u8, out: &mut [u8]) -> Wrote
     ensures { λ r. ⌜ Writes (bareLine (askFits (queryIn q) p size) longestAsk (askFrame (queryIn q) p size) (length (now (out .entry)))) (now (out .entry)) r (now (out .exit)) ⌝ }
 {
@@ -70,6 +73,7 @@ pub fn write_ask(q: Query, p: Scope, size: u8, out: &mut [u8]) -> Wrote
     Wrote::Refused(10)
 }
 
+// [8.10] Whether a frame of this kind is laid out as an ask.
 fn is_kind(src: &[u8], kind: u8) -> bool
     ensures { λ r. ⌜ r ≡ askOk kind (held (now (src .entry))) ⌝ }
 {
@@ -88,7 +92,7 @@ fn is_kind(src: &[u8], kind: u8) -> bool
     false
 }
 
-// Whether a frame is an ask, of the order that its kind tells.
+// [8.10] Whether a frame is an ask, of the order that its kind tells.
 pub fn ask_ok(src: &[u8]) -> bool
     ensures { λ r. ⌜ r ≡ isAsk (held (now (src .entry))) ⌝ }
 {
@@ -125,6 +129,7 @@ fn no_ask(n: u8) -> AskRead
     AskRead { refusal: n, ask }
 }
 
+// [9.15] Refusals 9, 10.
 pub fn read_ask(line: &[u8]) -> AskRead
     ensures { λ r. ⌜ r ≡ askOf (now (line .entry)) ⌝ }
 {

@@ -1,4 +1,4 @@
-// The claim line, kind 03.
+// [5.7] The claim line, kind 03.
 ghost use mathlib.Core.Path.{_≡_};
 ghost use mathlib.Core.Bool.{true};
 ghost use Prim.Native.Nat.{_≤_};
@@ -15,6 +15,7 @@ use paper::lines::ClaimLine;
 use paper::lines::ClaimRead;
 use paper::lines::Wrote;
 
+// [8.10] Whether a claim can have these fields.
 fn claim_fits(measure: u8, d: u8, coords: &[i32]) -> bool
     ensures { λ r. ⌜ r ≡ claimFits measure d (now (coords .entry)) ⌝ }
 {
@@ -64,6 +65,7 @@ pub fn write_claim(
     Wrote::Refused(10)
 }
 
+// [8.10] Whether a frame is a claim.
 pub fn claim_ok(src: &[u8]) -> bool
     ensures { λ r. ⌜ r ≡ claimOk (held (now (src .entry))) ⌝ }
 {
@@ -105,6 +107,7 @@ fn no_claim(n: u8) -> ClaimRead
     ClaimRead { refusal: n, claim }
 }
 
+// [9.15] Refusals 9, 10.
 pub fn read_claim(line: &[u8]) -> ClaimRead
     ensures { λ r. ⌜ r ≡ claimOf (now (line .entry)) ⌝ }
 {

@@ -29,7 +29,7 @@ use Rattle.many.specs.Pages.{pageAt, putOutcome, putItems, Rooms, bothRo
 use Rattle.many.proofs.Ways.{part-point, part-length, many-refused, many-goes}
 use Rattle.paper.specs.Limits.{mostPage}
 
--- ---- the whole call: 1, 2, 5, 6, 12
+-- ---- [9.17] the whole call: 1, 2, 5, 6, 12
 
 module _ (s : Store) (probes n places size outcomes items : ℕ) where
   abbrev whole : ℕ

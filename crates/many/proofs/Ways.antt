@@ -103,7 +103,7 @@ one-of s probes n i w out m h =
       room = omega (arith, before-next w i n h, m .room);
     }
 
--- ---- n questions for an item each: 1, 2, 5, 12
+-- ---- [9.16] n questions for an item each: 1, 2, 5, 12
 
 tested-by : (s : Store) → fits s ≡ true → sound s ≡ true → 0 ≡ tableRefusal s
 unfolding tableRefusal

@@ -5,7 +5,7 @@ use Rattle.paper.specs.Outcomes.{Outcome, gives, must, number}
 use Rattle.paper.specs.Tree.{Store}
 use Rattle.paper.specs.Calls.{onTable}
 
--- 1, 2; 5: "probe length not d", where there are not d coordinates for each of n probes
+-- [8.1] [8.2] [8.5] 1, 2, and 5 where there are not d coordinates for each of n probes
 abbrev pub onMany : {A : Type 0} → Store → ℕ → ℕ → Outcome A → Outcome A
 onMany s probes n x = onTable s (must (eqb probes (s .table .d * n)) 5 x)
 

@@ -15,7 +15,7 @@ use Rattle.rows.specs.Answers.{foundRow}
 use Rattle.many.specs.Counts.{onMany}
 use Rattle.many.specs.Rows.{each, putFound}
 
--- the probe of question i: probes stand one after another
+-- [4.16] the probe of question i: probes stand one after another
 abbrev pub probeAt : Store → List ℤ → ℕ → List ℤ
 probeAt s probes i = point (s .table .d) probes i
 
@@ -26,7 +26,7 @@ nearestAt s probes reaches i = nearestOf (tableQuery (s .table) Near (probeAt s 
 abbrev pub farthestAt : Store → List ℤ → ℕ → Found
 farthestAt s probes i = farthestOf (tableQuery (s .table) Near (probeAt s probes i) 0) (claimsIn s)
 
--- n questions for an item each: 1, 2, 5, and 12 where the room has under four numbers for each
+-- [9.16] [8.12] n questions for an item each: 12 where the room has under four numbers for each
 unfoldable pub firstsCall : Store → ℕ → ℕ → (ℕ → Found) → List ℕ → Outcome (List ℕ)
 firstsCall s probes n answer out = onMany s probes n (must (leb (n * 4) (length out)) 12 (gives (each (putFound answer) n out)))
 
@@ -36,7 +36,7 @@ nearestEach s probes reaches out = firstsCall s (length probes) (length reaches)
 abbrev pub farthestEach : Store → List ℤ → ℕ → List ℕ → Outcome (List ℕ)
 farthestEach s probes n out = firstsCall s (length probes) n (farthestAt s probes) out
 
--- a row beside the single call for its question: the call gives an answer, and the row tells it
+-- [4.16] a row beside the single call for its question: the call gives an answer, and the row tells it
 pub record AsAlone (single : Outcome Found) (r : List ℕ) : Type 0 where
   pub answer : Found
   pub given : single ≡ gives answer

@@ -18,7 +18,7 @@ use Rattle.many.specs.Counts.{onMany}
 use Rattle.many.specs.Rows.{row, each}
 use Rattle.many.specs.Many.{probeAt}
 
--- what the single call gives for question i, in a room for one page
+-- [4.16] what the single call gives for question i, in a room for one page
 abbrev pub pageAt : Store → List ℤ → List ℕ → List ℕ → ℕ → ℕ → Outcome PageOf
 pageAt s probes reaches places size i =
     pageCall s Near (probeAt s probes i) (getD reaches i 0) (placeAt places i) size (size * 3)
@@ -27,7 +27,7 @@ pageAt s probes reaches places size i =
 abbrev pub putOutcome : (ℕ → Outcome PageOf) → ℕ → List ℕ → List ℕ
 putOutcome page i l = sets l (i * 3) (pageRow (pageShown (page i)))
 
--- its items at the front of row i, whose rest keeps its contents
+-- [4.19] its items at the front of row i, whose rest stays
 abbrev pub putItems : (ℕ → Outcome PageOf) → ℕ → ℕ → List ℕ → List ℕ
 putItems page w i l = take (i * w) l ++ (leaves putPage (page i) (row w i l) ++ drop (i * w + w) l)
 
@@ -39,8 +39,8 @@ pub record Rooms : Type 0 where
 abbrev pub bothRooms : List ℕ → List ℕ → Rooms
 bothRooms outcomes items = record { outcomes = outcomes; items = items }
 
--- 1, 2; 5: not d coordinates or not four numbers of a place for each question; 6; 12: under three numbers of outcome or under a page of
--- items for each question
+-- [9.17] [8.5] [8.12] 5 where there are not d coordinates or not four numbers of a place for each question; 12 where there are under three
+-- numbers of outcome or under a page of items for each
 abbrev pub onPages : {A : Type 0} → Store → (probes n places size outcomes items : ℕ) → Outcome A → Outcome A
 onPages s probes n places size outcomes items x =
     onMany s probes n
@@ -60,7 +60,7 @@ pagesEach s probes reaches places size before =
     (each (putOutcome (pageAt s probes reaches places size)) (length reaches) (before .outcomes))
     (each (putItems (pageAt s probes reaches places size) (size * 3)) (length reaches) (before .items))))
 
--- a row beside the single call for its question, in a room for one page: what it tells, and the row of items before and after
+-- [4.16] a row beside the single call for its question, in a room for one page: what it tells, and the row of items before and after
 pub record PageAlone (single : Outcome PageOf) (told before after : List ℕ) : Type 0 where
   pub outcome : told ≡ pageRow (pageShown single)
   pub items : after ≡ leaves putPage single before

@@ -10,7 +10,7 @@ use Rattle.rows.specs.Answers.{foundRow}
 abbrev pub row : ℕ → ℕ → List ℕ → List ℕ
 row w i l = take w (drop (i * w) l)
 
--- rows 0 to n - 1, where `f i` writes row i
+-- [4.16] rows 0 to n - 1, where `f i` writes row i
 unfoldable pub each : (ℕ → List ℕ → List ℕ) → ℕ → List ℕ → List ℕ
 each f zero l = l
 each f (suc i) l = f i (each f i l)

@@ -5,7 +5,7 @@ ghost use Rattle.many.specs.Counts.{manyRefusal};
 use checks::is_whole;
 use paper::tables::Table;
 
-// Why n questions may not be asked with so many probe coordinates: 1, 2, 5, or 0 where they may.
+// [8.5] Why n questions may not be asked with so many probe coordinates: 1, 2, 5, or 0 where they may.
 pub fn many_refusal(
     t: Table,
     references: &[u32],

@@ -105,7 +105,7 @@ fn farthest_rows(
     }
 }
 
-// Refusals 1, 2, 5, 12. There is a probe of d coordinates for each reach, and a row of four numbers for each answer.
+// [9.16] [4.17] Refusals 1, 2, 5, 12. There is a probe of d coordinates for each reach, and a row of four numbers for each answer.
 pub fn nearest_each(
     t: Table,
     references: &[u32],
@@ -135,7 +135,7 @@ pub fn nearest_each(
     0
 }
 
-// Refusals 1, 2, 5, 12. There are n probes of d coordinates, and a row of four numbers for each answer.
+// [9.16] [4.17] Refusals 1, 2, 5, 12. There are n probes of d coordinates, and a row of four numbers for each answer.
 pub fn farthest_each(
     t: Table,
     references: &[u32],

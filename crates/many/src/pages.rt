@@ -20,7 +20,7 @@ use rows::place_at;
 use rows::put_page;
 use tested::page_here;
 
-// Question i: its page in row i of the items, and its outcome in row i of the outcomes.
+// [4.19] Question i: its page in row i of the items, and its outcome in row i of the outcomes.
 fn page_row(
     t: Table,
     references: &[u32],
@@ -96,7 +96,7 @@ fn page_rows(
     }
 }
 
-// Why n pages of a size are not given, by its number, or 0 where they are: 1, 2, 5, 6, 12.
+// [9.17] Why n pages of a size are not given, by its number, or 0 where they are: 1, 2, 5, 6, 12.
 fn pages_refusal(
     t: Table,
     references: &[u32],
@@ -130,8 +130,8 @@ fn pages_refusal(
     0
 }
 
-// Refusals 1, 2, 5, 6, 12, and 7, 8 of each question. For each reach there are a probe of d coordinates, a place of four numbers, an
-// outcome of three numbers and room for a page of items.
+// [9.17] [4.18] [4.19] Refusals 1, 2, 5, 6, 12, and 7, 8 of each question. For each reach there are a probe of d coordinates, a place of
+// four numbers, an outcome of three numbers and room for a page of items.
 pub fn pages_each(
     t: Table,
     references: &[u32],

@@ -1,4 +1,4 @@
--- The laws of `distance`, each once over the measures: it is symmetric, obeys the triangle inequality, and is at most the measure's greatest.
+-- The laws of `distance`, each once over the measures: it is symmetric, obeys the triangle inequality, and [1.9] is at most the greatest.
 -- That equal points are at distance zero is no law here: nothing above may lean on it. Assumes nothing.
 use mathlib.Core.Path.{_≡_, refl, sym, ap, _∙_}
 use mathlib.Core.List.{List}

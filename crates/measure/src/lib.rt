@@ -1,4 +1,4 @@
-// Distances of points in lent memory, exact at both ends of the range.
+// Distances of points in lent memory, exact for all coordinates.
 ghost use mathlib.Core.Path.{_≡_};
 ghost use Prim.Native.Nat.{_+_, _≤_, _<_};
 ghost use lib.IntN.{_-ℤ_, natAbs};
@@ -8,7 +8,7 @@ ghost use Rattle.paper.specs.Points.{distance as Points·distance};
 ghost use Rattle.paper.specs.Limits.{mostPlaces};
 use paper::points::Measure;
 
-// |x - y|. At 32 bits the difference would overflow, so it is taken at 64.
+// [1.5] |x - y|. At 32 bits the difference would overflow, so it is taken at 64.
 pub fn gap(x: i32, y: i32) -> u64
     ensures { λ r. ⌜ (r ≡ natAbs (x -ℤ y)) × (r ≤ 4294967295) ⌝ }
 {
@@ -18,7 +18,7 @@ pub fn gap(x: i32, y: i32) -> u64
     if d < 0 { (0 - d) as u64 } else { d as u64 }
 }
 
-// One coordinate more.
+// [1.6] [1.7] [1.8] One coordinate more.
 fn with_one(m: Measure, sum: u64, x: i32, y: i32) -> u64
     requires { ⌜ sum ≤ 30064771065 ⌝ }
     ensures { λ r. ⌜ (r ≡ joined m sum (weigh m x y)) × (r ≤ sum + 4294967295) ⌝ }

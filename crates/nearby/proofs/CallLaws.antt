@@ -26,7 +26,7 @@ use Rattle.tablet.proofs.TakeLaws.{takes-refused}
 use Rattle.tested.proofs.TableLaws.{table-refused, table-good, table-goes, aim-stops, aim-goes}
 use Rattle.paper.specs.Limits.{longestAnswer}
 
--- ---- nearest and farthest: 1, 2, 5
+-- ---- [9.7] nearest and farthest
 
 -- what the walk found, as the call shows it
 pub found-shown : (f : answers.Found) (x : Found) → told f ≡ x → f ≡ foundShown x
@@ -49,7 +49,7 @@ module _ (s : Store) (probe : List ℤ) (n : ℕ) (we : n ≡ tableRefusal s) wh
 
 -- ---- calls that write a line
 
--- the office: 12, 1, 2
+-- [9.10] the office: 12, 1, 2
 module _ (s : Store) (out line : List ℕ) where
   pub office-12 : length out < longestAnswer → Writes (officeCall s (length out) line) out (Refused 12) out
   unfolding officeCall
@@ -70,7 +70,7 @@ module _ (s : Store) (out line : List ℕ) where
         must-go (leb longestAnswer (length out)) 12 _ (le-leb longestAnswer (length out) long) ∙ table-goes s n we ok _ in
         rw e w
 
--- ---- a list that is not sound: 2
+-- ---- [8.2] a list that is not sound
 
 two : {A : Type 0} (a b : Bool) (x : Outcome A) → (a && b) ≡ false → must a 2 (must b 2 x) ≡ refused 2
 two true b x h = must-stop b 2 x h

@@ -21,7 +21,7 @@ use Rattle.tree.proofs.Known.{good-used}
 use Rattle.tree.proofs.RunLaws.{zero-enters, enters-gives}
 use Rattle.tested.proofs.TableLaws.{fit-stops, fit-goes, table-refused, table-good, table-goes}
 
--- ---- making: 1
+-- ---- [9.4] making
 
 module _ (s : Store) (a : Bool) (ae : a ≡ fits s) where
   pub made-1 : not a ≡ true → Made.Refused 1 ≡ madeShown (makeCall s)
@@ -32,7 +32,7 @@ module _ (s : Store) (a : Bool) (ae : a ≡ fits s) where
   unfolding makeCall
   made-table h = sym (ap madeShown (fit-goes s a ae _ h))
 
--- ---- entering: 1, 2, 5, 3, 4
+-- ---- [9.6] entering
 
 module _ (s : Store) (given : List ℕ) (places : List ℤ) where
   abbrev call : Outcome Store

@@ -13,14 +13,14 @@ use paper::lines::Wrote;
 use paper::orders::Order;
 use paper::queries::Query;
 
-// Refusals 10, 12.
+// [9.14] [5.5] Refusals 10, 12.
 pub fn write_ask_line(q: Query, p: Scope, size: u8, out: &mut [u8]) -> Wrote
     ensures { λ r. ⌜ Writes (bareLine (askFits (queryIn q) p size) longestAsk (askFrame (queryIn q) p size) (length (now (out .entry)))) (now (out .entry)) r (now (out .exit)) ⌝ }
 {
     lines::write_ask(q, p, size, out)
 }
 
-// Refusals 10, 12.
+// [9.14] [5.6] Refusals 10, 12.
 pub fn write_answer_line(
     q: Query,
     p: Scope,
@@ -34,7 +34,7 @@ pub fn write_answer_line(
     lines::write_answer(q, p, last, count, items, out)
 }
 
-// Refusals 10, 12.
+// [9.14] [5.7] Refusals 10, 12.
 pub fn write_claim_line(
     table: u32,
     measure: u8,
@@ -48,14 +48,14 @@ pub fn write_claim_line(
     lines::write_claim(table, measure, d, reference, coordinates, out)
 }
 
-// Refusals 9, 10.
+// [9.15] [5.5] Refusals 9, 10.
 pub fn read_ask_line(line: &[u8]) -> AskRead
     ensures { λ r. ⌜ r ≡ askOf (now (line .entry)) ⌝ }
 {
     lines::read_ask(line)
 }
 
-// Refusals 9, 10.
+// [9.15] [5.6] Refusals 9, 10.
 pub fn read_answer_line(line: &[u8]) -> AnswerRead
     ensures { λ r. ⌜ r ≡ answerOf Near (now (line .entry)) ⌝ }
 {
@@ -63,7 +63,7 @@ pub fn read_answer_line(line: &[u8]) -> AnswerRead
     lines::read_answer(near, line)
 }
 
-// Refusals 9, 10.
+// [9.15] [5.7] Refusals 9, 10.
 pub fn read_claim_line(line: &[u8]) -> ClaimRead
     ensures { λ r. ⌜ r ≡ claimOf (now (line .entry)) ⌝ }
 {

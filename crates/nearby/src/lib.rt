@@ -1,5 +1,5 @@
-// The public calls. Each checks its own input in the order that document 01 gives for it, refuses under its number and then
-// leaves all lent memory as it was, and otherwise gives what its definition in paper/specs says.
+// The public calls. [9.1] [9.2] [9.3] Each checks its own input, in the order of its rule, refuses under a number and then leaves all
+// lent memory as it was, and otherwise gives what its definition in paper/specs says.
 mod bare;
 mod lists;
 mod office;

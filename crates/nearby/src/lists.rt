@@ -11,7 +11,7 @@ use paper::lists::Opened;
 use paper::lists::Taken;
 use paper::orders::Order;
 
-// Refusals 1, 5.
+// [9.11] Refusals 1, 5.
 pub fn open_list(table: u32, measure: u8, d: usize, probe: &[i32], reach: u64) -> Opened
     ensures { λ r. ⌜ r ≡ openedTold (openingHeld (record { order = Near; table = table; measure = measure; d = d; probe = now (probe .entry); reach = reach })) ⌝ }
 {
@@ -19,7 +19,7 @@ pub fn open_list(table: u32, measure: u8, d: usize, probe: &[i32], reach: u64) -
     tablet::open_list(near, table, measure, d, probe, reach)
 }
 
-// Refusals 2, 16, 6, 12.
+// [9.12] Refusals 2, 16, 6, 12.
 pub fn write_ask(l: List, room: &[u64], size: usize, out: &mut [u8]) -> Wrote
     ensures { λ r. ⌜ Writes (askingHeld lines (held l (now (room .entry))) size (length (now (out .entry)))) (now (out .entry)) r (now (out .exit)) ⌝ }
 {
@@ -29,7 +29,7 @@ pub fn write_ask(l: List, room: &[u64], size: usize, out: &mut [u8]) -> Wrote
     tablet::write_ask(l, room, size, out)
 }
 
-// Refusals 2, 9, 10, 16, 13, 14, 15.
+// [9.13] Refusals 2, 9, 10, 16, 13, 14, 15.
 pub fn take(l: List, room: &mut [u64], line: &[u8]) -> Taken
     ensures { λ r. ⌜ Takes l (takingHeld lines (held l (now (room .entry))) (now (line .entry))) (now (room .entry)) r (now (room .exit)) ⌝ }
 {

@@ -14,7 +14,7 @@ use paper::orders::Page;
 use paper::orders::Place;
 use paper::tables::Table;
 
-// Refusals 1, 2, 5.
+// [9.7] [4.1] Refusals 1, 2, 5.
 pub fn nearest(
     t: Table,
     references: &[u32],
@@ -36,7 +36,7 @@ pub fn nearest(
     Nearest::Answer(found)
 }
 
-// Refusals 1, 2, 5.
+// [9.7] [4.2] Refusals 1, 2, 5.
 pub fn farthest(
     t: Table,
     references: &[u32],
@@ -57,7 +57,7 @@ pub fn farthest(
     Nearest::Answer(found)
 }
 
-// Refusals 1, 2, 5, 6, 7, 8, 12.
+// [9.8] [4.6] Refusals 1, 2, 5, 6, 7, 8, 12.
 pub fn page(
     t: Table,
     references: &[u32],
@@ -96,7 +96,7 @@ pub fn page(
     )
 }
 
-// The filled front of a room that holds `count` items: a part of the lent room. It refuses nothing.
+// [9.9] [4.9] The filled front of a room that holds `count` items: a part of the lent room. It refuses nothing.
 pub fn front<'a>(room: &'a [u64], count: usize) -> &'a [u64]
     ensures { λ r. ⌜ now r ≡ take (3 * count) (now (room .entry)) ⌝ }
 {

@@ -12,7 +12,7 @@ use tree::runs::add_run;
 use tree::soundness::is_fit;
 use tree::soundness::is_sound;
 
-// Refusal 1. The header alone is made: the lent memory keeps what it holds.
+// [9.4] [3.16] Refusal 1. The header alone is made: the lent memory keeps what it holds.
 pub fn make_table(
     number: u32,
     measure: u8,
@@ -38,7 +38,7 @@ pub fn make_table(
     Made::Table(t)
 }
 
-// Why a table may not be asked: 1 or 2, or 0 where it may.
+// [9.5] Why a table may not be asked: 1 or 2, or 0 where it may.
 pub fn table_refusal(t: Table, references: &[u32], coordinates: &[i32], rooms: &[u64]) -> u8
     ensures { λ r. ⌜ r ≡ tableRefusal (lent t (references .entry) (coordinates .entry) (rooms .entry)) ⌝ }
 {
@@ -51,7 +51,7 @@ pub fn table_refusal(t: Table, references: &[u32], coordinates: &[i32], rooms: &
     0
 }
 
-// Why a run is not entered, by its number, or 0 where it may be. Nothing is written.
+// [9.6] Why a run is not entered, by its number, or 0 where it may be. Nothing is written.
 fn run_refusal(
     t: Table,
     references: &[u32],
@@ -78,7 +78,7 @@ fn run_refusal(
     0
 }
 
-// Refusals 1, 2, 5, 3, 4. The run goes in whole, or not at all.
+// [9.6] [3.15] Refusals 1, 2, 5, 3, 4. All claims of the run are entered, or none.
 pub fn enter(
     t: Table,
     references: &mut [u32],

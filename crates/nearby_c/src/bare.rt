@@ -30,7 +30,7 @@ fn placeable(length: usize, d: usize) -> bool
     false
 }
 
-// Refusals 10, 12.
+// [9.14] Refusals 10, 12.
 #[no_mangle]
 pub extern "C" fn nearby_write_ask_line(
     table: u32,
@@ -53,7 +53,7 @@ pub extern "C" fn nearby_write_ask_line(
     line_of(wrote)
 }
 
-// Refusals 10, 12.
+// [9.14] Refusals 10, 12.
 #[no_mangle]
 pub extern "C" fn nearby_write_answer_line(
     table: u32,
@@ -78,7 +78,7 @@ pub extern "C" fn nearby_write_answer_line(
     line_of(wrote)
 }
 
-// Refusals 10, 12.
+// [9.14] Refusals 10, 12.
 #[no_mangle]
 pub extern "C" fn nearby_write_claim_line(
     table: u32,
@@ -94,7 +94,7 @@ pub extern "C" fn nearby_write_claim_line(
     line_of(wrote)
 }
 
-// Refusals 9, 10.
+// [9.15] Refusals 9, 10.
 #[no_mangle]
 pub extern "C" fn nearby_read_ask_line(line: &[u8]) -> AskShown
     ensures { λ r. ⌜ r ≡ askOut (askOf (now (line .entry))) ⌝ }
@@ -103,7 +103,7 @@ pub extern "C" fn nearby_read_ask_line(line: &[u8]) -> AskShown
     ask_out(read)
 }
 
-// Refusals 9, 10.
+// [9.15] Refusals 9, 10.
 #[no_mangle]
 pub extern "C" fn nearby_read_answer_line(line: &[u8]) -> AnswerShown
     ensures { λ r. ⌜ r ≡ answerOut (answerOf Near (now (line .entry))) ⌝ }
@@ -112,7 +112,7 @@ pub extern "C" fn nearby_read_answer_line(line: &[u8]) -> AnswerShown
     answer_out(read)
 }
 
-// Refusals 9, 10.
+// [9.15] Refusals 9, 10.
 #[no_mangle]
 pub extern "C" fn nearby_read_claim_line(line: &[u8]) -> ClaimRead
     ensures { λ r. ⌜ r ≡ claimOf (now (line .entry)) ⌝ }

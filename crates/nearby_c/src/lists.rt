@@ -12,7 +12,7 @@ use c_values::list_in;
 use c_values::list_opened;
 use c_values::list_taken;
 
-// Refusals 1, 5.
+// [9.11] Refusals 1, 5.
 #[no_mangle]
 pub extern "C" fn nearby_open_list(
     table: u32,
@@ -27,7 +27,7 @@ pub extern "C" fn nearby_open_list(
     list_opened(opened)
 }
 
-// Refusals 2, 16, 6, 12.
+// [9.12] Refusals 2, 16, 6, 12.
 #[no_mangle]
 pub extern "C" fn nearby_write_ask(l: Listing, room: &[u64], size: usize, out: &mut [u8]) -> Written
     ensures { λ r. ⌜ WritesOut (askingHeld lines (held (listIn l) (now (room .entry))) size (length (now (out .entry)))) (now (out .entry)) r (now (out .exit)) ⌝ }
@@ -37,7 +37,7 @@ pub extern "C" fn nearby_write_ask(l: Listing, room: &[u64], size: usize, out: &
     line_of(wrote)
 }
 
-// Refusals 2, 9, 10, 16, 13, 14, 15.
+// [9.13] Refusals 2, 9, 10, 16, 13, 14, 15.
 #[no_mangle]
 pub extern "C" fn nearby_take(l: Listing, room: &mut [u64], line: &[u8]) -> Listed
     ensures { λ r. ⌜ TakesOut (listIn l) (takingHeld lines (held (listIn l) (now (room .entry))) (now (line .entry))) (now (room .entry)) r (now (room .exit)) ⌝ }

@@ -1,4 +1,4 @@
-// The office: one ask line in, one answer line out.
+// [6.1] The office: the answer line to an ask line.
 ghost use lib.ListN.{length};
 ghost use Rattle.paper.specs.Tree.{lent};
 ghost use Rattle.paper.specs.Calls.{officeCall};
@@ -7,7 +7,7 @@ use c_values::Written;
 use c_values::line_of;
 use paper::tables::Table;
 
-// Refusals 12, 1, 2, 9, 10, 11, 7, 8.
+// [9.10] Refusals 12, 1, 2, 9, 10, 11, 7, 8.
 #[no_mangle]
 pub extern "C" fn nearby_answer(
     t: Table,

@@ -14,7 +14,7 @@ use c_values::page_of;
 use c_values::place_of;
 use paper::tables::Table;
 
-// Refusals 1, 2, 5.
+// [9.7] Refusals 1, 2, 5.
 #[no_mangle]
 pub extern "C" fn nearby_nearest(
     t: Table,
@@ -29,7 +29,7 @@ pub extern "C" fn nearby_nearest(
     item_of(nearby::nearest(t, references, coordinates, rooms, probe, reach))
 }
 
-// Refusals 1, 2, 5.
+// [9.7] Refusals 1, 2, 5.
 #[no_mangle]
 pub extern "C" fn nearby_farthest(
     t: Table,
@@ -43,7 +43,7 @@ pub extern "C" fn nearby_farthest(
     item_of(nearby::farthest(t, references, coordinates, rooms, probe))
 }
 
-// Refusals 1, 2, 5, 6, 7, 8, 12.
+// [9.8] Refusals 1, 2, 5, 6, 7, 8, 12.
 #[no_mangle]
 pub extern "C" fn nearby_page(
     t: Table,

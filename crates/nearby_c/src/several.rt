@@ -9,7 +9,7 @@ ghost use Rattle.batch.specs.Batch.{batchCall, twoRooms, AnswersAll};
 use batch::Answered;
 use paper::tables::Table;
 
-// Refusals 1, 2, 5, 12.
+// [9.16] Refusals 1, 2, 5, 12.
 #[no_mangle]
 pub extern "C" fn nearby_many_nearest(
     t: Table,
@@ -25,7 +25,7 @@ pub extern "C" fn nearby_many_nearest(
     many::nearest_each(t, references, coordinates, rooms, probes, reaches, out)
 }
 
-// Refusals 1, 2, 5, 12.
+// [9.16] Refusals 1, 2, 5, 12.
 #[no_mangle]
 pub extern "C" fn nearby_many_farthest(
     t: Table,
@@ -41,7 +41,7 @@ pub extern "C" fn nearby_many_farthest(
     many::farthest_each(t, references, coordinates, rooms, probes, n, out)
 }
 
-// Refusals 1, 2, 5, 6, 12; and 7, 8 of each question.
+// [9.17] Refusals 1, 2, 5, 6, 12; and 7, 8 of each question.
 #[no_mangle]
 pub extern "C" fn nearby_many_pages(
     t: Table,
@@ -71,7 +71,7 @@ pub extern "C" fn nearby_many_pages(
     )
 }
 
-// Refusals 12, 1, 2; and 9, 10, 11, 7, 8 of each line.
+// [9.18] Refusals 12, 1, 2; and 9, 10, 11, 7, 8 of each line.
 #[no_mangle]
 pub extern "C" fn nearby_many_answers(
     t: Table,

@@ -10,7 +10,7 @@ use c_values::table_entered;
 use c_values::table_made;
 use paper::tables::Table;
 
-// Refusal 1.
+// [9.4] Refusal 1.
 #[no_mangle]
 pub extern "C" fn nearby_make_table(
     number: u32,
@@ -26,7 +26,7 @@ pub extern "C" fn nearby_make_table(
     table_made(nearby::make_table(number, measure, d, capacity, references, coordinates, rooms))
 }
 
-// Refusals 1, 2: as every call on a table tests it.
+// [9.5] Refusals 1, 2: as every call on a table tests it.
 #[no_mangle]
 pub extern "C" fn nearby_test_table(
     t: Table,
@@ -39,7 +39,7 @@ pub extern "C" fn nearby_test_table(
     nearby::table_refusal(t, references, coordinates, rooms)
 }
 
-// Refusals 1, 2, 5, 3, 4.
+// [9.6] Refusals 1, 2, 5, 3, 4.
 #[no_mangle]
 pub extern "C" fn nearby_enter(
     t: Table,

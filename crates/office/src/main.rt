@@ -1,4 +1,4 @@
-// The program of document 01: reads claim and ask lines, and writes the answers.
+// The office program: reads claim and ask lines, and writes the answers.
 fn main() {
     stream::office();
 }

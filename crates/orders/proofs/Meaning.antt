@@ -1,4 +1,4 @@
--- What is listed is just the claims below the snapshot and within reach, each once, in order. Assumes nothing.
+-- What is listed is just the claims within reach whose numbers are below the snapshot, each once, in order. Assumes nothing.
 use Prim.Native.Nat.{ℕ, zero, suc, _<_, _≤_}
 use mathlib.Core.Path.{_≡_, refl, sym, ap, _∙_, subst, subst⁻¹}
 use mathlib.Core.Logic.{_⊎_, inl, inr, ⊎-elim}
@@ -16,7 +16,7 @@ use Rattle.paper.proofs.Tests.{no-way}
 use Rattle.orders.proofs.Lists.{all-mem, all-getD}
 use Rattle.orders.proofs.Sorted.{Rising, rising-at, before-same, before-not, IsOf, listed-are, listed-rising}
 
--- next to listed-are and listed-rising: no claim is missing
+-- [2.5] next to listed-are and listed-rising: no claim is missing
 insert-has : (o : Order) (x : Item) (l : List Item) → List·Memᴰ x (insert o x l)
 unfolding insert
 insert-has o x [] = List·Memᴰ·head refl
@@ -86,7 +86,7 @@ listed-only q cs s l rises are has =
     subst⁻¹ (λ (x : Item). List·Memᴰ x l) (p .is) (has (z .number) (p .below) (subst (λ (x : Item). x .distance ≤ q .reach) (p .is) (p .within))))
 
 module _ (q : Query) (cs : List Claim) where
-  -- each claim is listed once: no two items have one number
+  -- [2.5] each claim is listed once: no two items have one number
   pub listed-once : (s i j : ℕ) (z : Item) → i < j → j < length (listed q cs s) → getD (listed q cs s) i z .number ≡ getD (listed q cs s) j z .number → ⊥
   listed-once s i j z p r e =
       let a = all-getD (IsOf q cs s) (listed q cs s) i z (listed-are q cs s) (omega arith) in

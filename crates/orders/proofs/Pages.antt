@@ -123,7 +123,7 @@ module _ (q : Query) (cs : List Claim) where
   farthest-first size h =
       sym (ap (λ (l : List Item). firstOf (take size l)) (rest-start (farQuery q .order) (listed (farQuery q) cs (length cs))) ∙ first-take size (listed (farQuery q) cs (length cs)) h)
 
-  -- Nothing exactly if none is within reach
+  -- [4.1] Nothing just where no claim is within reach
   pub nearest-nothing : nearestOf q cs ≡ nothing → (k : ℕ) → k < length cs → q .reach < itemOf q cs k .distance
   unfolding nearestOf
   nearest-nothing e k h =
@@ -139,7 +139,7 @@ module _ (q : Query) (cs : List Claim) where
       go [] h = refl
       go (a ∷ l) h = absurd (let d : a .distance ≡ itemOf q cs (a .number) .distance = ap (λ (y : Item). y .distance) (h .0 .is) in omega (arith, none (a .number) (h .0 .below), h .0 .within))
 
-  -- Nothing where there is no claim; that there is something else where there is one needs the measure (walk, Farthest)
+  -- [4.2] Nothing where there is no claim; that there is something else where there is one needs the measure (walk, Farthest)
   pub farthest-none : length cs ≡ 0 → farthestOf q cs ≡ nothing
   unfolding farthestOf listed firstOf
   farthest-none e = rw e

@@ -16,18 +16,19 @@ use Rattle.paper.specs.Outcomes.{gives}
 use Rattle.paper.specs.Ends.{Ask, Answer, Codec}
 use Rattle.paper.specs.Limits.{mostClaims, mostPage}
 
--- what the types of a call's arguments say: a table number of 32 bits, a reach of 64, signed coordinates of 32
+-- [1.3] [2.4] [3.1] what the types of a call's arguments say: a table number of 32 bits, a reach of 64, signed coordinates of 32
 pub record Typed (q : Query) : Type 0 where
   pub table : q .table < 2 ^ 32
   pub reach : q .reach < 2 ^ 64
   pub probe : (x : ℤ) → List·Memᴰ x (q .probe) → mag x < 2 ^ 31
 
+-- [1.3] [1.5] a query in range
 pub record QueryOk (q : Query) : Type 0 where
   pub range : inRange (q .measure) (q .d) ≡ true
   pub long : length (q .probe) ≡ q .d
   pub typed : Typed q
 
--- "snapshot 0 to 4,096, numbers 0 to 4,095"
+-- [5.9] a snapshot and a mark in range
 pub record MarkOk (n : ℕ) (m : Mark) : Type 0 where
   pub snapshot : n ≤ mostClaims
   pub distance : m .distance < 2 ^ 64
@@ -37,19 +38,20 @@ abbrev pub PlaceOk : Place → Type 0
 PlaceOk Start = Unit {0}
 PlaceOk (After n m) = MarkOk n m
 
--- "page size 1 to 16"
+-- [4.3] an ask in range
 pub record AskOk (a : Ask) : Type 0 where
   pub query : QueryOk (a .query)
   pub place : PlaceOk (a .place)
   pub one : 1 ≤ a .size
   pub most : a .size ≤ mostPage
 
+-- [1.2] [5.9] an item in range
 pub record ItemOk (x : Item) : Type 0 where
   pub number : x .number < mostClaims
   pub reference : x .reference < 2 ^ 32
   pub distance : x .distance < 2 ^ 64
 
--- "item count 0 to 16"; "An answer repeats its ask's fields, except that with from 0 it carries the snapshot it used."
+-- [5.9] [6.4] an answer in range; after the start its snapshot is the place's
 pub record AnswerOk (y : Answer) : Type 0 where
   pub query : QueryOk (y .query)
   pub place : PlaceOk (y .place)
@@ -58,7 +60,7 @@ pub record AnswerOk (y : Answer) : Type 0 where
   pub few : length (y .items) ≤ mostPage
   pub items : (x : Item) → List·Memᴰ x (y .items) → ItemOk x
 
--- of a codec, for the orders that it has kinds for
+-- [5.13] of a codec, for the orders that it has kinds for
 pub record Lawful (c : Codec) : Type 0 where
   -- what was written reads back
   pub ask-back : (a : Ask) → AskOk a → c .speaks (a .query .order) ≡ true → c .readAsk (c .askLine a) ≡ gives a

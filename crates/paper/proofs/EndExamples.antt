@@ -1,4 +1,4 @@
--- The two ends compute what document 01's examples say. Assumes nothing.
+-- The two ends compute what the examples say. Assumes nothing.
 use mathlib.Core.Path.{refl}
 use Rattle.paper.specs.Points.{measureOf, weigh, joined, distance, inRange}
 use Rattle.paper.specs.Orders.{rank, before, insert, itemOf, listed, follows, rest, following, pageOf, lastOf, snapshotHolds, markHolds, flat}

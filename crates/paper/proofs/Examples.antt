@@ -1,4 +1,4 @@
--- Examples a to j of document 01, proved together, and the further ones: each computes. Assumes nothing.
+-- Examples a to j, proved together, and the further ones: each computes. Assumes nothing.
 use mathlib.Core.Path.{refl}
 use Rattle.paper.specs.Points.{measureOf, weigh, joined, distance, greatestOf}
 use Rattle.paper.specs.Orders.{rank, before, insert, itemOf, listed, follows, rest, following, pageOf, lastOf, firstOf, nearestOf, farthestOf, snapshotHolds, markHolds}

@@ -1,4 +1,4 @@
--- Document 01's example of the program: five claims and one ask give this whole output, computed. Assumes nothing.
+-- An example of the program: five claims and one ask give this whole output, computed. Assumes nothing.
 use Prim.Native.Nat.{ℕ}
 use mathlib.Core.Path.{_≡_, refl}
 use mathlib.Core.List.{List, [], _∷_, _++_}

@@ -1,5 +1,5 @@
--- The public calls on tables by example, each worked by hand from document 01: what a call gives, and of two refusals that apply the earlier.
--- The claims, probe and reach are those of its marked examples. Definitions only.
+-- The public calls on tables by example, each worked by hand from the rules: what a call gives, and [9.1] of two refusals that apply the
+-- earlier. The claims, probe and reach are those of examples a to j. Definitions only.
 use Prim.Native.Nat.{ℕ, _+_, _-_, _*_}
 use mathlib.Core.Path.{_≡_}
 use mathlib.Core.Bool.{true, false}
@@ -99,7 +99,7 @@ officeAt s line = officeCall s longestAnswer line
 abbrev pub tooMany : ℕ
 tooMany = mostPage + 1
 
--- ---- the limits, as numbers
+-- ---- [5.11] the limits, as numbers
 
 pub record LimitsMarked : Type 0 where
   pub places : mostPlaces ≡ 8
@@ -110,25 +110,25 @@ pub record LimitsMarked : Type 0 where
   pub ask : longestAsk ≡ 123
   pub claim : longestClaim ≡ 87
 
--- ---- making an empty table: 1
+-- ---- [9.4] making an empty table
 
 pub record MakingMarked : Type 0 where
   pub made : makeCall none ≡ gives (header 1 1 6 0 0)
-  -- each out of its range
+  -- [8.1] each out of its range
   pub measure0 : makeCall (empty 0 1 6 6 6 36) ≡ refused 1
   pub measure4 : makeCall (empty 4 1 6 6 6 36) ≡ refused 1
   pub d0 : makeCall (empty 1 0 6 6 6 36) ≡ refused 1
   pub d9 : makeCall (empty 1 9 6 6 54 36) ≡ refused 1
   pub capacity0 : makeCall (empty 1 1 0 6 6 36) ≡ refused 1
   pub capacity4097 : makeCall (empty 1 1 4097 4097 4097 24582) ≡ refused 1
-  -- and each part of lent memory one short
+  -- [3.2] and each part of lent memory one short
   pub references5 : makeCall (empty 1 1 6 5 6 36) ≡ refused 1
   pub coordinates11 : makeCall (empty 1 2 6 6 11 36) ≡ refused 1
   pub rooms35 : makeCall (empty 1 1 6 6 6 35) ≡ refused 1
   -- the last measure and the most coordinates
   pub widest : makeCall (empty 3 8 6 6 48 36) ≡ gives (header 3 8 6 0 0)
 
--- ---- entering: 1, 2, 5, 3, 4
+-- ---- [9.6] entering
 
 pub record EnteringMarked : Type 0 where
   -- every call on a table begins with 1 and 2; more claims than the capacity are not sound either
@@ -139,7 +139,7 @@ pub record EnteringMarked : Type 0 where
   pub short1 : passed short ≡ refused 1
   -- the five claims into a table that has none: example a's rooms
   pub entered : enterCall none (101 ∷ 102 ∷ 103 ∷ 104 ∷ 105 ∷ []) (pos 2 ∷ pos 3 ∷ pos 9 ∷ pos 6 ∷ pos 5 ∷ []) ≡ gives five
-  -- a run of no claims
+  -- [3.15] a run of no claims
   pub nothingEntered : enterCall five [] [] ≡ gives five
   pub full3 : enterCall five (106 ∷ 107 ∷ []) (pos 4 ∷ pos 4 ∷ []) ≡ refused 3
   pub uneven5 : enterCall five (106 ∷ []) (pos 4 ∷ pos 4 ∷ []) ≡ refused 5
@@ -147,10 +147,10 @@ pub record EnteringMarked : Type 0 where
   pub first5 : enterCall five (106 ∷ 107 ∷ []) (pos 4 ∷ []) ≡ refused 5
   pub first2 : enterCall changed (106 ∷ []) (pos 4 ∷ pos 4 ∷ []) ≡ refused 2
   pub first1 : enterCall short (106 ∷ []) (pos 4 ∷ []) ≡ refused 1
-  -- a run that just fills the table
+  -- [8.3] a run that just fills the table
   pub fills0 : number (enterCall five (106 ∷ []) (pos 4 ∷ [])) ≡ 0
 
--- ---- nearest and farthest: 1, 2, 5; a page: 1, 2, 5, 6, 7, 8, 12
+-- ---- [9.7] nearest and farthest; [9.8] a page
 
 pub record AskingMarked : Type 0 where
   -- examples c and d
@@ -187,7 +187,7 @@ pub record AskingMarked : Type 0 where
   -- a mark just at the reach: nothing comes after it
   pub atReach : pageAt five four (after 5 5 2) 2 6 ≡ gives (record { items = []; last = true })
 
--- ---- the office: 12, 1, 2, 9, 10, 11, 7, 8
+-- ---- [9.10] the office
 
 pub record OfficeMarked : Type 0 where
   pub answered : officeAt five sampleAsk ≡ gives sampleAnswer

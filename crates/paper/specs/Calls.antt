@@ -1,4 +1,4 @@
--- Document 01, "Numbers given back": the public calls on tables in lent memory, as functions of their inputs. Definitions only.
+-- Section 9 of the rules: the public calls on tables in lent memory, as functions of their inputs. Definitions only.
 -- Making and entering stand in `Runs`, lists in `Lists`, bare lines in `Lines`.
 use Prim.Native.Nat.{ℕ, _*_}
 use mathlib.Core.Bool.{Bool}
@@ -23,22 +23,23 @@ abbrev pub tableQuery : Table → Order → List ℤ → ℕ → Query
 tableQuery t order probe reach =
     record { order = order; table = t .number; measure = t .measure; d = t .d; probe = probe; reach = reach }
 
--- every call on a table begins with 1 and 2
+-- [8.1] [8.2] every call on a table begins with 1 and 2
 abbrev pub onTable : {A : Type 0} → Store → Outcome A → Outcome A
 onTable s x = must (fits s) 1 (must (sound s) 2 x)
 
--- why a table may not be asked: 1 or 2, or 0 where it may
+-- [9.5] why a table may not be asked: 1 or 2, or 0 where it may
 unfoldable pub tableRefusal : Store → ℕ
 tableRefusal s = number (onTable s (gives s))
 
--- 5: "probe length not d"
+-- [8.5] and one with a probe goes on with 5: the probe has d coordinates
 abbrev pub aimed : {A : Type 0} → Store → List ℤ → Outcome A → Outcome A
 aimed s probe x = onTable s (must (eqb (length probe) (s .table .d)) 5 x)
 
--- "Nearest and farthest: 1, 2, 5."
+-- [9.7] [4.1] nearest
 unfoldable pub nearestCall : Store → List ℤ → ℕ → Outcome Found
 nearestCall s probe reach = aimed s probe (gives (nearestOf (tableQuery (s .table) Near probe reach) (claimsIn s)))
 
+-- [9.7] [4.2] farthest
 unfoldable pub farthestCall : Store → List ℤ → Outcome Found
 farthestCall s probe = aimed s probe (gives (farthestOf (tableQuery (s .table) Near probe 0) (claimsIn s)))
 
@@ -47,7 +48,7 @@ abbrev pub nearestShown : Outcome Found → Answers.Nearest
 nearestShown (refused n) = Answers.the-variants.Refused n
 nearestShown (gives f) = Answers.the-variants.Answer (foundShown f)
 
--- a page: its items, and whether it is the last
+-- [4.6] [4.7] a page: its items, and whether it is the last
 pub record PageOf : Type 0 where
   pub items : List Item
   pub last : Bool
@@ -56,7 +57,7 @@ unfoldable pub thePage : Query → Store → Place → ℕ → PageOf
 thePage q s place size =
     record { items = pageOf q (claimsIn s) place size; last = lastOf size (following q (claimsIn s) place) }
 
--- "Page: 1, 2, 5, 6, 7, 8, 12." 12: "output room under the page size in items"
+-- [9.8] [8.12] a page, in a room of so many numbers: 12 where it is too short for a page of that size
 unfoldable pub pageCall : Store → Order → List ℤ → ℕ → Place → ℕ → ℕ → Outcome PageOf
 pageCall s order probe reach place size room =
     aimed s probe
@@ -66,7 +67,7 @@ pageCall s order probe reach place size room =
     (must (leb (size * 3) room) 12
     (gives (thePage (tableQuery (s .table) order probe reach) s place size))))))
 
--- how its outcome is shown, and what it makes of the room: the items stand at its front, and what lies behind them is kept
+-- [4.8] how its outcome is shown, and what it makes of the room: the items stand at its front, and what lies behind them is kept
 abbrev pub pageShown : Outcome PageOf → Pages.Page
 pageShown (refused n) = Pages.the-variants.Refused n
 pageShown (gives p) = Pages.the-variants.Filled (record { count = length (p .items); last = p .last })
@@ -74,6 +75,6 @@ pageShown (gives p) = Pages.the-variants.Filled (record { count = length (p .ite
 abbrev pub putPage : PageOf → List ℕ → List ℕ
 putPage p room = fronted (p .items) room
 
--- "Office: 12, 1, 2, 9, 10, 11, 7, 8."
+-- [9.10] the office's answer to a line, in an output room of so many characters: 12 comes before the tests of the table
 unfoldable pub officeCall : Store → ℕ → List ℕ → Outcome (List ℕ)
 officeCall s out line = must (answerRoom out) 12 (onTable s (served lines (tableOf s) line))

@@ -18,11 +18,11 @@ use Rattle.paper.specs.Lines.{answerKind, spoken, askFrame, isAsk, askAt
 use Rattle.paper.specs.Ends.{Ask, Answer, Codec}
 use Rattle.paper.specs.Lists.{itemsIn}
 
--- "from 0 or 1": 0 is the start, 1 a place
+-- [5.8] the place that a scope names: from is 0 for the start, 1 for another
 unfoldable pub placeIn : Scope → Place
 placeIn p = cond (eqb (p .from) 0) Start (After (p .snapshot) (record { distance = p .distance; number = p .number }))
 
--- "With from 0 the mark fields are 0"
+-- [5.8] [5.10] the scope of a place, whose mark is 0 for the start
 unfoldable pub scopeOf : Place → ℕ → Scope
 scopeOf Start snapshot = record { from = 0; snapshot = snapshot; distance = 0; number = 0 }
 scopeOf (After n m) snapshot = record { from = 1; snapshot = snapshot; distance = m .distance; number = m .number }
@@ -40,18 +40,20 @@ answered y =
       items = itemsIn (y .count) (y .items);
     }
 
--- "in an ask the snapshot is 0 too"
+-- [5.5] [5.10] an ask's line, whose snapshot is 0 for the start
 unfoldable pub askLine : Ask → List ℕ
 askLine a = lineOf (askFrame (a .query) (scopeOf (a .place) (snapshotOf (a .place) 0)) (a .size))
 
+-- [5.6] an answer's line
 unfoldable pub answerLine : Answer → List ℕ
 answerLine y =
     lineOf (answerFrame (y .query) (scopeOf (y .place) (y .snapshot)) (flagOf (y .last)) (length (y .items)) (flat (y .items)))
 
--- "9, 10"
+-- [8.9] [8.10] a line read as an ask
 unfoldable pub readAsk : List ℕ → Outcome Ask
 readAsk line = must (sound line) 9 (must (isAsk (frameOf line)) 10 (gives (asked (askAt (frameOf line)))))
 
+-- [8.9] [8.10] a line read as an answer in an order
 unfoldable pub readAnswer : Order → List ℕ → Outcome Answer
 readAnswer o line =
     must (sound line) 9 (must (answerOk (answerKind o) (frameOf line)) 10 (gives (answered (answerAt o (frameOf line)))))

@@ -1,4 +1,4 @@
--- The two ends by example: the claims, probe and reach of document 01's marked examples, its "Likely slips", and its sample lines.
+-- The two ends by example, with the claims, probe and reach of examples a to j: an ask and an answer in full, and what comes late.
 -- Definitions only.
 use Prim.Native.Nat.{ℕ}
 use mathlib.Core.Path.{_≡_}
@@ -42,25 +42,24 @@ ended =
       items = item 1 102 1 ∷ item 4 105 1 ∷ item 0 101 2 ∷ item 3 104 2 ∷ item 2 103 5 ∷ [];
     }
 
--- "The program": the sample's ask line, "01 00000007 01 01 00000004 0000000000000005 00 0000 0000000000000000 0000 02"
+-- [5.5] an ask line: of table 7, near 4 within 5, a page of 2 from the start
 abbrev pub sampleAsk : List ℕ
 sampleAsk = lineOf (1 ∷ 0 ∷ 0 ∷ 0 ∷ 7 ∷ 1 ∷ 1 ∷ 0 ∷ 0 ∷ 0 ∷ 4 ∷ 0 ∷ 0 ∷ 0 ∷ 0 ∷ 0 ∷ 0 ∷ 0 ∷ 5 ∷ 0 ∷ 0 ∷ 0 ∷ 0 ∷ 0 ∷ 0 ∷ 0 ∷ 0 ∷ 0 ∷ 0 ∷ 0 ∷ 0 ∷ 0 ∷ 2 ∷ [])
 
--- and its answer line, "02 00000007 01 01 00000004 0000000000000005 00 0005 0000000000000000 0000 00 02 0001 00000066 0000000000000001 0004
--- 00000069 0000000000000001"
+-- [5.6] and its answer line: snapshot 5, not the last, claims 1 and 4
 abbrev pub sampleAnswer : List ℕ
 sampleAnswer = lineOf (2 ∷ 0 ∷ 0 ∷ 0 ∷ 7 ∷ 1 ∷ 1 ∷ 0 ∷ 0 ∷ 0 ∷ 4 ∷ 0 ∷ 0 ∷ 0 ∷ 0 ∷ 0 ∷ 0 ∷ 0 ∷ 5 ∷ 0 ∷ 0 ∷ 5 ∷ 0 ∷ 0 ∷ 0 ∷ 0 ∷ 0 ∷ 0 ∷ 0 ∷ 0 ∷ 0 ∷ 0 ∷ 0 ∷ 2 ∷ 0 ∷ 1 ∷ 0 ∷ 0 ∷ 0 ∷ 102 ∷ 0 ∷ 0 ∷ 0 ∷ 0 ∷ 0 ∷ 0 ∷ 0 ∷ 1 ∷ 0 ∷ 4 ∷ 0 ∷ 0 ∷ 0 ∷ 105 ∷ 0 ∷ 0 ∷ 0 ∷ 0 ∷ 0 ∷ 0 ∷ 0 ∷ 1 ∷ [])
 
 pub record EndsMarked : Type 0 where
-  -- the first page is taken, and so is the next one
+  -- [7.7] [7.8] the first page is taken, and so is the next one
   pub first : takes 5 (fresh (query 5)) (replies five (fresh (query 5)) 2) ≡ gives begun
   pub then : takes 5 begun (replies five begun 4) ≡ gives ended
-  -- a claim that was entered after the first page, at distance 2, is in none of the later ones
+  -- [4.5] a claim that was entered after the first page, at distance 2, is in none of the later ones
   pub still : takes 5 begun (replies (five ++ (claim 106 6 ∷ [])) begun 4) ≡ gives ended
-  -- "Taking a late first answer into a started list mixes two snapshots."
+  -- [7.5] [8.13] an answer from the start that comes late, with another snapshot
   pub late : takes 5 begun (replies six (fresh (query 5)) 2) ≡ refused 13
-  -- a room too small for the page; a list that is complete, before anything else
+  -- [8.15] [8.16] a room that the page does not fit; a list that is complete, before anything else
   pub small : takes 4 begun (replies five begun 4) ≡ refused 15
   pub over : takes 9 ended (replies five (fresh (query 5)) 2) ≡ refused 16
-  -- "Whole output": the sample's ask line is answered by the sample's answer line
+  -- [6.1] the ask line is answered by the answer line
   pub sample : office lines (table five) longestAnswer sampleAsk ≡ gives sampleAnswer

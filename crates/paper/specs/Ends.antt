@@ -1,4 +1,4 @@
--- Document 01, "The two ends" and "Numbers given back": the office, and a tablet's list. Definitions only.
+-- Sections 6 and 7 of the rules: the office, and a tablet's list. Definitions only.
 use Prim.Native.Nat.{ℕ, zero, suc, _+_, _-_}
 use mathlib.Core.Bool.{Bool, true, false, cond, _&&_, _||_, not}
 use mathlib.Core.List.{List, [], _∷_, _++_}
@@ -17,13 +17,13 @@ use Rattle.paper.specs.Limits.{longestAnswer, longestAsk, mostClaims, mo
 
 -- ---- what the lines between the two ends say
 
--- an ask: what the list was opened with, where the page starts, and the page size
+-- [5.5] an ask: what the list was opened with, where the page starts, and the page size
 pub record Ask : Type 0 where
   pub query : Query
   pub place : Place
   pub size : ℕ
 
--- "An answer repeats its ask's fields, except that with from 0 it carries the snapshot it used."
+-- [5.6] [6.4] an answer: query and place of its ask, the snapshot that the page is of, and the page
 pub record Answer : Type 0 where
   pub query : Query
   pub place : Place
@@ -42,7 +42,7 @@ pub record Codec : Type 0 where
 
 -- ---- the office
 
--- "A table has a number (32 bits), a measure, d, a capacity", and its claims in number order
+-- [3.1] [1.1] a table's number, measure, d and capacity, and its claims by rising number
 pub record Table : Type 0 where
   pub number : ℕ
   pub measure : ℕ
@@ -64,11 +64,11 @@ tableOf s =
       claims = claimsIn s;
     }
 
--- 11: "table number, measure or d not this table's"
+-- [6.2] [8.11] an ask is for a table when table number, measure and d are the table's
 unfoldable pub matches : Table → Query → Bool
 matches t q = eqb (q .table) (t .number) && (eqb (q .measure) (t .measure) && eqb (q .d) (t .d))
 
--- the page that is asked for: "An answer repeats its ask's fields, except that with from 0 it carries the snapshot it used."
+-- [6.3] [6.4] the page that an ask names, with its ask's fields and the snapshot that the page is of
 unfoldable pub answerOf : Table → Ask → Answer
 answerOf t a =
     record {
@@ -79,7 +79,7 @@ answerOf t a =
       items = pageOf (a .query) (t .claims) (a .place) (a .size);
     }
 
--- "Office: .. 11, 7, 8."
+-- [9.10] [8.11] [8.7] [8.8] the answer to an ask
 unfoldable pub answerTo : Table → Ask → Outcome Answer
 answerTo t a =
     must (matches t (a .query)) 11
@@ -87,20 +87,21 @@ answerTo t a =
     (must (markHolds (a .query) (t .claims) (a .place)) 8
     (gives (answerOf t a))))
 
--- "Office: .. 9, 10, 11, 7, 8." "one ask line in, one answer line out; nothing is remembered between asks"
+-- [6.1] [9.10] the answer line to an ask line, by that line and the table alone
 unfoldable pub served : Codec → Table → List ℕ → Outcome (List ℕ)
 served c t line = onto (c .readAsk line) (λ a. onto (answerTo t a) (λ y. gives (c .answerLine y)))
 
--- 12: "output room under .. 573 characters (answer)". Between 12 and 9 a call on lent memory has its 1 and 2.
+-- [8.12] room for the longest answer. Between 12 and 9 a call on lent memory has its 1 and 2.
 abbrev pub answerRoom : ℕ → Bool
 answerRoom out = leb longestAnswer out
 
+-- [9.10] the same in an output room of so many characters
 unfoldable pub office : Codec → Table → ℕ → List ℕ → Outcome (List ℕ)
 office c t out line = must (answerRoom out) 12 (served c t line)
 
 -- ---- the tablet
 
--- "a list opened with table number, measure, d, probe and reach"
+-- [7.1] a list: what it was opened for, and what it has loaded
 pub record Listing : Type 0 where
   pub query : Query
   pub started : Bool
@@ -108,25 +109,26 @@ pub record Listing : Type 0 where
   pub complete : Bool
   pub items : List Item
 
--- "it is empty with snapshot 0 and not complete before it starts"
+-- [7.2] a list before it starts
 abbrev pub fresh : Query → Listing
 fresh q = record { query = q; started = false; snapshot = 0; complete = false; items = [] }
 
--- "Opening a list: 1, 5."
+-- [9.11] [8.1] [8.5] opening a list tests measure and d, and then the probe
 unfoldable pub opening : Query → Outcome Listing
 opening q = must (inRange (q .measure) (q .d)) 1 (must (eqb (length (q .probe)) (q .d)) 5 (gives (fresh q)))
 
+-- [7.4] the last item, and an item as a mark
 abbrev pub lastItem : List Item → Item
 lastItem l = getD l (length l - 1) noItem
 
 abbrev pub markOf : Item → Mark
 markOf a = record { distance = a .distance; number = a .number }
 
--- "from 0 while not started; afterwards from 1, its snapshot, and its last item's distance and number as mark"
+-- [7.4] where the next page starts: at the start until the list has started, then at its snapshot, with the last item as the mark
 unfoldable pub presentPlace : Listing → Place
 presentPlace L = cond (L .started) (After (L .snapshot) (markOf (lastItem (L .items)))) Start
 
--- "It writes its present ask"
+-- [7.4] the present ask, of any size
 abbrev pub presentAsk : Listing → ℕ → Ask
 presentAsk L size = record { query = L .query; place = presentPlace L; size = size }
 
@@ -135,7 +137,7 @@ unfoldable pub every : {A : Type 0} → (A → Bool) → List A → Bool
 every p [] = true
 every p (x ∷ l) = p x && every p l
 
--- "its items rise strictly in near order"
+-- [7.6] items rise in order: each stands before the next
 abbrev pub leads : Order → Item → List Item → Bool
 leads o a [] = true
 leads o a (b ∷ l) = earlier o a b
@@ -144,20 +146,18 @@ unfoldable pub rising : Order → List Item → Bool
 rising o [] = true
 rising o (a ∷ l) = leads o a l && rising o l
 
--- "with distances within reach and numbers below the snapshot"
+-- [7.6] an item is within reach, and its number below the snapshot
 abbrev pub fitting : ℕ → ℕ → Item → Bool
 fitting reach snapshot a = leb (a .distance) reach && ltb (a .number) snapshot
 
--- "it is empty with snapshot 0 and not complete before it starts, and it has an item or is complete after"
+-- [7.11] before it starts a list is as 7.2 says; afterwards only a complete one has no item
 unfoldable pub startedWell : Listing → Bool
 startedWell L =
     cond (L .started)
     (leb 1 (length (L .items)) || L .complete)
     (eqb (length (L .items)) 0 && (eqb (L .snapshot) 0 && not (L .complete)))
 
--- "A list is sound when its measure and d are in range, unused probe places are 0, its snapshot is at most 4,096, it holds no more than its
--- room, its items rise strictly in near order with distances within reach and numbers below the snapshot, it is empty with snapshot 0 and not
--- complete before it starts, and it has an item or is complete after." Here `room` is in items, and the probe has its d places alone.
+-- [7.9] [7.10] [7.11] [8.2] a sound list. Here `room` is in items, and the probe has its d places alone.
 unfoldable pub soundIn : ℕ → Listing → Bool
 soundIn room L =
     inRange (L .query .measure) (L .query .d)
@@ -168,15 +168,15 @@ soundIn room L =
     && (every (fitting (L .query .reach) (L .snapshot)) (L .items)
     && startedWell L)))))
 
--- 6: "page size out of range"; "a page size from 1 to 16"
+-- [4.3] [8.6] a page size is in its range
 abbrev pub sizeHolds : ℕ → Bool
 sizeHolds size = leb 1 size && leb size mostPage
 
--- 12: "output room under .. 123 (ask)"
+-- [8.12] room for the longest ask
 abbrev pub askRoom : ℕ → Bool
 askRoom out = leb longestAsk out
 
--- "Writing an ask: 2, 16, 6, 12."
+-- [9.12] [7.8] [8.16] writing the present ask; a complete list asks no more
 unfoldable pub asking : Codec → ℕ → ℕ → ℕ → Listing → Outcome (List ℕ)
 asking c room size out L =
     must (soundIn room L) 2
@@ -197,7 +197,7 @@ unfoldable pub sameProbe : ℕ → List ℤ → List ℤ → Bool
 sameProbe zero p q = true
 sameProbe (suc d) p q = sameProbe d p q && sameZ (getD p d (pos 0)) (getD q d (pos 0))
 
--- 13: "table, measure, d, probe, reach .. differs"
+-- [7.5] table, measure, d, probe and reach agree
 unfoldable pub sameQuery : Query → Query → Bool
 sameQuery q r =
     eqb (q .table) (r .table)
@@ -206,18 +206,18 @@ sameQuery q r =
     && (sameProbe (q .d) (q .probe) (r .probe)
     && eqb (q .reach) (r .reach))))
 
--- 13: "from, or after the start snapshot or mark differs"
+-- [7.5] from agrees, and after the start also snapshot and mark
 unfoldable pub samePlace : Place → Place → Bool
 samePlace Start Start = true
 samePlace Start (After k m) = false
 samePlace (After n l) Start = false
 samePlace (After n l) (After k m) = eqb n k && (eqb (l .distance) (m .distance) && eqb (l .number) (m .number))
 
--- 13: "answer not to this list's present ask"; "page size is not compared"
+-- [7.5] [8.13] an answer is to the present ask, whatever page size that had
 unfoldable pub toPresent : Listing → Answer → Bool
 toPresent L y = sameQuery (L .query) (y .query) && samePlace (presentPlace L) (y .place)
 
--- 14: "items not rising, not after the mark, over reach, numbered at or over the snapshot; or none and not last"
+-- [7.6] [8.14] a page holds: its items do and come after the mark, and it has one or is the last
 unfoldable pub pageHolds : Answer → Bool
 pageHolds y =
     rising (y .query .order) (y .items)
@@ -225,12 +225,12 @@ pageHolds y =
     && (every (fitting (y .query .reach) (y .snapshot)) (y .items)
     && (leb 1 (length (y .items)) || y .last)))
 
--- "the first fixes the snapshot, the items are joined to the list, .. and a last page makes the list complete"
+-- [7.7] [7.8] a list that took an answer: it has started, the items are behind its own, and a last page completes it
 unfoldable pub joinedTo : Listing → Answer → Listing
 joinedTo L y =
     record { query = L .query; started = true; snapshot = y .snapshot; complete = y .last; items = L .items ++ y .items }
 
--- "Taking: .. 16, 13, 14, 15." 15: "list room too small for the page"
+-- [9.13] [7.8] [8.15] [8.16] taking an answer; a complete list takes no more, and the room has to have place for the items
 unfoldable pub taken : ℕ → Listing → Answer → Outcome Listing
 taken room L y =
     must (not (L .complete)) 16
@@ -239,6 +239,6 @@ taken room L y =
     (must (leb (length (L .items) + length (y .items)) room) 15
     (gives (joinedTo L y)))))
 
--- "Taking: 2, 9, 10, 16, 13, 14, 15."
+-- [9.13] taking a line
 unfoldable pub taking : Codec → ℕ → Listing → List ℕ → Outcome Listing
 taking c room L line = must (soundIn room L) 2 (onto (c .readAnswer (L .query .order) line) (λ y. taken room L y))

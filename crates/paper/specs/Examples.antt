@@ -1,5 +1,5 @@
--- Document 01, "Marked examples, d = 1, measure 1": a to j as one statement about the definitions, and further ones that the
--- document names elsewhere or that catch what these let pass. Definitions only.
+-- Examples by city block, with one coordinate: a to j as one statement about the definitions, and further ones, which catch what these
+-- let pass. Definitions only.
 use Prim.Native.Nat.{ℕ}
 use mathlib.Core.Path.{_≡_}
 use mathlib.Core.Bool.{Bool, true, false}
@@ -17,18 +17,18 @@ use Rattle.paper.specs.Outcomes.{Outcome, refused, gives}
 use Rattle.paper.specs.Ends.{Answer, Table, answerTo}
 use Rattle.paper.specs.Limits.{officeClaims}
 
--- "Claims 2, 3, 9, 6, 5 as above (document 000, figure 3)", with references 65 to 69 in hexadecimal digits
+-- five claims on a line, with references 101 to 105
 abbrev pub claim : ℕ → ℕ → Claim
 claim reference x = record { reference = reference; place = pos x ∷ [] }
 
 abbrev pub five : List Claim
 five = claim 101 2 ∷ claim 102 3 ∷ claim 103 9 ∷ claim 104 6 ∷ claim 105 5 ∷ []
 
--- "a claim at 4 entered after"
+-- and a sixth, which is entered later
 abbrev pub six : List Claim
 six = five ++ (claim 106 4 ∷ [])
 
--- "probe 4, reach 5 unless said"
+-- what is asked about: the probe is 4
 abbrev pub query : ℕ → Query
 query reach = record { order = Near; table = 7; measure = 1; d = 1; probe = pos 4 ∷ []; reach = reach }
 
@@ -68,7 +68,7 @@ answered claims place size = shown (answerTo (table claims) (record { query = qu
 
 -- examples a to j
 pub record Marked : Type 0 where
-  -- "root 2 and 3, far distance 6 on its right; below it 9 and 6, far distance 1 on the right; below that 5"
+  -- [3.5] to [3.10] three nodes, one below the other on the right, with far distances 6 and 1
   pub a : afresh (apartOf five) 5
       ≡ grown
       ((1 ∷ 2 ∷ 0 ∷ 6 ∷ 0 ∷ 2 ∷ [])
@@ -76,39 +76,39 @@ pub record Marked : Type 0 where
       ++ ((5 ∷ 0 ∷ 0 ∷ 0 ∷ 0 ∷ 0 ∷ [])
       ++ replicate 12 0)))
       3
-  -- "near order by number: 1, 4, 0, 3, 2, at distances 1, 1, 2, 2, 5"
+  -- [2.3] [2.5] two pairs at the same distance, the smaller number first
   pub b : listed (query 5) five 5 ≡ item 1 102 1 ∷ item 4 105 1 ∷ item 0 101 2 ∷ item 3 104 2 ∷ item 2 103 5 ∷ []
-  -- "nearest: 1. Farthest: 2, distance 5."
+  -- [4.1] [4.2] the nearest of a pair, and the farthest
   pub c : (nearestOf (query 5) five ≡ found (item 1 102 1)) × (farthestOf (query 5) five ≡ found (item 2 103 5))
-  -- "nearest within 0: Nothing; within 1: number 1"
+  -- [2.4] [4.1] no claim is at the probe; one at the reach itself is found
   pub d : (nearestOf (query 0) five ≡ nothing) × (nearestOf (query 1) five ≡ found (item 1 102 1))
-  -- "pages of 2: 1, 4; then 0, 3; then 2, last"
+  -- [4.6] [4.7] three pages, of which the last has one item
   pub e : (answered five Start 2 ≡ gives (page (1 ∷ 4 ∷ []) false))
       × (answered five (after 5 1 4) 2 ≡ gives (page (0 ∷ 3 ∷ []) false))
       × (answered five (after 5 2 3) 2 ≡ gives (page (2 ∷ []) true))
-  -- "a claim at 4 entered after the first page changes none of e"
+  -- [4.5] what is entered after the first page is on none of the others
   pub f : (answered six (after 5 1 4) 2 ≡ gives (page (0 ∷ 3 ∷ []) false)) × (answered six (after 5 2 3) 2 ≡ gives (page (2 ∷ []) true))
-  -- "snapshot 5, mark distance 2, number 4: refusal 8"
+  -- [8.8] claim 4 is not at distance 2
   pub g : answered five (after 5 2 4) 2 ≡ refused 8
-  -- "snapshot 6 with five claims: refusal 7"
+  -- [8.7] the sixth claim is not there
   pub h : answered five (after 6 1 4) 2 ≡ refused 7
-  -- "−2,147,483,648 to 2,147,483,647: 4,294,967,295"
+  -- [1.5] the least and the greatest coordinate
   pub i : distance CityBlock 1 (negsuc 2147483647 ∷ []) (pos 2147483647 ∷ []) ≡ 4294967295
-  -- "a page of 5 is not last, and the next is empty and last"
+  -- [4.7] a full page is not the last, even where nothing is left
   pub j : (answered five Start 5 ≡ gives (page (1 ∷ 4 ∷ 0 ∷ 3 ∷ 2 ∷ []) false)) × (answered five (after 5 5 2) 5 ≡ gives (page [] true))
 
 pub record MarkedBesides : Type 0 where
-  -- "below the left one when the distances are equal": a claim at 1 beside 0 and 2
+  -- [3.8] the left of two as near: a claim at 1 beside 0 and 2
   pub tie : afresh (apartOf (claim 0 0 ∷ claim 0 2 ∷ claim 0 1 ∷ [])) 3
       ≡ grown
       ((1 ∷ 2 ∷ 1 ∷ 0 ∷ 2 ∷ 0 ∷ [])
       ++ ((3 ∷ 0 ∷ 0 ∷ 0 ∷ 0 ∷ 0 ∷ [])
       ++ replicate 6 0))
       2
-  -- e again, in pages of 1: its pages of 2 end where its ties end, so a mark of distance alone would pass there
+  -- [2.7] e again, in pages of 1: its pages of 2 end where its ties end, so a mark of distance alone would pass there
   pub ties : (answered five Start 1 ≡ gives (page (1 ∷ []) false)) × (answered five (after 5 1 1) 1 ≡ gives (page (4 ∷ []) false))
-  -- document 001: "distance 3 between 1,2,3 and 4,4,4" for the maximum; "1,2,3 and 1,3,2 are 2 apart" for Hamming
+  -- [1.7] [1.8] the first coordinate differs most; two are not the same
   pub maximum : distance Maximum 3 (pos 1 ∷ pos 2 ∷ pos 3 ∷ []) (pos 4 ∷ pos 4 ∷ pos 4 ∷ []) ≡ 3
   pub hamming : distance Hamming 3 (pos 1 ∷ pos 2 ∷ pos 3 ∷ []) (pos 1 ∷ pos 3 ∷ pos 2 ∷ []) ≡ 2
-  -- "34,359,738,360 at d = 8"
+  -- [1.9] the greatest distance that there is
   pub widest : greatestOf CityBlock 8 ≡ 34359738360

@@ -2,30 +2,30 @@
 -- Definitions only.
 use Prim.Native.Nat.{ℕ, _+_, _-_, _*_}
 
--- coordinates of a point
+-- [1.3] coordinates of a point
 abbrev pub mostPlaces : ℕ
 mostPlaces = 8
 
--- claims of a table; a snapshot counts no more
+-- [3.1] [5.9] claims of a table; a snapshot counts no more
 abbrev pub mostClaims : ℕ
 mostClaims = 4096
 
--- numbers begin at 0
+-- [1.1] [5.9] numbers begin at 0
 abbrev pub mostNumber : ℕ
 mostNumber = mostClaims - 1
 
--- the measures are numbered from the first to the last
+-- [1.5] the measures are numbered from the first to the last
 abbrev pub firstMeasure : ℕ
 firstMeasure = 1
 
 abbrev pub lastMeasure : ℕ
 lastMeasure = 3
 
--- items of a page
+-- [4.3] items of a page
 abbrev pub mostPage : ℕ
 mostPage = 16
 
--- numbers of a page's items
+-- [2.6] numbers of a page's items
 abbrev pub itemRoom : ℕ
 itemRoom = 3 * mostPage
 
@@ -33,11 +33,11 @@ itemRoom = 3 * mostPage
 abbrev pub scratchRoom : ℕ
 scratchRoom = 6 * mostClaims
 
--- bytes of the longest frame, an answer's
+-- [5.6] [5.11] bytes of the longest frame, an answer's
 abbrev pub longestFrame : ℕ
 longestFrame = 30 + 4 * mostPlaces + 14 * mostPage
 
--- characters of the longest line of each kind: two for each byte, and one for the line's end
+-- [5.1] [5.11] characters of the longest line of each kind: two for each byte, and one for the line's end
 abbrev pub longestAnswer : ℕ
 longestAnswer = 2 * longestFrame + 1
 
@@ -47,7 +47,7 @@ longestAsk = 2 * (29 + 4 * mostPlaces) + 1
 abbrev pub longestClaim : ℕ
 longestClaim = 2 * (11 + 4 * mostPlaces) + 1
 
--- the office program's table: claims, coordinates, numbers of rooms
+-- [10.1] the office program's table: claims, coordinates, numbers of rooms
 abbrev pub officeClaims : ℕ
 officeClaims = 1024
 

@@ -1,5 +1,5 @@
--- The public calls on lists and lines by example, each worked by hand from document 01: what a call gives, and of two refusals that apply the
--- earlier. The claims, probe and reach are those of its marked examples. Definitions only.
+-- The public calls on lists and lines by example, each worked by hand from the rules: what a call gives, and [9.1] of two refusals that
+-- apply the earlier. The claims, probe and reach are those of examples a to j. Definitions only.
 use Prim.Native.Nat.{ℕ, _-_, _*_}
 use mathlib.Core.Path.{_≡_}
 use mathlib.Core.Bool.{Bool, true, false}
@@ -151,7 +151,7 @@ writesAnswer p count ns out = bareLine (answerFits (opens 1 1 four) p 0 count ns
 abbrev pub writesClaim : List ℤ → ℕ → Outcome (List ℕ)
 writesClaim cs out = bareLine (claimFits 1 1 cs) longestClaim (claimFrame 7 1 1 101 cs) out
 
--- ---- opening a list: 1, 5; writing an ask: 2, 16, 6, 12
+-- ---- [9.11] opening a list; [9.12] writing an ask
 
 pub record ListsMarked : Type 0 where
   pub opened : openingHeld (opens 1 1 four) ≡ gives (listOf 0 false 0 0 false)
@@ -172,7 +172,7 @@ pub record ListsMarked : Type 0 where
   pub first16 : asked whole 0 longestAsk ≡ refused 16
   pub first6 : asked begun 0 (longestAsk - 1) ≡ refused 6
 
--- ---- taking: 2, 9, 10, 16, 13, 14, 15
+-- ---- [9.13] taking
 
 pub record TakingMarked : Type 0 where
   -- the first page fixes the snapshot, a last one makes the list complete; what stands behind the items stays
@@ -182,18 +182,18 @@ pub record TakingMarked : Type 0 where
   pub line9 : took begun noLine ≡ refused 9
   pub kind10 : took begun sampleAsk ≡ refused 10
   pub whole16 : took whole (answers 7 1 5 1 4 0 2 second) ≡ refused 16
-  -- another table; a late first answer; another mark
+  -- [7.5] another table; an answer from the start that comes late; another mark
   pub table13 : took begun (answers 8 1 5 1 4 0 2 second) ≡ refused 13
   pub late13 : took begun sampleAnswer ≡ refused 13
   pub mark13 : took begun (answers 7 1 5 1 1 0 2 second) ≡ refused 13
-  -- not rising; not after the mark; over reach; numbered at the snapshot; none and not last
+  -- [7.6] out of order; before the mark; beyond the reach; a number as large as the snapshot; empty, and more to come
   pub rising14 : took begun (answers 7 1 5 1 4 0 2 exchanged) ≡ refused 14
   pub after14 : took begun (answers 7 1 5 1 4 0 1 (itemAt 3 104 1)) ≡ refused 14
   pub reach14 : took begun (answers 7 1 5 1 4 0 1 (itemAt 2 103 6)) ≡ refused 14
   pub number14 : took begun (answers 7 1 5 1 4 0 1 (itemAt 5 106 2)) ≡ refused 14
   pub none14 : took begun (answers 7 1 5 1 4 0 0 []) ≡ refused 14
   pub room15 : took (held (listOf 0 true 5 2 false) (pageRoom 3)) (answers 7 1 5 1 4 0 2 second) ≡ refused 15
-  -- of two the earlier; a refusal leaves all as it was
+  -- of two the earlier; [9.2] a refusal leaves all as it was
   pub first2 : took spoiled noLine ≡ refused 2
   pub first9 : took begun (askBytes 1 7 0 0 0 0 2) ≡ refused 9
   pub first10 : took whole sampleAsk ≡ refused 10
@@ -201,7 +201,7 @@ pub record TakingMarked : Type 0 where
   pub first13 : took begun (answers 8 1 5 1 4 0 2 exchanged) ≡ refused 13
   pub first14 : took (held (listOf 0 true 5 2 false) (pageRoom 3)) (answers 7 1 5 1 4 0 2 exchanged) ≡ refused 14
 
--- ---- bare writers: 10, 12; bare readers: 9, 10
+-- ---- [9.14] bare writers; [9.15] bare readers
 
 pub record LinesMarked : Type 0 where
   pub askWritten : writesAsk (opens 1 1 four) (scope 0 0 0 0) 2 longestAsk ≡ gives sampleAsk

@@ -27,17 +27,17 @@ use Rattle.paper.specs.Limits.{itemRoom, mostPage, mostPlaces}
 
 -- ---- the kinds of ask and answer
 
--- the kind of an ask in an order; 0 is none, and lists in far order have no lines yet
+-- [2.1] [5.5] the kind of an ask in an order; 0 is none, and lists in far order have no lines yet
 abbrev pub askKind : Order → ℕ
 askKind Near = 1
 askKind Far = 0
 
--- the kind of an answer in an order
+-- [2.1] [5.6] the kind of an answer in an order
 abbrev pub answerKind : Order → ℕ
 answerKind Near = 2
 answerKind Far = 0
 
--- the orders that have kinds of line
+-- [2.1] the orders that have kinds of line
 abbrev pub spoken : Order → Bool
 spoken o = leb 1 (askKind o)
 
@@ -47,28 +47,29 @@ askOrder k = cond (eqb k (askKind Far)) Far Near
 
 -- ---- writing and reading, whatever the kind
 
--- how a call that writes a line shows its outcome: the line's length, or the refusal's number
+-- [5.12] how a call that writes a line shows its outcome: the line's length, or the refusal's number
 unfoldable pub wroteOf : Outcome (List ℕ) → Wrote
 wroteOf (refused n) = Refused n
 wroteOf (gives line) = Line (length line)
 
--- the line stands at the front of the output room, and the bytes behind it are kept
+-- [5.12] the line stands at the front of the output room, and the bytes behind it are kept
 abbrev pub putLine : List ℕ → List ℕ → List ℕ
 putLine line out = line ++ drop (length line) out
 
--- what every call that writes a line promises
+-- [9.3] what every call that writes a line promises
 abbrev pub Writes : Outcome (List ℕ) → List ℕ → Wrote → List ℕ → Type 0
 Writes o before r after = Promise wroteOf putLine o before r after
 
--- a bare writer refuses by 10 and 12: by whether the fields fit, the room that the kind needs, the frame, and the room's length
+-- [9.14] [8.12] a bare writer refuses by 10 and 12: by whether the fields fit, the room that the kind needs, the frame, and the
+-- room's length
 unfoldable pub bareLine : Bool → ℕ → List ℕ → ℕ → Outcome (List ℕ)
 bareLine fits need f out = must fits 10 (must (leb need out) 12 (gives (lineOf f)))
 
--- "Bare line readers: 9, 10." By a kind's test, the value of its frame, and what stands beside a refusal
+-- [9.15] a bare reader refuses by 9 and 10: by a kind's test, the value of its frame, and what stands beside a refusal
 unfoldable pub reading : {A : Type 0} → (List ℕ → Bool) → (List ℕ → A) → (ℕ → A) → List ℕ → A
 reading ok value none l = cond (sound l) (cond (ok (frameOf l)) (value (frameOf l)) (none 10)) (none 9)
 
--- a frame that begins with a head of kind k, in range; none is of kind 0
+-- [5.4] [8.10] a frame that begins with a head of kind k, in range; none is of kind 0
 unfoldable pub headOk : ℕ → List ℕ → Bool
 headOk k f = leb 1 k && (eqb (num 1 f) k && inRange (num 1 (drop 5 f)) (num 1 (drop 6 f)))
 
@@ -76,7 +77,7 @@ headOk k f = leb 1 k && (eqb (num 1 f) k && inRange (num 1 (drop 5 f)) (num 1 (d
 unfoldable pub behind : List ℕ → List ℕ
 behind f = drop (7 + 4 * num 1 (drop 6 f)) f
 
--- the query of an ask's or an answer's frame
+-- [5.5] [5.6] the query of an ask's or an answer's frame
 unfoldable pub queryAt : Order → List ℕ → queries.Query
 queryAt o f =
     record {
@@ -88,11 +89,11 @@ queryAt o f =
       reach = num 8 (behind f);
     }
 
--- a query that a line can carry: "in a bare writer also probe .. not as many as the fields say"
+-- [8.10] a query that a line can carry: of an order that has lines, in range, and with a probe of the length that d says
 unfoldable pub queryFits : Query → Bool
 queryFits q = spoken (q .order) && (inRange (q .measure) (q .d) && eqb (length (q .probe)) (q .d))
 
--- the fields of a refused line
+-- [5.14] the fields of a refused line
 abbrev pub noQuery : queries.Query
 noQuery = record { order = Near; table = 0; measure = 0; d = 0; probe = replicate mostPlaces (pos 0); reach = 0 }
 
@@ -101,19 +102,19 @@ noScope = record { from = 0; snapshot = 0; distance = 0; number = 0 }
 
 -- ---- ask
 
--- ".. mark number 2, page size 1"
+-- [5.5] the frame of an ask, which ends in its page size
 unfoldable pub askFrame : Query → Scope → ℕ → List ℕ
 askFrame q p s = front (askKind (q .order)) q p ++ be 1 s
 
--- "page size 1 to 16"; with from 0 "in an ask the snapshot is 0 too"
+-- [4.3] [5.10] the page size is in its range, and at the start an ask's snapshot is 0
 unfoldable pub askRanges : Scope → ℕ → Bool
 askRanges p s = scopeOk p && ((eqb (p .from) 1 || eqb (p .snapshot) 0) && (leb 1 s && leb s mostPage))
 
--- "a field outside its range or zero rule"
+-- [8.10] fields that an ask can have
 unfoldable pub askFits : Query → Scope → ℕ → Bool
 askFits q p s = queryFits q && askRanges p s
 
--- "kind not the expected one, length wrong, or a field outside its range or zero rule"; "An ask has 29+4d bytes"
+-- [8.10] [5.5] a frame of kind k that is laid out as an ask: its length, and its fields in their ranges
 unfoldable pub askOk : ℕ → List ℕ → Bool
 askOk k f =
     headOk k f && (eqb (length f) (29 + 4 * num 1 (drop 6 f)) && askRanges (scopeIn (behind f)) (num 1 (drop 21 (behind f))))
@@ -122,30 +123,32 @@ askOk k f =
 unfoldable pub isAsk : List ℕ → Bool
 isAsk f = askOk (askKind (askOrder (num 1 f))) f
 
+-- [5.5] the fields of an ask's frame
 unfoldable pub askAt : List ℕ → Ask
 askAt f = record { query = queryAt (askOrder (num 1 f)) f; scope = scopeIn (behind f); size = num 1 (drop 21 (behind f)) }
 
 unfoldable pub anAsk : Ask → AskRead
 anAsk a = record { refusal = 0; ask = a }
 
+-- [5.14] beside a refusal all is 0
 unfoldable pub noAsk : ℕ → AskRead
 noAsk n = record { refusal = n; ask = record { query = noQuery; scope = noScope; size = 0 } }
 
--- what reading a line as an ask gives
+-- [9.15] what reading a line as an ask gives
 unfoldable pub askOf : List ℕ → AskRead
 askOf l = reading isAsk (λ f. anAsk (askAt f)) noAsk l
 
 -- ---- answer
 
--- "the same up to mark number, then last 1, item count 1, items"
+-- [5.6] the frame of an answer: behind the mark it has last, item count and items
 unfoldable pub answerFrame : Query → Scope → ℕ → ℕ → List ℕ → List ℕ
 answerFrame q p last n ns = front (answerKind (q .order)) q p ++ (be 1 last ++ (be 1 n ++ itemBytes ns))
 
--- "last 0 or 1, item count 0 to 16"
+-- [5.8] [5.9] last is a flag, and the item count in its range
 unfoldable pub answerRanges : Scope → ℕ → ℕ → Bool
 answerRanges p last n = scopeOk p && (leb last 1 && leb n mostPage)
 
--- "in a bare writer also .. items not as many as the fields say"
+-- [8.10] fields that an answer can have, with as many items as it counts
 unfoldable pub answerFits : Query → Scope → ℕ → ℕ → List ℕ → Bool
 answerFits q p last n ns =
     queryFits q && (answerRanges p last n && (eqb (length ns) (3 * n) && (referencesOk ns && numbersOk ns)))
@@ -154,13 +157,14 @@ answerFits q p last n ns =
 unfoldable pub countIn : List ℕ → ℕ
 countIn f = num 1 (drop 22 (behind f))
 
--- "an answer 30+4d+14 for each item"
+-- [8.10] [5.6] a frame of kind k that is laid out as an answer: its length, and its fields in their ranges
 unfoldable pub answerOk : ℕ → List ℕ → Bool
 answerOk k f =
     headOk k f
     && (eqb (length f) (30 + 4 * num 1 (drop 6 f) + 14 * countIn f)
     && (answerRanges (scopeIn (behind f)) (num 1 (drop 21 (behind f))) (countIn f) && numbersOk (itemsIn (countIn f) (drop 23 (behind f)))))
 
+-- [5.6] the fields of an answer's frame
 unfoldable pub answerAt : Order → List ℕ → Answer
 answerAt o f =
     record {
@@ -174,28 +178,30 @@ answerAt o f =
 unfoldable pub anAnswer : Answer → AnswerRead
 anAnswer a = record { refusal = 0; answer = a }
 
+-- [5.14] beside a refusal all is 0
 unfoldable pub noAnswer : ℕ → AnswerRead
 noAnswer n =
     record { refusal = n; answer = record { query = noQuery; scope = noScope; last = 0; count = 0; items = replicate itemRoom 0 } }
 
--- what reading a line as an answer in an order gives
+-- [9.15] what reading a line as an answer in an order gives
 unfoldable pub answerOf : Order → List ℕ → AnswerRead
 answerOf o l = reading (answerOk (answerKind o)) (λ f. anAnswer (answerAt o f)) noAnswer l
 
 -- ---- claim
 
--- "kind 1, table 4, measure 1, d 1, reference 4, coordinates 4d"
+-- [5.7] the frame of a claim: head, reference, point
 unfoldable pub claimFrame : ℕ → ℕ → ℕ → ℕ → List ℤ → List ℕ
 claimFrame t m d r cs = head 3 t m d ++ (be 4 r ++ coordBytes cs)
 
--- "in a bare writer also .. coordinates .. not as many as the fields say"
+-- [8.10] fields that a claim can have, with a point of the length that d says
 unfoldable pub claimFits : ℕ → ℕ → List ℤ → Bool
 claimFits m d cs = inRange m d && eqb (length cs) d
 
--- "a claim 11+4d"
+-- [8.10] [5.7] a frame that is a claim: its length, and its head in range
 unfoldable pub claimOk : List ℕ → Bool
 claimOk f = headOk 3 f && eqb (length f) (11 + 4 * num 1 (drop 6 f))
 
+-- [5.7] the fields of a claim's frame
 unfoldable pub claimAt : List ℕ → ClaimLine
 claimAt f =
     record {
@@ -209,10 +215,11 @@ claimAt f =
 unfoldable pub aClaim : ClaimLine → ClaimRead
 aClaim c = record { refusal = 0; claim = c }
 
+-- [5.14] beside a refusal all is 0
 unfoldable pub noClaim : ℕ → ClaimRead
 noClaim n =
     record { refusal = n; claim = record { table = 0; measure = 0; d = 0; reference = 0; coordinates = replicate mostPlaces (pos 0) } }
 
--- what reading a line as a claim gives
+-- [9.15] what reading a line as a claim gives
 unfoldable pub claimOf : List ℕ → ClaimRead
 claimOf l = reading claimOk (λ f. aClaim (claimAt f)) noClaim l

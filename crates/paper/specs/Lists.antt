@@ -14,6 +14,7 @@ use Rattle.paper.specs.Ends.{Codec, Listing, opening, every, sameZ, soun
 use Rattle.paper.specs.Fields.{inPlaces}
 use Rattle.paper.specs.Lines.{spoken, noQuery}
 
+-- [7.3] a list's fields, with the room that its items stand in
 pub record Held : Type 0 where
   pub list : lists.List
   pub room : List ℕ
@@ -21,7 +22,7 @@ pub record Held : Type 0 where
 abbrev pub held : lists.List → List ℕ → Held
 held l room = record { list = l; room = room }
 
--- "Each item is number, reference, distance": the first k items of a room
+-- [2.6] the first k items of a room, three numbers for each
 unfoldable pub itemsIn : ℕ → List ℕ → List Item
 itemsIn zero r = []
 itemsIn (suc k) r = record { number = getD r 0 0; reference = getD r 1 0; distance = getD r 2 0 } ∷ itemsIn k (drop 3 r)
@@ -41,26 +42,27 @@ listing s =
       items = itemsIn (s .list .count) (s .room);
     }
 
--- "unused probe places are 0"
+-- [7.9] the unused coordinates of a probe are 0
 unfoldable pub unusedZero : ℕ → List ℤ → Bool
 unusedZero d probe = every (sameZ (pos 0)) (drop d probe)
 
--- what soundness asks of a query as code holds it: an order that has lines, and zeros behind the probe
+-- [7.9] what soundness asks of a query as code holds it: an order that has lines, and zeros behind the probe
 unfoldable pub heldWell : queries.Query → Bool
 heldWell q = spoken (q .order) && unusedZero (q .d) (q .probe)
 
--- "A list is sound when"
+-- [7.9] [7.10] [7.11] [8.2] a sound list in lent memory
 unfoldable pub soundHeld : Held → Bool
 soundHeld s = heldWell (s .list .query) && soundIn (roomFor s) (listing s)
 
--- the fields of a list that was just opened
+-- [7.1] [7.2] the fields of a list that was just opened
 unfoldable pub openedAs : Query → lists.List
 openedAs q = record { query = inPlaces q; started = false; snapshot = 0; count = 0; complete = false }
 
+-- [9.11] opening a list
 unfoldable pub openingHeld : Query → Outcome lists.List
 openingHeld q = onto (opening q) (λ L. gives (openedAs q))
 
--- the list beside a refusal
+-- [9.11] the list beside a refusal
 abbrev pub noList : lists.List
 noList = record { query = noQuery; started = false; snapshot = 0; count = 0; complete = false }
 
@@ -69,15 +71,15 @@ unfoldable pub openedTold : Outcome lists.List → Opened
 openedTold (refused n) = record { refusal = n; list = noList }
 openedTold (gives l) = record { refusal = 0; list = l }
 
--- "Writing an ask: 2, 16, 6, 12."
+-- [9.12] writing the present ask
 unfoldable pub askingHeld : Codec → Held → ℕ → ℕ → Outcome (List ℕ)
 askingHeld c s size out = must (heldWell (s .list .query)) 2 (asking c (roomFor s) size out (listing s))
 
--- "Taking: 2, 9, 10, 16, 13, 14, 15."
+-- [9.13] taking a line
 unfoldable pub takingHeld : Codec → Held → List ℕ → Outcome Listing
 takingHeld c s line = must (heldWell (s .list .query)) 2 (taking c (roomFor s) (listing s) line)
 
--- a list's fields after it took items: what it was opened with stays
+-- [7.1] a list's fields after it took items: what it was opened with stays
 abbrev pub tookFields : lists.List → Listing → lists.List
 tookFields l L =
     record {
@@ -88,12 +90,12 @@ tookFields l L =
       complete = L .complete;
     }
 
--- how taking shows its outcome: 0 beside the list as it then stands, or the refusal's number beside the list as it came
+-- [9.13] how taking shows its outcome: 0 beside the list as it then stands, or the refusal's number beside the list as it came
 abbrev pub takenAs : lists.List → Outcome Listing → Taken
 takenAs l (refused n) = record { refusal = n; list = l }
 takenAs l (gives L) = record { refusal = 0; list = tookFields l L }
 
--- the items stand at the front of the list's room, and what is behind them is kept
+-- [7.7] the items stand at the front of the list's room, and what is behind them is kept
 abbrev pub putItems : Listing → List ℕ → List ℕ
 putItems L room = fronted (L .items) room
 

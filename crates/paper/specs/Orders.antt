@@ -1,4 +1,4 @@
--- Document 01, "Near order" and "Asking": what measuring every stored claim gives. Definitions only.
+-- Sections 2 and 4 of the rules: orders and questions, by measuring every stored claim. Definitions only.
 use Prim.Native.Nat.{ℕ, zero, suc, _+_, _-_, _*_, _^_}
 use mathlib.Core.Bool.{Bool, true, cond, _&&_, _||_}
 use mathlib.Core.List.{List, [], _∷_, _++_}
@@ -15,7 +15,7 @@ use Rattle.paper.specs.declared.orders.Place.the-variants.{Start, After}
 use Rattle.paper.specs.declared.queries.Query as queries
 use Rattle.paper.specs.Points.{measureOf, distance, greatestOf, Claim, noClaim}
 
--- "Each item is number, reference, distance."
+-- [2.6] what an item shows of a claim
 pub record Item : Type 0 where
   pub number : ℕ
   pub reference : ℕ
@@ -24,7 +24,7 @@ pub record Item : Type 0 where
 abbrev pub noItem : Item
 noItem = record { number = 0; reference = 0; distance = 0 }
 
--- what a list is opened with, "table number, measure, d, probe and reach", and its order
+-- [7.1] what a list is opened for and keeps, with its order
 pub record Query : Type 0 where
   pub order : Order
   pub table : ℕ
@@ -33,7 +33,7 @@ pub record Query : Type 0 where
   pub probe : List ℤ
   pub reach : ℕ
 
--- a query as code holds it: of the eight places of its probe the first d count
+-- [7.3] a query as code holds it: of the eight places of its probe the first d count
 abbrev pub queryIn : queries.Query → Query
 queryIn q =
     record {
@@ -45,24 +45,24 @@ queryIn q =
       reach = q .reach;
     }
 
--- an order's rank of a distance: "smaller distance from the probe first" in near order, "the largest distance" in far order
+-- [2.1] [2.2] an order's rank of a distance: in near order itself, in far order turned round
 unfoldable pub rank : Order → ℕ → ℕ
 rank Near x = x
 rank Far x = 2 ^ 64 - 1 - x
 
--- "smaller distance from the probe first, then smaller number": distance x and number k stand before distance y and number j
+-- [2.3] distance x and number k stand before distance y and number j: by rank, and by number at equal ranks
 unfoldable pub before : Order → ℕ → ℕ → ℕ → ℕ → Bool
 before o x k y j = ltb (rank o x) (rank o y) || (eqb (rank o x) (rank o y) && ltb k j)
 
 abbrev pub earlier : Order → Item → Item → Bool
 earlier o a b = before o (a .distance) (a .number) (b .distance) (b .number)
 
--- an item put in its place
+-- [2.3] an item put in its place
 unfoldable pub insert : Order → Item → List Item → List Item
 insert o a [] = a ∷ []
 insert o a (b ∷ l) = cond (earlier o a b) (a ∷ b ∷ l) (b ∷ insert o a l)
 
--- claim k, measured
+-- [2.6] claim k, measured
 unfoldable pub itemOf : Query → List Claim → ℕ → Item
 itemOf q cs k =
     record {
@@ -71,51 +71,52 @@ itemOf q cs k =
       distance = distance (measureOf (q .measure)) (q .d) (getD cs k noClaim .place) (q .probe);
     }
 
--- "claims numbered below the snapshot and within reach", "bound included", in order
+-- [2.4] [2.5] each claim within reach whose number is below the snapshot, once, in order
 unfoldable pub listed : Query → List Claim → ℕ → List Item
 listed q cs zero = []
 listed q cs (suc k) =
     cond (leb (itemOf q cs k .distance) (q .reach)) (insert (q .order) (itemOf q cs k) (listed q cs k)) (listed q cs k)
 
--- "the mark is distance 0, number 0, and holds back no claim"
+-- [2.8] the start mark
 abbrev pub startMark : Mark
 startMark = record { distance = 0; number = 0 }
 
--- "a mark, which is a distance with a number"
+-- a mark by its distance and number
 abbrev pub markAt : ℕ → ℕ → Mark
 markAt x k = record { distance = x; number = k }
 
--- "that come after the mark"; from the start "no mark applies"
+-- [2.7] [2.8] an item comes after a place: each one after the start, and otherwise those that stand behind the mark
 unfoldable pub follows : Order → Place → Item → Bool
 follows o Start a = true
 follows o (After n m) a = before o (m .distance) (m .number) (a .distance) (a .number)
 
+-- [4.4] [4.5] what a place does not keep back
 unfoldable pub rest : Order → Place → List Item → List Item
 rest o p [] = []
 rest o p (a ∷ l) = cond (follows o p a) (a ∷ rest o p l) (rest o p l)
 
--- "From the start, the snapshot is the present count"
+-- [4.4] [4.5] the snapshot: at the start the count at that moment, and otherwise the place's own
 abbrev pub snapshotOf : Place → ℕ → ℕ
 snapshotOf Start count = count
 snapshotOf (After n m) count = n
 
--- 7: "snapshot over the count"
+-- [8.7] the snapshot is not larger than the count
 unfoldable pub snapshotHolds : List Claim → Place → Bool
 snapshotHolds cs p = leb (snapshotOf p (length cs)) (length cs)
 
--- the claims that a page is taken from
+-- [4.6] what a page is taken from: listed, and not kept back
 unfoldable pub following : Query → List Claim → Place → List Item
 following q cs p = rest (q .order) p (listed q cs (snapshotOf p (length cs)))
 
--- "it gives the first page-size ones that come after the mark"
+-- [4.6] a page: the first of these, up to its size
 unfoldable pub pageOf : Query → List Claim → Place → ℕ → List Item
 pageOf q cs p size = take size (following q cs p)
 
--- "Last is set exactly when the page holds fewer claims than the page size."
+-- [4.7] a page is the last when it has fewer items than its size
 unfoldable pub lastOf : ℕ → List Item → Bool
 lastOf size r = ltb (length (take size r)) size
 
--- "the first claim in near order, or Nothing exactly if none is within reach"
+-- [4.1] [4.2] what nearest and farthest give: nothing, or an item
 pub data Found : Type 0 where
   nothing : Found
   found : Item → Found
@@ -134,10 +135,11 @@ unfoldable pub firstOf : List Item → Found
 firstOf [] = nothing
 firstOf (a ∷ l) = found a
 
+-- [4.1] the first item within reach, in the query's order
 unfoldable pub nearestOf : Query → List Claim → Found
 nearestOf q cs = firstOf (listed q cs (length cs))
 
--- "the largest distance, then the smallest number": no claim lies beyond the measure's greatest distance
+-- [4.2] [1.9] the query in far order, with a reach that leaves out no claim: the measure's greatest distance
 abbrev pub farQuery : Query → Query
 farQuery q =
     record {
@@ -149,20 +151,21 @@ farQuery q =
       reach = greatestOf (measureOf (q .measure)) (q .d);
     }
 
+-- [4.2] the first item in far order
 unfoldable pub farthestOf : Query → List Claim → Found
 farthestOf q cs = firstOf (listed (farQuery q) cs (length cs))
 
--- 8: "mark number not below the snapshot, or mark distance not that claim's distance, or over reach"
+-- [8.8] the mark's number is under the snapshot, and its distance is that claim's and not beyond the reach
 unfoldable pub markHolds : Query → List Claim → Place → Bool
 markHolds q cs Start = true
 markHolds q cs (After n m) =
     ltb (m .number) n && (eqb (m .distance) (itemOf q cs (m .number) .distance) && leb (m .distance) (q .reach))
 
--- a page's items as numbers, three for each
+-- [2.6] a page's items as numbers, three for each
 unfoldable pub flat : List Item → List ℕ
 flat [] = []
 flat (a ∷ l) = a .number ∷ a .reference ∷ a .distance ∷ flat l
 
--- "The page comes back as the filled front of the caller's room; rooms behind it keep their contents."
+-- [4.8] the items at the front of a room, whose rest stays
 unfoldable pub fronted : List Item → List ℕ → List ℕ
 fronted l room = flat l ++ drop (3 * length l) room

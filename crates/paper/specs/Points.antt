@@ -1,4 +1,4 @@
--- Document 01, "Points and measures". Definitions only.
+-- Section 1 of the rules: points, and how far they are apart. Definitions only.
 use Prim.Native.Nat.{ℕ, zero, suc, _+_, _*_, _≤_, min, max}
 use mathlib.Core.Bool.{Bool, cond, _&&_}
 use mathlib.Core.List.{List}
@@ -9,34 +9,34 @@ use Rattle.paper.specs.declared.points.Measure.{Measure}
 use Rattle.paper.specs.declared.points.Measure.the-variants.{CityBlock, Maximum, Hamming}
 use Rattle.paper.specs.Limits.{mostPlaces, firstMeasure, lastMeasure}
 
--- "Measure 1, city block"; "Measure 2, maximum"; "Measure 3, Hamming"
+-- [1.5] the measure of a number: 1 is city block, 2 maximum, 3 Hamming
 unfoldable pub measureOf : ℕ → Measure
 measureOf n = cond (eqb n 1) CityBlock (cond (eqb n 2) Maximum Hamming)
 
--- what one coordinate counts: "the absolute coordinate differences"; for Hamming 1 where it differs
+-- [1.5] [1.8] what one coordinate counts: how far it differs, taken exactly; for Hamming 1 where it is not the same
 unfoldable pub weigh : Measure → ℤ → ℤ → ℕ
 weigh CityBlock x y = natAbs (x -ℤ y)
 weigh Maximum x y = natAbs (x -ℤ y)
 weigh Hamming x y = min 1 (natAbs (x -ℤ y))
 
--- "the sum"; "the largest"; "how many coordinates differ"
+-- [1.6] [1.7] [1.8] what coordinates count together: added up, the one that differs most, counted
 unfoldable pub joined : Measure → ℕ → ℕ → ℕ
 joined CityBlock a b = a + b
 joined Maximum a b = max a b
 joined Hamming a b = a + b
 
--- the distance of two points of d coordinates
+-- [1.6] [1.7] [1.8] the distance of two points of d coordinates
 unfoldable pub distance : Measure → ℕ → List ℤ → List ℤ → ℕ
 distance m zero p q = 0
 distance m (suc d) p q = joined m (distance m d p q) (weigh m (getD p d (pos 0)) (getD q d (pos 0)))
 
--- "for measure 1, d × 4,294,967,295 (34,359,738,360 at d = 8); for measure 2, 4,294,967,295; for measure 3, d"
+-- [1.9] the greatest distance of two points of d coordinates
 unfoldable pub greatestOf : Measure → ℕ → ℕ
 greatestOf CityBlock d = d * 4294967295
 greatestOf Maximum d = 4294967295
 greatestOf Hamming d = d
 
--- "measure 1 to 3, d 1 to 8": in tables, lists and lines alike
+-- [1.3] [1.5] there are such a measure and such a d: in tables, lists and lines alike
 unfoldable pub inRange : ℕ → ℕ → Bool
 inRange measure d = (leb firstMeasure measure && leb measure lastMeasure) && (leb 1 d && leb d mostPlaces)
 
@@ -47,7 +47,7 @@ pub record InRange (measure d : ℕ) : Type 0 where
   pub wide : 1 ≤ d
   pub narrow : d ≤ mostPlaces
 
--- "A claim has a number (0 for the first entered, then rising by one), a reference (..) and d coordinates"; its number is its place in a list of claims
+-- [1.1] [1.2] a claim's reference and point; its number is its place in a list of claims
 pub record Claim : Type 0 where
   pub reference : ℕ
   pub place : List ℤ
@@ -55,6 +55,6 @@ pub record Claim : Type 0 where
 abbrev pub noClaim : Claim
 noClaim = record { reference = 0; place = List.[] }
 
--- the place of claim k, where the claims' coordinates stand one after another
+-- [1.4] the point of claim k, where the claims' coordinates stand one after another
 unfoldable pub point : ℕ → List ℤ → ℕ → List ℤ
 point d coordinates k = take d (drop (k * d) coordinates)

@@ -1,4 +1,4 @@
--- Document 01, "The program": what `office` says to the bytes of its standard input. Definitions only.
+-- Section 10 of the rules: what `office` says to the bytes of its standard input. Definitions only.
 use Prim.Native.Nat.{ℕ, zero, suc, _+_, _-_, _/_, _%_}
 use mathlib.Core.Bool.{Bool, cond, _&&_}
 use mathlib.Core.List.{List, [], _∷_, _++_}
@@ -20,33 +20,33 @@ pub data Books : Type 0 where
   closed : Books
   opened : Table → Books
 
--- "capacity 1,024. The first well-formed claim line sets table number, measure and d"
+-- [10.1] [10.2] the table that a claim is for: the first claim gives it number, measure and d
 unfoldable pub tableFor : Books → ClaimLine → Table
 tableFor closed c = record { number = c .table; measure = c .measure; d = c .d; capacity = officeClaims; claims = [] }
 tableFor (opened t) c = t
 
--- 11: "table number, measure or d not this table's"
+-- [6.2] [8.11] a claim line is for a table
 unfoldable pub ours : Table → ClaimLine → Bool
 ours t c = eqb (c .table) (t .number) && (eqb (c .measure) (t .measure) && eqb (c .d) (t .d))
 
--- the claim that a line tells
+-- [5.7] the claim that a line tells
 unfoldable pub claimIn : ClaimLine → Claim
 claimIn c = record { reference = c .reference; place = take (c .d) (c .coordinates) }
 
--- a claim behind those that the table has
+-- [3.14] a claim behind those that the table has
 unfoldable pub withClaim : Table → Claim → Table
 withClaim t c =
     record { number = t .number; measure = t .measure; d = t .d; capacity = t .capacity; claims = t .claims ++ (c ∷ []) }
 
--- "Checks: .. 11, then 3 for a claim"
+-- [10.6] [8.11] [8.3] a claim is tested for 11 and 3, and entered
 unfoldable pub entering : Table → ClaimLine → Outcome Table
 entering t c = must (ours t c) 11 (must (leb (count t + 1) (t .capacity)) 3 (gives (withClaim t (claimIn c))))
 
--- "11, then .. 7, 8 for an ask": the answer's line
+-- [10.6] [6.1] an ask is tested for 11, 7 and 8, and answered
 unfoldable pub replyTo : Table → Ask → Outcome (List ℕ)
 replyTo t a = onto (answerTo t a) (λ y. gives (answerLine y))
 
--- "before any claim, a line that passes 9 and 10 and is no claim gives 11"
+-- [10.7] an ask before any claim is refused with 11
 unfoldable pub reply : Books → Ask → Outcome (List ℕ)
 reply closed a = refused 11
 reply (opened t) a = replyTo t a
@@ -55,7 +55,7 @@ reply (opened t) a = replyTo t a
 unfoldable pub decimal : ℕ → List ℕ
 decimal n = cond (ltb n 10) ((48 + n) ∷ []) ((48 + n / 10) ∷ (48 + n % 10) ∷ [])
 
--- "a refused line prints `refused N`", on a line of its own
+-- [10.5] what is printed for a refused line
 unfoldable pub refusal : ℕ → List ℕ
 refusal n = (114 ∷ 101 ∷ 102 ∷ 117 ∷ 115 ∷ 101 ∷ 100 ∷ 32 ∷ []) ++ (decimal n ++ (10 ∷ []))
 
@@ -67,24 +67,24 @@ pub record Turn : Type 0 where
 abbrev pub turn : Books → List ℕ → Turn
 turn b said = record { books = b; said = said }
 
--- "Later claim lines are entered silently"
+-- [10.3] a claim that is entered prints nothing
 unfoldable pub claimTurn : Books → Outcome Table → Turn
 claimTurn b (refused n) = turn b (refusal n)
 claimTurn b (gives t) = turn (opened t) []
 
--- "each ask line prints its answer line"
+-- [10.4] an ask prints its answer
 unfoldable pub askTurn : Books → Outcome (List ℕ) → Turn
 askTurn b (refused n) = turn b (refusal n)
 askTurn b (gives line) = turn b line
 
--- 10: "kind not the expected one, length wrong, or a field outside its range or zero rule"; claims and asks are expected
+-- [10.6] a claim, an ask, or neither, which is refused with 10
 unfoldable pub frameTurn : Books → List ℕ → Turn
 frameTurn b f =
     cond (claimOk f)
     (claimTurn b (entering (tableFor b (claimAt f)) (claimAt f)))
     (cond (isAsk f) (askTurn b (reply b (asked (askAt f)))) (turn b (refusal 10)))
 
--- "Checks: 9, 10, 11, then 3 for a claim or 7, 8 for an ask"
+-- [10.6] [10.8] what is no line is refused with 9, and so is one that is too long
 unfoldable pub lineTurn : Books → List ℕ → Turn
 lineTurn b line = cond (sound line) (frameTurn b (frameOf line)) (turn b (refusal 9))
 
@@ -110,11 +110,11 @@ ended o l =
 abbrev pub holding : Office → List ℕ → Office
 holding o h = record { books = o .books; held = h; left = o .left; said = o .said }
 
--- a byte is read: lines are ended by 0A
+-- [10.8] [10.10] a byte is read, where a line is left to read; a line reaches to its 0A
 unfoldable pub byte : Office → ℕ → Office
 byte o x = cond (eqb (o .left) 0) o (cond (eqb x 10) (ended o (o .held ++ (x ∷ []))) (holding o (o .held ++ (x ∷ []))))
 
--- bytes are read
+-- [10.11] bytes are read, however they come
 unfoldable pub fed : Office → List ℕ → Office
 fed o [] = o
 fed o (x ∷ xs) = fed (byte o x) xs
@@ -124,11 +124,11 @@ atEnd zero o h = o
 atEnd (suc n) o [] = o
 atEnd (suc n) o (x ∷ h) = ended o (x ∷ h)
 
--- the input is over: "a last one without 0A" is a line
+-- [10.9] the input is over: bytes behind the last 0A are a line too
 unfoldable pub over : Office → Office
 over o = atEnd (o .left) o (o .held)
 
--- "No line after the 4,294,967,295th is read."
+-- [10.10] the office before its first byte, with all the lines that it may read
 unfoldable pub start : Office
 start = record { books = closed; held = []; left = 4294967295; said = [] }
 

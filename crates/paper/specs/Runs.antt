@@ -1,4 +1,4 @@
--- Document 01, "Building the tree" and "Numbers given back": making an empty table, and entering claims in runs. Definitions only.
+-- Sections 3 and 9 of the rules: making an empty table, and entering claims in runs. Definitions only.
 use Prim.Native.Nat.{ℕ, zero, suc, _+_, _*_}
 use mathlib.Core.List.{List}
 use lib.Dec.{leb, eqb}
@@ -12,12 +12,12 @@ use Rattle.paper.specs.Points.{point}
 use Rattle.paper.specs.Tree.{Grown, entered, Store, store, Memory, memory, apart, referenceAt, withReference, fits, sound}
 use Rattle.paper.specs.Outcomes.{Outcome, refused, gives, must}
 
--- a table before any claim: nothing is entered, and no node room is in use
+-- [3.16] a table before any claim: nothing is entered, and no node room is in use
 abbrev pub emptyTable : ℕ → ℕ → ℕ → ℕ → Table
 emptyTable number measure d capacity =
     record { number = number; measure = measure; d = d; capacity = capacity; count = 0; used = 0 }
 
--- "Making an empty table: 1."
+-- [9.4] [3.16] making a table gives its header
 unfoldable pub makeCall : Store → Outcome Table
 makeCall s = must (fits s) 1 (gives (s .table))
 
@@ -26,7 +26,7 @@ abbrev pub madeShown : Outcome Table → Made
 madeShown (refused n) = Made.Refused n
 madeShown (gives t) = Made.Table t
 
--- the header with one claim more, and so many rooms in use
+-- [3.14] the header with one claim more, and so many rooms in use
 abbrev pub counted : Table → ℕ → Table
 counted t used =
     record { number = t .number; measure = t .measure; d = t .d; capacity = t .capacity; count = t .count + 1; used = used }
@@ -40,18 +40,18 @@ abbrev pub withNext : Store → List ℕ → List ℤ → Store
 withNext s references coordinates =
     store (counted (s .table) (nextGrown s coordinates .used)) references coordinates (nextGrown s coordinates .rooms)
 
--- one claim more, with reference r and place p, which are put behind the claims that stand there; what lies behind them is kept
+-- [3.13] [3.14] one claim more, with reference r and place p, which are put behind those that are there; what lies behind is kept
 unfoldable pub added : Store → ℕ → List ℤ → Store
 added s r p =
     withNext s (withReference (s .references) (s .table .count) r) (paste (s .coordinates) (s .table .count * s .table .d) p (s .table .d))
 
--- the first i claims of a run, one by one
+-- [3.15] the first i claims of a run, one by one
 unfoldable pub addedRun : List ℕ → List ℤ → ℕ → Store → Store
 addedRun given places zero s = s
 addedRun given places (suc i) s = added (addedRun given places i s) (referenceAt given i) (point (s .table .d) places i)
 
--- "Claims are entered in runs: a run goes in whole or not at all; an empty run is accepted." "Entering: 1, 2, 5, 3, 4."
--- 5: "a run's coordinates not d for each reference"; 3: "count plus run over capacity"; 4: "no node room free", where each claim may need one
+-- [9.6] [3.15] all claims of a run are entered, or none: 5 where there are not d coordinates for each [8.5], 3 where the capacity leaves
+-- too few claims free [8.3], 4 where it leaves too few nodes, one for each claim [8.4]
 unfoldable pub enterCall : Store → List ℕ → List ℤ → Outcome Store
 enterCall s given places =
     must (fits s) 1

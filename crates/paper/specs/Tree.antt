@@ -1,4 +1,4 @@
--- Document 01, "Building the tree". Here claims j and k are `e j k` apart. Definitions only.
+-- Section 3 of the rules: the tree. Here claims j and k are `e j k` apart. Definitions only.
 use Prim.Native.Nat.{ℕ, zero, suc, _+_, _-_, _*_, max}
 use mathlib.Core.Bool.{Bool, true, cond, _&&_}
 use mathlib.Core.List.{List, [], _∷_, _++_}
@@ -10,9 +10,8 @@ use Rattle.paper.specs.declared.tables.Table.{Table}
 use Rattle.paper.specs.Points.{measureOf, distance, inRange, Claim, point}
 use Rattle.paper.specs.Limits.{mostClaims}
 
--- "A node has a left claim, perhaps a right one, and on each side a far distance and perhaps a node below": six numbers a room.
--- Side 0 is the left one, side 1 the right one. Of side s: its claim's number plus one in field s, its far distance in
--- field 2 + s, the number of the room below it plus one in field 4 + s; 0 is no claim and no room.
+-- [3.3] [3.4] a node is a room of six numbers. Of side s, 0 left or 1 right: its claim's number plus one in field s, its far distance
+-- in field 2 + s, the number of the room below it plus one in field 4 + s; 0 is no claim and no room
 abbrev pub fieldAt : List ℕ → ℕ → ℕ → ℕ
 fieldAt rooms m f = getD rooms (m * 6 + f) 0
 
@@ -27,15 +26,15 @@ unfoldable pub cleared : List ℕ → ℕ → ℕ → List ℕ
 cleared rooms w zero = rooms
 cleared rooms w (suc f) = put (cleared rooms w f) w (suc f) 0
 
--- "a new one is made, with the claim on its left"; "A side with nothing below has far distance 0."
+-- [3.6] a new node in room w: claim k on its left, and 0 in all other fields
 unfoldable pub fresh : List ℕ → ℕ → ℕ → List ℕ
 fresh rooms w k = cleared (put rooms w 0 (k + 1)) w 5
 
--- "the claim goes below the nearer of the two, and below the left one when the distances are equal"
+-- [3.8] the side that claim k goes below at a node with two claims: the nearer one, the left of two as near
 unfoldable pub nearSide : (ℕ → ℕ → ℕ) → List ℕ → ℕ → ℕ → ℕ
 nearSide e rooms m k = cond (leb (e (claimAt rooms m 0) k) (e (claimAt rooms m 1) k)) 0 1
 
--- "That side's far distance becomes the larger of itself and the distance from the side's claim to the new one."
+-- [3.9] the far distance of side s raised, where it is smaller, to how far claim k is from the side's claim
 unfoldable pub raise : (ℕ → ℕ → ℕ) → List ℕ → ℕ → ℕ → ℕ → List ℕ
 raise e rooms m s k = put rooms m (2 + s) (max (fieldAt rooms m (2 + s)) (e (claimAt rooms m s) k))
 
@@ -47,8 +46,8 @@ pub record Grown : Type 0 where
 abbrev pub grown : List ℕ → ℕ → Grown
 grown rooms used = record { rooms = rooms; used = used }
 
--- claim k entered from room m: "only a left claim: the claim becomes the right one"; "both: the claim goes below the nearer of the two";
--- "New nodes take the next free room in rising order"; "Repeat at the node below", at most so many times
+-- [3.6] [3.7] [3.10] [3.11] claim k entered from room m, through so many rooms at most: on the right where no claim is, and otherwise from
+-- the room below the nearer side, or, where field 4 + s says that there is none, into the next room not in use
 unfoldable pub placed : ℕ → (ℕ → ℕ → ℕ) → ℕ → ℕ → ℕ → List ℕ → Grown
 placed zero e used k m rooms = grown rooms used
 placed (suc times) e used k m rooms =
@@ -58,17 +57,17 @@ placed (suc times) e used k m rooms =
     (grown (fresh (put (raise e rooms m (nearSide e rooms m k) k) m (4 + nearSide e rooms m k) (used + 1)) used k) (used + 1))
     (placed times e used k (fieldAt rooms m (4 + nearSide e rooms m k) - 1) (raise e rooms m (nearSide e rooms m k) k)))
 
--- "Entering a claim, from the root"; "no node here: a new one is made"
+-- [3.5] claim k entered from the root, which the first claim makes
 unfoldable pub entered : (ℕ → ℕ → ℕ) → ℕ → ℕ → List ℕ → Grown
 entered e zero k rooms = grown (fresh rooms 0 k) 1
 entered e (suc u) k rooms = placed (suc u) e (suc u) k 0 rooms
 
--- "entering its claims one by one, in number order": claims 0 to n - 1
+-- [3.12] claims 0 to n - 1 entered by rising number
 unfoldable pub built : (ℕ → ℕ → ℕ) → ℕ → List ℕ → Grown
 built e zero rooms = grown rooms 0
 built e (suc n) rooms = entered e (built e n rooms .used) n (built e n rooms .rooms)
 
--- a table with the memory that its caller lends
+-- [3.2] a table with the memory that its caller lends
 pub record Store : Type 0 where
   pub table : Table
   pub references : List ℕ
@@ -94,7 +93,7 @@ memory references coordinates rooms = record { references = references; coordina
 abbrev pub lentMemory : RefT (List ℕ) → RefT (List ℤ) → RefT (List ℕ) → Memory
 lentMemory references coordinates rooms = memory (now references) (now coordinates) (now rooms)
 
--- how far claims j and k are apart, by measure and d, where the coordinates stand one after another
+-- [1.4] how far claims j and k are apart, by measure and d, where the coordinates stand one after another
 unfoldable pub apart : ℕ → ℕ → List ℤ → ℕ → ℕ → ℕ
 apart measure d coordinates j k = distance (measureOf measure) d (drop (j * d) coordinates) (drop (k * d) coordinates)
 
@@ -108,7 +107,7 @@ referenceAt references k = getD references k 0
 abbrev pub withReference : List ℕ → ℕ → ℕ → List ℕ
 withReference references k reference = set references k reference
 
--- the first n claims of the lent memory
+-- [1.1] [1.4] the first n claims of the lent memory
 unfoldable pub claimsFrom : ℕ → ℕ → List ℕ → List ℤ → List Claim
 claimsFrom d zero references coordinates = []
 claimsFrom d (suc n) references coordinates =
@@ -118,7 +117,7 @@ claimsFrom d (suc n) references coordinates =
 abbrev pub claimsIn : Store → List Claim
 claimsIn s = claimsFrom (s .table .d) (s .table .count) (s .references) (s .coordinates)
 
--- 1: "measure, d or capacity out of range, or lent memory smaller than these need"
+-- [3.1] [3.2] [8.1] measure, d and capacity are in their ranges, and each slice is long enough for them
 unfoldable pub fits : Store → Bool
 fits s =
     inRange (s .table .measure) (s .table .d)
@@ -132,12 +131,12 @@ unfoldable pub sameFront : ℕ → List ℕ → List ℕ → Bool
 sameFront zero a b = true
 sameFront (suc w) a b = sameFront w a b && eqb (getD a w 0) (getD b w 0)
 
--- what entering the claims one by one gives, into rooms that held nothing
+-- [3.12] what the claims make when they are entered into rooms that held nothing
 unfoldable pub afresh : (ℕ → ℕ → ℕ) → ℕ → Grown
 afresh e n = built e n (replicate (n * 6) 0)
 
--- "A table is sound when its count is at most its capacity and each field in use equals what entering its claims one by one, in
--- number order, gives. Rooms not in use may hold anything, are not read, and keep it until used."
+-- [3.12] [3.13] [8.2] no more claims than the capacity, and the rooms in use, how many and every field, are what the claims make; the
+-- other rooms are not read
 unfoldable pub sound : Store → Bool
 sound s =
     leb (s .table .count) (s .table .capacity)

@@ -1,5 +1,5 @@
-// The words of document 01 as types: what a claim is measured by, where a page starts, what tables, lists and lines are.
-// Their meaning stands in specs/, a file for each section of the document; the crates above this one cite it.
+// The words of the rules as types: what a claim is measured by, where a page starts, what tables, lists and lines are.
+// Their meaning stands in specs/, under the rules (docs/RULES.md); the crates above this one cite it.
 pub mod limits;
 pub mod lines;
 pub mod lists;

@@ -4,7 +4,7 @@ use crate::limits::MOST_CLAIMS;
 use crate::limits::MOST_PLACES;
 use crate::queries::Query;
 
-// What an ask and an answer have behind the reach: distance and number are the mark.
+// [5.5] What an ask and an answer have behind the reach: distance and number are the mark.
 pub struct Scope {
     pub from: u8,
     pub snapshot: u16,
@@ -13,12 +13,12 @@ pub struct Scope {
 }
 
 impl Scope {
-    // The largest snapshot and number, at the widths of these fields.
+    // [5.9] The largest snapshot and number, at the widths of these fields.
     pub const MOST_SNAPSHOT: u16 = MOST_CLAIMS as u16;
 
     pub const MOST_NUMBER: u16 = MOST_CLAIMS as u16 - 1;
 
-    // What stands beside a refusal.
+    // [5.14] What stands beside a refusal.
     pub const NONE: Scope = Scope {
         from: 0,
         snapshot: 0,
@@ -27,13 +27,15 @@ impl Scope {
     };
 }
 
+// [5.5] What an ask line says.
 pub struct Ask {
     pub query: Query,
     pub scope: Scope,
     pub size: u8,
 }
 
-// The items are triples of number, reference and distance; places that are not in use hold 0, here as in a probe.
+// [5.6] [5.14] What an answer line says. The items are triples of number, reference and distance; places that are not in use hold 0, here
+// as in a probe.
 pub struct Answer {
     pub query: Query,
     pub scope: Scope,
@@ -51,7 +53,7 @@ pub struct ClaimLine {
     pub coordinates: [i32; MOST_PLACES],
 }
 
-// What a reader gives: refusal 0 beside the fields, or 9 or 10 beside zeros.
+// [5.14] [9.15] What a reader gives: refusal 0 beside the fields, or 9 or 10 beside zeros.
 pub struct AskRead {
     pub refusal: u8,
     pub ask: Ask,
@@ -68,7 +70,7 @@ pub struct ClaimRead {
     pub claim: ClaimLine,
 }
 
-// What a writer answers: the length of the line that it wrote, or the number of its refusal.
+// [5.12] What a writer answers: the length of the line that it wrote, or the number of its refusal.
 pub enum Wrote {
     Line(usize),
     Refused(u8),

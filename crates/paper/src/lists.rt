@@ -1,7 +1,8 @@
-// Document 01, "The two ends": a tablet's list. Its items lie in memory that the caller lends, three numbers for each.
+// A tablet's list. Its items lie in memory that the caller lends, three numbers for each.
 use crate::limits::MOST_CLAIMS;
 use crate::queries::Query;
 
+// [7.1] [7.2] [7.3] What the list is opened for, and how far it has come.
 pub struct List {
     pub query: Query,
     pub started: bool,
@@ -12,17 +13,17 @@ pub struct List {
 }
 
 impl List {
-    // The largest snapshot, at the width of that field.
+    // [7.9] The largest snapshot, at the width of that field.
     pub const MOST_SNAPSHOT: u64 = MOST_CLAIMS as u64;
 }
 
-// What taking a line gives: the refusal's number, or 0, beside the list as it then stands.
+// [9.13] What taking a line gives: the refusal's number, or 0, beside the list as it then stands.
 pub struct Taken {
     pub refusal: u8,
     pub list: List,
 }
 
-// What opening a list gives: the refusal's number beside a list of zeros, or 0 beside the list.
+// [9.11] What opening a list gives: the refusal's number beside a list of zeros, or 0 beside the list.
 pub struct Opened {
     pub refusal: u8,
     pub list: List,

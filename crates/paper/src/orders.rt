@@ -1,16 +1,16 @@
-// Document 01, "Near order" and "Asking".
+// Orders, marks and places, and what questions give.
 ghost use mathlib.Core.Path.{_≡_};
 ghost use Rattle.paper.specs.Orders.{startMark, markAt};
 ghost use Rattle.paper.specs.Orders.{rank as Orders·rank, before as Orders·before};
 
-// Near order is the base's order of a list; far order is farthest's.
+// [2.1] [2.2] Near order is that of lists; far order is farthest's.
 pub enum Order {
     Near,
     Far,
 }
 
 impl Order {
-    // The order's rank of a distance. Far order turns the distances round.
+    // [2.1] [2.2] The order's rank of a distance. Far order turns the distances round.
     pub fn rank(self, x: u64) -> u64
         ensures { λ r. ⌜ r ≡ Orders·rank self x ⌝ }
     {
@@ -20,7 +20,7 @@ impl Order {
         }
     }
 
-    // Whether distance x and number k come before distance y and number j.
+    // [2.3] Whether distance x and number k come before distance y and number j.
     pub fn before(self, x: u64, k: u64, y: u64, j: u64) -> bool
         ensures { λ r. ⌜ r ≡ Orders·before self x k y j ⌝ }
     {
@@ -43,7 +43,7 @@ pub struct Mark {
 }
 
 impl Mark {
-    // The fixed value that stands where no mark applies.
+    // [2.8] The fixed value that stands where no mark applies.
     pub const START: Mark = Mark {
         distance: 0,
         number: 0,
@@ -62,19 +62,19 @@ impl Mark {
     }
 }
 
-// Where a page starts: at the start, or after a mark in the first so many claims.
+// [4.4] [4.5] Where a page starts: at the start, or after a mark in the first so many claims.
 pub enum Place {
     Start,
     After(u64, Mark),
 }
 
-// What a page call gives beside the room's filled front: how many items stand there, and whether the page is the last.
+// [4.7] What a page call gives beside the room's filled front: how many items stand there, and whether the page is the last.
 pub struct Paged {
     pub count: usize,
     pub last: bool,
 }
 
-// What nearest and farthest give: nothing, or an item's number, reference and distance.
+// [4.1] [4.2] What nearest and farthest give: nothing, or an item's number, reference and distance.
 pub enum Found {
     Nothing,
     Item(u64, u64, u64),

@@ -1,4 +1,4 @@
-// What a list is opened with: its asks and their answers repeat it.
+// [7.1] What a list is opened for: its asks and their answers repeat it.
 use crate::limits::MOST_PLACES;
 use crate::orders::Order;
 
@@ -7,13 +7,13 @@ pub struct Query {
     pub table: u32,
     pub measure: u8,
     pub d: usize,
-    // Unused places are 0.
+    // [7.9] Unused places are 0.
     pub probe: [i32; MOST_PLACES],
     pub reach: u64,
 }
 
 impl Query {
-    // What stands beside a refusal.
+    // [5.14] What stands beside a refusal.
     pub const NONE: Query = Query {
         order: Order::Near,
         table: 0,

@@ -1,4 +1,6 @@
-// Document 01, "Building the tree": the header of a table. Its claims and rooms lie in memory that the caller lends.
+// The header of a table. Its claims and rooms lie in memory that the caller lends.
+
+// [3.1] What a table is called and measured by, and how much of its memory is in use.
 #[repr(C)]
 pub struct Table {
     pub number: u32,
@@ -10,13 +12,13 @@ pub struct Table {
     pub used: usize,
 }
 
-// What making an empty table answers.
+// [3.16] What making an empty table answers.
 pub enum Made {
     Table(Table),
     Refused(u8),
 }
 
-// What entering a run of claims answers: the table's header afterwards.
+// [3.14] What entering a run of claims answers: the table's header afterwards.
 pub enum Entered {
     Table(Table),
     Refused(u8),

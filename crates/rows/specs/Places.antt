@@ -8,7 +8,7 @@ use Rattle.paper.specs.declared.orders.Place.{Place}
 use Rattle.paper.specs.declared.orders.Place.the-variants.{Start, After}
 use Rattle.paper.specs.Orders.{markAt}
 
--- the place of question i, four numbers: 0 for the start, or another number, the snapshot, and the mark's distance and number
+-- [4.18] the place of question i, four numbers: 0 for the start, or another number, the snapshot, and the mark's distance and number
 unfoldable pub placeAt : List ℕ → ℕ → Place
 placeAt places i =
     cond (eqb (getD places (i * 4) 0) 0) Start

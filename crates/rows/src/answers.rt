@@ -10,7 +10,7 @@ use checks::flag;
 use paper::orders::Found;
 use paper::orders::Page;
 
-// Row i: whether an item was found, and the item.
+// [4.17] Row i: whether an item was found, and the item.
 pub fn put_found(out: &mut [u64], i: usize, f: Found)
     requires { ⌜ i * 4 + 4 ≤ length (now out) ⌝ }
     ensures { λ _. ⌜ now (out .exit) ≡ sets (now (out .entry)) (i * 4) (foundRow f) ⌝ }
@@ -23,7 +23,7 @@ pub fn put_found(out: &mut [u64], i: usize, f: Found)
     }
 }
 
-// Row i: the refusal, how many items, and whether they are the last.
+// [4.19] Row i: the refusal, how many items, and whether they are the last.
 pub fn put_page(outcomes: &mut [u64], i: usize, p: Page)
     requires { ⌜ i * 3 + 3 ≤ length (now outcomes) ⌝ }
     ensures { λ _. ⌜ now (outcomes .exit) ≡ sets (now (outcomes .entry)) (i * 3) (pageRow p) ⌝ }

@@ -3,7 +3,7 @@ ghost use mathlib.Core.Path.{_≡_};
 ghost use Prim.Native.Nat.{_*_};
 ghost use lib.ListN.{take};
 
-// The first `count` items, three numbers each, as a part of the room; all of a shorter room.
+// [4.9] The first `count` items, three numbers each, as a part of the room; all of a shorter room.
 pub fn front<'a>(room: &'a [u64], count: usize) -> &'a [u64]
     ensures { λ r. ⌜ now r ≡ take (3 * count) (now (room .entry)) ⌝ }
 {

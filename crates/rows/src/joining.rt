@@ -4,7 +4,7 @@ ghost use Prim.Native.Nat.{_+_, _≤_};
 ghost use lib.ListN.{length};
 ghost use lib.Seq.{paste};
 
-// Copies the first n numbers of a page behind the items that stand in the room.
+// [7.7] Copies the first n numbers of a page behind the items that stand in the room.
 pub fn join(room: &mut [u64], at: usize, items: &[u64], n: usize)
     requires { ⌜ (at + n ≤ length (now room)) × (n ≤ length (now items)) ⌝ }
     ensures { λ _. ⌜ now (room .exit) ≡ paste (now (room .entry)) at (now (items .entry)) n ⌝ }

@@ -6,7 +6,7 @@ ghost use Rattle.rows.specs.Places.{placeAt};
 use paper::orders::Mark;
 use paper::orders::Place;
 
-// The place of question i, as four numbers: 0 where it is the start, and otherwise anything else; snapshot; the mark.
+// [4.18] The place of question i, as four numbers: 0 where it is the start, and otherwise anything else; snapshot; the mark.
 pub fn place_at(places: &[u64], i: usize) -> Place
     requires { ⌜ i * 4 + 4 ≤ length (now places) ⌝ }
     ensures { λ r. ⌜ r ≡ placeAt (now (places .entry)) i ⌝ }

@@ -104,7 +104,7 @@ fn is_nothing(f: Found) -> bool {
     if let Found::Nothing = f { true } else { false }
 }
 
-// Whether a page is the scan's, and last exactly when it holds fewer claims than the page size.
+// [4.7] Whether a page is the scan's, and the last just where it is not full.
 fn same_page(
     points: &[u64; 384],
     codes: &[u64; 8],

@@ -1,4 +1,4 @@
--- However the input comes in chunks, what is written is what the program says to the whole of it. Assumes nothing.
+-- [10.11] However the input comes in chunks, what is written is what the program says to the whole of it. Assumes nothing.
 use Prim.Native.Nat.{ℕ}
 use mathlib.Core.Path.{_≡_, refl, sym, ap, _∙_}
 use mathlib.Core.List.{List, [], _++_, append-nil, append-assoc}

@@ -1,4 +1,4 @@
--- The office over chunks of input: how its memory stands for the office of the paper, and how it moves on. Definitions only.
+-- The office over chunks of input: how its memory stands for the office of paper/specs, and how it moves on. Definitions only.
 use Prim.Native.Nat.{ℕ, _+_, _<_, _≤_}
 use mathlib.Core.Path.{_≡_}
 use mathlib.Core.List.{List, _++_}
@@ -21,13 +21,13 @@ pub record Set (s : Store) (l : List ℕ) : Type 0 where
   pub ready : Ready s
   pub line : length l ≡ longestAnswer
 
--- and that there is a byte to read, a line left and room to write
+-- [10.10] and that there is a byte to read, a line left and room to write
 pub record Turning (d : Sitting) (chunk out : ℕ) : Type 0 where
   pub unread : d .at < chunk
   pub left : 0 < d .left
   pub room : d .written + longestAnswer ≤ out
 
--- the office o, at the sitting d₀, read on in the chunk to where the sitting d is, and what it said is written
+-- [10.11] the office o, at the sitting d₀, read on in the chunk to where the sitting d is, and what it said is written
 pub record Moved (o : Office) (chunk : List ℕ) (d₀ : Sitting) (out₀ : List ℕ) (s : Store) (l : List ℕ) (d : Sitting) (b : List ℕ) : Type 0 where
   pub after : Office
   pub stands : Stands s l d after
@@ -37,7 +37,7 @@ pub record Moved (o : Office) (chunk : List ℕ) (d₀ : Sitting) (out₀ : List
   pub out : b ≡ wrote out₀ (d₀ .written) more
   pub written : d .written ≡ d₀ .written + length more
 
--- the input is over for the office o, and what it then said is written
+-- [10.9] the input is over for the office o, and what it then said is written
 pub record Ended (o : Office) (out₀ : List ℕ) (w : ℕ) (b : List ℕ) (v : ℕ) : Type 0 where
   pub more : List ℕ
   pub said : over o .said ≡ o .said ++ more

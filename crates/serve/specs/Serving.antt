@@ -28,18 +28,18 @@ pub record Put (bs out₀ : List ℕ) (i : ℕ) (l : List ℕ) (e : ℕ) : Type 
   pub end : e ≡ i + length bs
   pub short : e ≤ length out₀
 
--- the table that the memory holds: none where no claim is entered
+-- [10.7] the table that the memory holds: none where no claim is entered
 unfoldable pub booksOf : Store → Books
 booksOf s = cond (eqb (s .table .count) 0) closed (opened (tableOf s))
 
--- the header that a claim line is for
+-- [10.2] the header that a claim line is for
 unfoldable pub headerFor : Table → ClaimLine → Table
 headerFor t c =
     cond (eqb (t .count) 0)
     (record { number = c .table; measure = c .measure; d = c .d; capacity = t .capacity; count = 0; used = 0 })
     t
 
--- The office's memory: a sound table with capacity 1,024, and place for as many claims of eight coordinates.
+-- [10.1] The office's memory: a sound table with the program's capacity, and place for as many claims of eight coordinates.
 pub record Ready (s : Store) : Type 0 where
   pub good : Good s
   pub capacity : s .table .capacity ≡ officeClaims
@@ -59,13 +59,13 @@ pub record Asking (s : Store) (a : Ask) (out at : ℕ) : Type 0 where
   pub serving : Serving s out at
   pub ask : Given a
 
--- the line led to the turn a: the memory stands at s, and what is said is written from i on
+-- [10.6] the line led to the turn a: the memory stands at s, and what is said is written from i on
 pub record Served (a : Turn) (s : Store) (out₀ : List ℕ) (i : ℕ) (l : List ℕ) (e : ℕ) : Type 0 where
   pub books : booksOf s ≡ a .books
   pub ready : Ready s
   pub said : Put (a .said) out₀ i l e
 
--- the same of the line that was cut into a room: a size over the room's length stands for any longer line
+-- [10.8] the same of the line that was cut into a room: a size over the room's length stands for any longer line
 pub record ServedCut (room : List ℕ) (size : ℕ) (b : Books) (s : Store) (out₀ : List ℕ) (i : ℕ) (l : List ℕ) (e : ℕ) : Type 0 where
   pub served : (h : List ℕ) → Kept longestAnswer room size h → Served (lineTurn b h) s out₀ i l e
   pub ready : Ready s

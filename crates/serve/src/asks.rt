@@ -1,4 +1,4 @@
-// An ask line: its answer line, or a refusal.
+// [10.4] [10.7] An ask line: its answer line, or a refusal.
 ghost use lib.ListN.{length};
 ghost use Rattle.paper.specs.Tree.{lent};
 ghost use Rattle.paper.specs.Codec.{asked};

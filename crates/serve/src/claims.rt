@@ -1,4 +1,4 @@
-// A claim line: entered silently, or refused.
+// [10.3] A claim line: entered, with nothing said, or refused.
 ghost use mathlib.Core.Path.{_≡_};
 ghost use lib.ListN.{length};
 ghost use Rattle.paper.specs.Tree.{lent};
@@ -15,7 +15,7 @@ pub struct Step {
     pub at: usize,
 }
 
-// The table that a claim line is for: the first one sets number, measure and d.
+// [10.2] The table that a claim line is for: the first one sets number, measure and d.
 fn header_for(t: Table, c: ClaimLine) -> Table
     ensures { λ r. ⌜ r ≡ headerFor t c ⌝ }
 {

@@ -61,7 +61,7 @@ fn turn(
     }
 }
 
-// Whether there is a byte to read, a line left and room to write.
+// [10.10] Whether there is a byte to read, a line left and room to write.
 fn goes_on(d: Sitting, chunk: usize, out: usize) -> bool
     ensures { λ r. ⌜ (r ≡ true → Turning d chunk out) × (Turning d chunk out → r ≡ true) ⌝ }
 {
@@ -77,7 +77,7 @@ fn goes_on(d: Sitting, chunk: usize, out: usize) -> bool
     d.written <= out - LONGEST_ANSWER
 }
 
-// Reads on while there is room to write: to the end of the chunk, or of what may be read.
+// [10.11] Reads on while there is room to write: to the end of the chunk, or of what may be read.
 pub fn feed(
     d: Sitting,
     references: &mut [u32],
@@ -100,7 +100,7 @@ pub fn feed(
     n
 }
 
-// The input is over: serves the line that has no end, if there is one, and gives how much of the room is then written.
+// [10.9] The input is over: serves the line that has no end, if there is one, and gives how much of the room is then written.
 pub fn finish(
     d: Sitting,
     references: &mut [u32],

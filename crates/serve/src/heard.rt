@@ -13,7 +13,7 @@ use super::saying::refuse;
 use paper::limits::LONGEST_FRAME;
 use paper::tables::Table;
 
-// Serves the line whose frame is `src`.
+// [10.6] Serves the line whose frame is `src`.
 fn serve_frame(
     t: Table,
     references: &mut [u32],
@@ -61,7 +61,7 @@ fn serve_line(
     serve_frame(t, references, coordinates, rooms, &frame[..n], out, at)
 }
 
-// Serves the line that was cut: a size over the room's length stands for any longer line.
+// [10.8] Serves the line that was cut: a size over the room's length stands for any longer line.
 pub fn serve_cut(
     t: Table,
     references: &mut [u32],

@@ -4,7 +4,7 @@ ghost use lib.ListN.{length};
 ghost use Rattle.paper.specs.Program.{refusal};
 ghost use Rattle.serve.specs.Serving.{Put};
 
-// Writes `refused N` and 0A from `at` on, and gives where they end.
+// [10.5] Writes `refused N` and 0A from `at` on, and gives where they end.
 pub fn refuse(out: &mut [u8], at: usize, n: u8) -> usize
     requires { ⌜ (n < 100) × (at + 11 ≤ length (now out)) ⌝ }
     ensures { λ r. ⌜ Put (refusal n) (now (out .entry)) at (now (out .exit)) r ⌝ }

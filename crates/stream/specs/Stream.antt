@@ -14,7 +14,7 @@ anewOf d = record { table = d .table; size = d .size; left = d .left; at = 0; wr
 abbrev pub emptiedOf : Sitting → Sitting
 emptiedOf d = record { table = d .table; size = d .size; left = d .left; at = d .at; written = 0 }
 
--- before the first byte
+-- [10.1] [10.10] before the first byte
 abbrev pub opening : Sitting
 opening =
     record {

@@ -1,4 +1,4 @@
-// The office on standard input and output. What it says to its lines is proved in `serve`; here they are read in large
+// The office on standard input and output. What it says to its lines is proved in `serve`; [10.12] here they are read in large
 // chunks, and whatever was said is written before the next read, so that the office can be talked to through a pipe.
 use libc::STDIN_FILENO;
 use libc::STDOUT_FILENO;
@@ -61,7 +61,7 @@ fn unread(d: Sitting, n: usize) -> bool
     true
 }
 
-// Takes a chunk of the input, and writes what the office says to it.
+// [10.11] [10.13] Takes a chunk of the input, and writes what the office says to it; a write that fails is passed over.
 fn pump(
     d: Sitting,
     references: &mut [u32],
@@ -90,7 +90,7 @@ struct Pause {
     open: bool,
 }
 
-// Reads once, and says whether to go on.
+// [10.12] [10.13] Reads once, and says whether to go on; a read that fails ends the input.
 fn once(
     d: Sitting,
     references: &mut [u32],
@@ -120,7 +120,7 @@ fn once(
     }
 }
 
-// The sitting of an empty table. Its number, measure and d are those of the first claim, once there is one.
+// [10.1] [10.10] The sitting of an empty table. Its number, measure and d are those of the first claim, once there is one.
 fn open_sitting() -> Sitting
     ensures { λ r. ⌜ r ≡ opening ⌝ }
 {

@@ -1,4 +1,4 @@
--- The three calls of a tablet as document 01 orders their refusals: opening, writing an ask, taking a line. Assumes nothing.
+-- The three calls of a tablet, with their refusals in order: opening, writing an ask, taking a line. Assumes nothing.
 use Prim.Native.Nat.{ℕ, _+_, _<_, _≤_}
 use mathlib.Core.Path.{_≡_, refl, sym, ap, _∙_}
 use mathlib.Core.Bool.{Bool, true, false, not, cond}
@@ -134,7 +134,7 @@ module _ (l : lists.List) (mem : List ℕ) (size : ℕ) (asks : Asks l mem) (one
         → Writes (gives (askLine (presentAsk (listing (held l mem)) size))) out r left
     ask-written r left w = rw (bare-fits _ longestAsk (askFrame query p size) (length out) fits-all long, line-is) at w
 
--- the order of refusals: 2, 16, 6, 12
+-- [9.12] the order of refusals: 2, 16, 6, 12
 module _ (l : lists.List) (mem : List ℕ) (size : ℕ) (out : List ℕ) (sound : soundHeld (held l mem) ≡ true) where
   abbrev L : Listing
   L = listing (held l mem)

@@ -128,7 +128,7 @@ fields-facts l room h =
       start = and-second (leb (l .count) (room / 3)) _ e;
     }
 
--- a list is sound when its fields and its items are as they should be
+-- [7.9] [7.10] the two parts of soundness: the fields, and the items
 module _ (l : lists.List) (room : List ℕ) (eight : 7 < length (l .query .probe)) where
   abbrev o : Order
   o = l .query .order

@@ -304,7 +304,7 @@ module _ (l : lists.List) (room : List ℕ) (y : Answer) where
         pub take-joined : y .count ≤ length room / 3 - l .count → call ≡ gives (joinedTo L (answered y))
         take-joined h = up-to-15 ∙ must-go _ 15 _ (le-leb (length (L .items) + length (answered y .items)) (length room / 3) (omega (arith, sum)))
 
-  -- the page is joined, and rooms behind it keep their contents
+  -- [7.7] the page is joined, and the rest of the room stays
   pub joined-is : (x : Outcome Listing) (t : lists.List) (after : List ℕ) → x ≡ gives (joinedTo L (answered y))
       → l .count * 3 + y .count * 3 ≤ length room → y .count * 3 ≤ length (y .items)
       → t ≡ joinedFields l y (y .count) → after ≡ paste room (l .count * 3) (y .items) (y .count * 3)

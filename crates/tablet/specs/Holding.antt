@@ -16,7 +16,7 @@ use Rattle.paper.specs.Lines.{spoken}
 use Rattle.paper.specs.Lists.{unusedZero}
 use Rattle.paper.specs.Limits.{mostClaims}
 
--- the first of the items is within reach, below the snapshot and after the place, and comes before the next
+-- [7.6] the first of the items is within reach, below the snapshot and after the place, and comes before the next
 unfoldable pub itemHolds : Order → Place → ℕ → ℕ → List Item → Bool
 itemHolds o p reach snapshot [] = true
 itemHolds o p reach snapshot (a ∷ l) = fitting reach snapshot a && (follows o p a && leads o a l)
@@ -26,11 +26,11 @@ unfoldable pub itemsHold : Order → Place → ℕ → ℕ → List Item → Boo
 itemsHold o p reach snapshot [] = true
 itemsHold o p reach snapshot (a ∷ l) = itemHolds o p reach snapshot (a ∷ l) && itemsHold o p reach snapshot l
 
--- a list of n items has started well
+-- [7.11] a list of n items has started well
 unfoldable pub startedBy : Bool → ℕ → ℕ → Bool → Bool
 startedBy started n snapshot complete = cond started (leb 1 n || complete) (eqb n 0 && (eqb snapshot 0 && not complete))
 
--- what soundness asks of a list's fields, in a room of so many numbers
+-- [7.9] what soundness asks of a list's fields, in a room of so many numbers
 unfoldable pub fieldsHold : lists.List → ℕ → Bool
 fieldsHold l room =
     spoken (l .query .order)
@@ -50,7 +50,7 @@ pub record Asks (l : lists.List) (room : List ℕ) : Type 0 where
   pub some : l .started ≡ true → 1 ≤ l .count
   pub below : l .started ≡ true → getD room (l .count * 3 - 3) 0 < l .snapshot
 
--- the fields of a list with n items of an answer joined to it
+-- [7.7] [7.8] the fields of a list with n items of an answer joined to it
 abbrev pub joinedFields : lists.List → Answer → ℕ → lists.List
 joinedFields l y n =
     record {

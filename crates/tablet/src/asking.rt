@@ -1,4 +1,4 @@
-// The present ask of a list: from the start, or after its last item.
+// [7.4] The present ask of a list: from the start, or after its last item.
 ghost use mathlib.Core.Path.{_≡_};
 ghost use mathlib.Core.Bool.{true};
 ghost use Prim.Native.Nat.{_≤_};
@@ -17,7 +17,7 @@ use paper::lines::Scope;
 use paper::lines::Wrote;
 use paper::lists::List;
 
-// Where the next page starts, as lines write it.
+// [7.4] Where the next page starts, as lines write it.
 pub fn present(l: List, room: &[u64]) -> Scope
     requires { ⌜ Asks l (now room) ⌝ }
     ensures { λ r. ⌜ r ≡ scopeOf (presentPlace (listing (held l (now (room .entry))))) (snapshotOf (presentPlace (listing (held l (now (room .entry))))) 0) ⌝ }
@@ -39,7 +39,7 @@ pub fn present(l: List, room: &[u64]) -> Scope
     }
 }
 
-// Writes the present ask of a sound list.
+// [9.12] Writes the present ask of a sound list.
 pub fn write_ask(l: List, room: &[u64], size: usize, out: &mut [u8]) -> Wrote
     requires { ⌜ soundHeld (held l (now room)) ≡ true ⌝ }
     ensures { λ r. ⌜ Writes (askingHeld lines (held l (now (room .entry))) size (length (now (out .entry)))) (now (out .entry)) r (now (out .exit)) ⌝ }

@@ -18,7 +18,7 @@ pub fn both(a: bool, b: bool) -> bool
     false
 }
 
-// Whether distance x and number k come after the place; what reference they have does not matter.
+// [2.7] Whether distance x and number k come after the place; what reference they have does not matter.
 fn is_after(order: Order, place: Place, x: u64, k: u64) -> bool
     ensures { λ r. ⌜ ((y : ℕ) → r ≡ follows order place (record { number = k; reference = y; distance = x })) ⌝ }
 {
@@ -58,7 +58,7 @@ fn item_holds(
     true
 }
 
-// Whether the first `count` items of a room rise, follow the place, and are within reach and below the snapshot.
+// [7.6] Whether the first `count` items of a room rise, follow the place, and are within reach and below the snapshot.
 pub fn items_hold(
     order: Order,
     place: Place,

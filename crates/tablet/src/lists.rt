@@ -1,4 +1,4 @@
-// The soundness test of a list in lent memory, for any contents whatsoever.
+// [7.9] [7.10] [7.11] The soundness test of a list in lent memory, for any contents whatsoever.
 ghost use mathlib.Core.Path.{_≡_};
 ghost use Prim.Native.Nat.{_-_, _<_};
 ghost use lib.ListN.{length};

@@ -1,4 +1,4 @@
-// Opening a list: nothing is held yet, and the probe stands in eight places.
+// [9.11] [7.2] Opening a list: nothing is held yet, and the probe stands in eight places.
 ghost use mathlib.Core.Path.{_≡_};
 ghost use Rattle.paper.specs.Lists.{noList, openingHeld, openedTold};
 use checks::in_range;

@@ -68,7 +68,7 @@ fn same_query(p: Query, q: Query) -> bool
     p.reach == q.reach
 }
 
-// Whether an answer is to the list's present ask; page sizes are not compared.
+// [7.5] [8.13] Whether an answer is to the list's present ask; page sizes are not compared.
 fn to_present(l: List, room: &[u64], y: Answer) -> bool
     requires { ⌜ Asks l (now room) ⌝ }
     ensures { λ r. ⌜ r ≡ toPresent (listing (held l (now (room .entry)))) (answered y) ⌝ }
@@ -83,7 +83,7 @@ fn to_present(l: List, room: &[u64], y: Answer) -> bool
     same_place(p, q)
 }
 
-// Whether an answer's page rises, after the mark, within reach and below the snapshot, and is none only as the last.
+// [7.6] [8.14] Whether an answer's page rises, after the mark, within reach and below the snapshot, and is none only as the last.
 fn page_holds(y: Answer) -> bool
     requires { ⌜ y .count ≤ mostPage ⌝ }
     ensures { λ r. ⌜ r ≡ pageHolds (answered y) ⌝ }
@@ -103,7 +103,7 @@ fn page_holds(y: Answer) -> bool
     y.last == 1
 }
 
-// Joins an answer's page to the items that stand in the room.
+// [7.7] Joins an answer's page to the items that stand in the room.
 fn join_page(room: &mut [u64], count: usize, y: Answer)
     requires { ⌜ (count * 3 + y .count * 3 ≤ length (now room)) × (y .count ≤ mostPage) ⌝ }
     ensures { λ _. ⌜ (now (room .exit) ≡ paste (now (room .entry)) (count * 3) (y .items) (y .count * 3)) × (itemRoom - 1 < length (y .items)) ⌝ }
@@ -122,7 +122,7 @@ fn refused(n: u8, l: List) -> Taken
     }
 }
 
-// The list's fields once n items of an answer are joined to it.
+// [7.7] [7.8] The list's fields once n items of an answer are joined to it.
 fn joined(l: List, y: Answer, n: usize) -> List
     requires { ⌜ l .count + n < 18446744073709551616 ⌝ }
     ensures { λ r. ⌜ r ≡ joinedFields l y n ⌝ }
@@ -138,7 +138,7 @@ fn joined(l: List, y: Answer, n: usize) -> List
     }
 }
 
-// Takes an answer that was read into a sound list.
+// [9.13] Takes an answer that was read into a sound list.
 pub fn take_answer(l: List, room: &mut [u64], y: Answer) -> Taken
     requires { ⌜ (soundHeld (held l (now room)) ≡ true) × (y .count ≤ mostPage) ⌝ }
     ensures { λ r. ⌜ Takes l (taken (roomFor (held l (now (room .entry)))) (listing (held l (now (room .entry)))) (answered y)) (now (room .entry)) r (now (room .exit)) ⌝ }
@@ -161,7 +161,7 @@ pub fn take_answer(l: List, room: &mut [u64], y: Answer) -> Taken
     Taken { refusal: 0, list }
 }
 
-// Takes an answer line, of the list's own order, into a sound list.
+// [9.13] Takes an answer line, of the list's own order, into a sound list.
 pub fn take_line(l: List, room: &mut [u64], line: &[u8]) -> Taken
     requires { ⌜ soundHeld (held l (now room)) ≡ true ⌝ }
     ensures { λ r. ⌜ Takes l (takingHeld lines (held l (now (room .entry))) (now (line .entry))) (now (room .entry)) r (now (room .exit)) ⌝ }

@@ -1,5 +1,5 @@
-// The page of a table that was tested: what is left to refuse is the place and the room, 7, 8 and 12. The single call and many pages both
-// ask here.
+// [9.8] The page of a table that was tested: what is left to refuse is the place and the room, 7, 8 and 12. The single call and many pages
+// both ask here.
 ghost use mathlib.Core.Path.{_≡_};
 ghost use lib.ListN.{length};
 ghost use Rattle.paper.specs.Outcomes.{number, Promise};
@@ -12,7 +12,7 @@ use paper::orders::Page;
 use paper::orders::Place;
 use paper::tables::Table;
 
-// Why a page of a table that was tested is not given, by its number, or 0 where it is: 7, 8, 12. Nothing is written.
+// [8.7] [8.8] [8.12] Why a page of a table that was tested is not given, by its number, or 0 where it is. Nothing is written.
 fn place_refusal(
     t: Table,
     references: &[u32],
@@ -40,7 +40,8 @@ fn place_refusal(
     0
 }
 
-// Refusals 7, 8, 12: the page of a table that was tested, where 1, 2, 5 and 6 refuse nothing. Many pages ask for each of theirs here.
+// [9.8] [9.17] Refusals 7, 8, 12: the page of a table that was tested, where 1, 2, 5 and 6 refuse nothing. Many pages ask for each of
+// theirs here.
 pub fn page_here(
     t: Table,
     references: &[u32],

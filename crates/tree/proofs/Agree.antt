@@ -1,4 +1,5 @@
--- Entering reads no room that is not in use: two memories that agree on the rooms in use still agree afterwards, and a room that is not in use keeps what it held. Assumes nothing.
+-- [3.13] Entering reads no room that is not in use: two memories that agree on the rooms in use still agree afterwards, and a room that is
+-- not in use keeps what it held. Assumes nothing.
 use Prim.Native.Nat.{ℕ, zero, suc, _+_, _-_, _*_, _/_, _%_, _<_, _≤_, _^_}
 use mathlib.Core.Path.{_≡_, refl, sym, _∙_, subst}
 use mathlib.Core.Logic.{⊎-elim}

@@ -53,7 +53,7 @@ module _ (s : Store) (given : List ℕ) (places : List ℤ) where
   enters-roomy why we z =
       let e = zero-enters (sym we ∙ z) in (record { good = e .good; free = e .free }, e .whole)
 
-  -- 4 never arises: a sound table has a room free for each claim that it has room for
+  -- [8.4] 4 never arises: a sound table has a room free for each claim that it has room for
   pub four-never : enterCall s given places ≡ refused 4 → ⊥
   unfolding enterCall
   four-never e =

@@ -22,7 +22,8 @@ pub record RoomOk (rooms : List ℕ) (used n m : ℕ) : Type 0 where
 unfoldable pub Linked : List ℕ → ℕ → ℕ → Type 0
 Linked rooms used n = (m : ℕ) → m < used → RoomOk rooms used n m
 
--- claim j is on side s of room m, or below it: then the side's far distance reaches it, and the side is the nearer one of the room's two, the left one of two as near
+-- [3.8] [3.9] claim j is on side s of room m, or below it: then the side's far distance reaches it, and the side is the nearer one of the
+-- room's two, the left one of two as near
 pub data Under (rooms : List ℕ) (e : ℕ → ℕ → ℕ) : ℕ → ℕ → ℕ → Type 0 where
   here : {m s j : ℕ} → fieldAt rooms m s ≡ j + 1 → Under rooms e m s j
   deeper : {m s j : ℕ} (k o w z : ℕ) → fieldAt rooms m s ≡ k + 1 → e k j ≤ fieldAt rooms m (2 + s) → fieldAt rooms m (1 - s) ≡ o + 1 → e k j + s ≤ e o j
@@ -66,6 +67,6 @@ pub record Enterable (rooms : List ℕ) (used d : ℕ) (coordinates : List ℤ) 
   pub few : k + 1 < 2 ^ 64
   pub located : Located d (k + 1) coordinates
 
--- the rooms are what entering the n claims gives: to enter them again changes nothing
+-- [3.12] the rooms are what entering the n claims gives: to enter them again changes nothing
 unfoldable pub IsBuilt : (ℕ → ℕ → ℕ) → ℕ → List ℕ → ℕ → Type 0
 IsBuilt e n rooms used = built e n rooms ≡ grown rooms used

@@ -1,4 +1,4 @@
-// Entering one claim: document 01's three steps, from the root.
+// Entering one claim, from the root.
 ghost use mathlib.Core.Path.{_≡_};
 ghost use Prim.Native.Nat.{_+_, _<_, max};
 ghost use Rattle.paper.specs.Tree.{fieldAt, put, claimAt, nearSide, entered, apart};
@@ -23,7 +23,7 @@ pub struct NearSide {
     pub distance: u64,
 }
 
-// The side of room m that claim k goes below: the left one of two as near.
+// [3.8] The side of room m that claim k goes below: the left one of two as near.
 fn nearer(rooms: &[u64], measure: u8, d: usize, coordinates: &[i32], m: usize, k: u64) -> NearSide
     requires { ⌜ (HasClaim (now rooms) k m 0 × HasClaim (now rooms) k m 1) × Located d (k + 1) (now coordinates) ⌝ }
     ensures { λ r. ⌜ (r .side ≡ nearSide (apart measure d (now (coordinates .entry))) (now (rooms .entry)) m k)
@@ -51,7 +51,7 @@ fn larger(a: u64, b: u64) -> u64
     if a < b { b } else { a }
 }
 
-// Has the far distance of side s of room m reach as far as `distance`.
+// [3.9] Has the far distance of side s of room m reach as far as `distance`.
 fn widen(rooms: &mut [u64], m: usize, s: usize, distance: u64)
     requires { ⌜ (s < 2) × Inside (now rooms) m ⌝ }
     ensures { λ _. ⌜ now (rooms .exit) ≡ put (now (rooms .entry)) m (2 + s) (max (fieldAt (now (rooms .entry)) m (2 + s)) distance) ⌝ }
@@ -60,7 +60,7 @@ fn widen(rooms: &mut [u64], m: usize, s: usize, distance: u64)
     store(rooms, m, 2 + s, larger(far, distance));
 }
 
-// Enters claim k, and gives the number of rooms then in use.
+// [3.5] [3.7] [3.10] [3.11] Enters claim k, and gives the number of rooms then in use.
 pub fn enter(
     rooms: &mut [u64],
     measure: u8,

@@ -1,5 +1,5 @@
-// Rooms in lent memory. A room is six numbers: of side s the claim (its number plus one, or 0) is field s, the far distance field
-// 2 + s, and the room of the node below (its number plus one, or 0) field 4 + s.
+// Rooms in lent memory. [3.4] A room is six numbers: of side s the claim (its number plus one, or 0) is field s, the far distance
+// field 2 + s, and the room of the node below (its number plus one, or 0) field 4 + s.
 ghost use mathlib.Core.Path.{_≡_};
 ghost use Prim.Native.Nat.{_+_, _<_, _^_};
 ghost use Rattle.paper.specs.Tree.{fieldAt, put, fresh};
@@ -21,7 +21,7 @@ pub fn store(rooms: &mut [u64], m: usize, f: usize, v: u64)
     rooms[m * 6 + f] = v;
 }
 
-// Makes room w anew, with claim k on its left.
+// [3.6] Makes room w anew, with claim k on its left.
 pub fn make(rooms: &mut [u64], w: usize, k: u64)
     requires { ⌜ (k + 1 < 2 ^ 64) × Inside (now rooms) w ⌝ }
     ensures { λ _. ⌜ now (rooms .exit) ≡ fresh (now (rooms .entry)) w k ⌝ }

@@ -23,7 +23,7 @@ fn copy(coordinates: &mut [i32], at: usize, places: &[i32], from: usize, n: usiz
     }
 }
 
-// Enters claim i of a run into a sound table with room for it.
+// [3.14] Enters claim i of a run into a sound table with room for it.
 pub fn add(
     t: Table,
     references: &mut [u32],
@@ -52,7 +52,7 @@ pub fn add(
     }
 }
 
-// Enters a run of claims into a sound table with room for it.
+// [3.15] Enters a run of claims into a sound table with room for it.
 pub fn add_run(
     t: Table,
     references: &mut [u32],

@@ -13,7 +13,7 @@ use paper::limits::MOST_CLAIMS;
 use paper::limits::SCRATCH_ROOM;
 use paper::tables::Table;
 
-// Whether the table is in range, and the lent memory holds what it needs.
+// [8.1] Whether the table is in range, and the lent memory holds what it needs.
 pub fn is_fit(t: Table, references: &[u32], coordinates: &[i32], rooms: &[u64]) -> bool
     ensures { λ r. ⌜ r ≡ fits (lent t (references .entry) (coordinates .entry) (rooms .entry)) ⌝ }
 {
@@ -68,7 +68,7 @@ fn same_front(a: &[u64], b: &[u64], w: usize) -> bool
     true
 }
 
-// Whether the table is sound. Its claims are entered again, into rooms of its own, and the rooms in use are compared.
+// [3.12] [8.2] Whether the table is sound. Its claims are entered again, into rooms of its own, and the rooms in use are compared.
 pub fn is_sound(t: Table, coordinates: &[i32], rooms: &[u64]) -> bool
     requires { ⌜ Lent t (length (now coordinates)) (length (now rooms)) ⌝ }
     ensures { λ r. ⌜ ((references : List ℕ) → r ≡ sound (store t references (now (coordinates .entry)) (now (rooms .entry)))) ⌝ }

@@ -1,4 +1,4 @@
--- From the walk's claim numbers to the paper's items. Assumes nothing.
+-- From the walk's claim numbers to the items of paper/specs. Assumes nothing.
 use Prim.Native.Nat.{ℕ, zero, suc, _+_, _*_, _<_, _≤_, _^_}
 use mathlib.Core.Path.{_≡_, refl, sym, ap, subst, _∙_}
 use mathlib.Core.Logic.{⊎-elim}
@@ -65,7 +65,7 @@ module _ (o : Order) (ref dist : ℕ → ℕ) where
 abbrev okIn : Query → Place → (ℕ → ℕ) → (ℕ → ℕ) → ℕ → Bool
 okIn q p ref dist k = leb (dist k) (q .reach) && follows (q .order) p (itemAt ref dist k)
 
--- what follows the place in the paper's list, by number
+-- what follows the place in the list of items, by number
 module _ (q : Query) (cs : List Claim) (p : Place) (ref dist : ℕ → ℕ) (n : ℕ) (small : n < 2 ^ 64) (agree : (k : ℕ) → k < n → itemOf q cs k ≡ itemAt ref dist k) where
   abbrev Sorted : ℕ → List ℕ
   Sorted s = sortedOf (ranks (q .order) dist) (okIn q p ref dist) s

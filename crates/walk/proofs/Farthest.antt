@@ -1,5 +1,5 @@
 -- Farthest finds something where there is a claim, whose coordinates are of 32 bits: none is beyond the measure's greatest distance.
--- With `farthest-none` it is Nothing exactly if the table is empty. Assumes nothing.
+-- With `farthest-none`: [4.2] it is Nothing just where there is no claim. Assumes nothing.
 use Prim.Native.Nat.{_<_}
 use mathlib.Core.Path.{_≡_}
 use mathlib.Core.List.{List}

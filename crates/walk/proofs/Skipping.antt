@@ -1,4 +1,4 @@
--- Why a branch may be skipped: from the symmetric measure's triangle inequality alone. Assumes nothing.
+-- [4.11] Why a side may be skipped: from the symmetric measure's triangle inequality alone. Assumes nothing.
 use Prim.Native.Nat.{ℕ, _+_, _*_, _<_, _≤_}
 use mathlib.Core.Path.{_≡_, refl, sym}
 use mathlib.Core.Bool.{Bool, true, false, cond, _&&_, _||_}
@@ -57,7 +57,8 @@ module _ (ask : Asked) (e : ℕ → ℕ → ℕ) (dist : ℕ → ℕ) (metric : 
   pub rank-between : (k j : ℕ) → ask .order ≡ Near → e k j ≤ rankBy ask dist k + rankBy ask dist j
   rank-between k j p = near-rank (ask .order) (dist k) (dist j) (e k j) p (metric .between k j)
 
--- by the far distance or halfway: a claim below is beyond the bound; ek and eo are its distances from the two claims, r its rank
+-- [4.13] [4.14] by the far distance or halfway: a claim below is beyond the bound; ek and eo are its distances from the two claims, r its
+-- rank
 pub beyond-skips : (o : Order) (bound x y s far ek eo r : ℕ) → beyondOf o bound x y s far ≡ true → x ≤ ek + r → ek ≤ far → ek + s ≤ eo
     → (o ≡ Near → eo ≤ y + r) → bound < r
 unfolding beyondOf halfOf
@@ -96,7 +97,7 @@ admitted-is ask x k = go (ltb k (ask .snapshot)) (leb x (ask .reach)) refl refl
     go true false p q h = absurd (no-way (sym h))
     go true true p q h = record { below = ltb-true k (ask .snapshot) p; within = leb-true x (ask .reach) q; after = λ a. rw a at h }
 
--- where all below comes before the mark, none is admitted
+-- [4.15] where all below comes before the mark, none is admitted
 pub passed-skips : (ask : Asked) (x far z j : ℕ) → passedOf ask x far ≡ true → rank (ask .order) z ≤ x + far → admitted ask z j ≡ true → ⊥
 unfolding passedOf
 passed-skips ask x far z j test h y = go (ask .after) (ltb (x + far) (rank (ask .order) (ask .mark .distance))) refl refl test
@@ -108,7 +109,7 @@ passed-skips ask x far z j test h y = go (ask .after) (ltb (x + far) (rank (ask 
         let b = before-rank (ask .order) (ask .mark .distance) (ask .mark .number) z j (admitted-is ask z j y .after p) in
         omega (arith, ltb-true (x + far) (rank (ask .order) (ask .mark .distance)) q)
 
--- an admitted claim's rank is at most the cap
+-- [4.12] an admitted claim's rank is at most the cap
 capped : (o : Order) (x reach : ℕ) → x ≤ reach → rank o x ≤ capOf o reach
 unfolding rank capOf
 capped Near x reach h = h

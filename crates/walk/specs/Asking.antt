@@ -1,4 +1,4 @@
--- The three questions to a sound table, in the paper's words. Definitions only.
+-- The three questions to a sound table, in the words of the rules. Definitions only.
 use Prim.Native.Nat.{ℕ, _*_, _<_, _≤_}
 use mathlib.Core.Path.{_≡_}
 use mathlib.Core.Bool.{true, false}
@@ -16,7 +16,7 @@ use Rattle.paper.specs.Tree.{Store, apartIn}
 use Rattle.tree.specs.Rooms.{Neartree, Located}
 use Rattle.keep.specs.declared.Asked.{Asked}
 
--- the question as the walk asks it: "From the start, the snapshot is the present count and no mark applies."
+-- [4.4] [4.5] the question as the walk asks it: at the start its snapshot is the count, and it has no mark
 unfoldable pub askedOf : Table → Order → ℕ → Place → ℕ → Asked
 askedOf t order reach Start size =
     record {
@@ -56,7 +56,7 @@ pub record Answerable (s : Store) (probe : List ℤ) : Type 0 where
   pub measurable : Measurable (s .table) (s .coordinates) probe
   pub named : s .table .count ≤ length (s .references)
 
--- a page can be asked for: the snapshot is not over the count, and the room holds the page
+-- [8.7] [8.12] a page can be asked for: the snapshot is not over the count, and the room holds the page
 pub record Pageable (t : Table) (place : Place) (size : ℕ) (room : List ℕ) : Type 0 where
   pub stored : snapshotOf place (t .count) ≤ t .count
   pub some : 0 < size
@@ -67,12 +67,12 @@ pub record Markable (t : Table) (coordinates probe : List ℤ) (place : Place) :
   pub measurable : Measurable t coordinates probe
   pub stored : snapshotOf place (t .count) ≤ t .count
 
--- the items stand at the front of the room, and what is behind them stays
+-- [4.8] the items stand at the front of the room, and what is behind them stays
 pub record Fills (items : List Item) (before after : List ℕ) (count : ℕ) : Type 0 where
   pub room : after ≡ fronted items before
   pub counts : count ≡ length items
 
--- the page stands at the front of the room, what is behind it stays, and count and last are the page's
+-- [4.6] [4.7] [4.8] the page stands at the front of the room, what is behind it stays, and count and last are the page's
 pub record PageIs (q : Query) (cs : List Claim) (place : Place) (size : ℕ) (before after : List ℕ) (r : Paged) : Type 0 where
   pub room : after ≡ fronted (pageOf q cs place size) before
   pub count : r .count ≡ length (pageOf q cs place size)

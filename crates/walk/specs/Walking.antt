@@ -59,8 +59,8 @@ pub record Reached (rooms : List ℕ) (e : ℕ → ℕ → ℕ) (way j : ℕ) : 
   pub some : way ≡ 0 → ⊥
   pub holds : Holds rooms e (way - 1) j
 
--- the room below side s of room m, plus one, or 0 where all below comes before the mark or is beyond what is still wanted: the side's
--- claim is at rank x, the other side's at rank y
+-- [4.11] the room below side s of room m, plus one, or 0 where all below comes before the mark or is beyond what is still wanted: the
+-- side's claim is at rank x, the other side's at rank y
 unfoldable pub wayDown : List ℕ → Asked → ℕ → ℕ → ℕ → ℕ → List ℕ → ℕ → ℕ
 wayDown rooms ask m s x y o count =
     cond (passedOf ask x (fieldAt rooms m (2 + s))) 0
@@ -111,6 +111,6 @@ pub record PageAsk (references : List ℕ) (coordinates : List ℤ) (rooms : Lis
   pub lent : Lent ask references coordinates probe
   pub roomy : Roomy (ask .size) o 0
 
--- the first so many admitted claims stand at the front of the room
+-- [4.6] [4.8] the first so many admitted claims stand at the front of the room
 abbrev pub AskFilled : Asked → List ℕ → (ℕ → ℕ) → List ℕ → List ℕ → ℕ → Type 0
 AskFilled ask references dist o o' r = Filled (ask .order) (referenceAt references) dist (okBy ask dist) (ask .claims) (ask .size) o o' r

@@ -1,4 +1,4 @@
-// Nearest, farthest and page of a sound table, by the definitions of the paper.
+// Nearest, farthest and page of a sound table, by the definitions in paper/specs.
 ghost use mathlib.Core.Path.{_≡_};
 ghost use Prim.Native.Nat.{ℕ};
 ghost use mathlib.Core.List.{List};
@@ -19,7 +19,7 @@ use paper::orders::Place;
 use paper::points::Measure;
 use paper::tables::Table;
 
-// The question as the walk asks it. From the start, the snapshot is the present count and no mark applies.
+// [4.4] [4.5] The question as the walk asks it.
 fn asked(t: Table, order: Order, reach: u64, place: Place, size: usize) -> Asked
     ensures { λ r. ⌜ r ≡ askedOf t order reach place size ⌝ }
 {
@@ -51,8 +51,8 @@ fn asked(t: Table, order: Order, reach: u64, place: Place, size: usize) -> Asked
     }
 }
 
-// The first `size` claims after the place, in order, at the front of the room, three numbers each: number, reference, distance. Gives
-// how many they are.
+// [4.6] [4.8] The first `size` claims after the place, in order, at the front of the room, three numbers each: number, reference,
+// distance. Gives how many they are.
 pub fn fill(
     t: Table,
     references: &[u32],
@@ -73,7 +73,7 @@ pub fn fill(
     page(references, coordinates, rooms, probe, ask, room)
 }
 
-// A page: so many claims at the front of the room, and whether there are no more.
+// [4.6] [4.7] A page: so many claims at the front of the room, and whether they are fewer than were asked for.
 pub fn page_of(
     t: Table,
     references: &[u32],
@@ -141,7 +141,7 @@ fn first(
     Found::Item(room[0], room[1], room[2])
 }
 
-// The first claim in near order, within reach.
+// [4.1] The nearest claim within reach.
 pub fn nearest(
     t: Table,
     references: &[u32],
@@ -157,7 +157,7 @@ pub fn nearest(
     first(t, references, coordinates, rooms, near, probe, reach)
 }
 
-// The claim at the largest distance, the smallest number of several. No claim is beyond the measure's greatest distance.
+// [4.2] [1.9] The farthest claim. None is beyond the measure's greatest distance.
 pub fn farthest(
     t: Table,
     references: &[u32],
@@ -173,7 +173,7 @@ pub fn farthest(
     first(t, references, coordinates, rooms, far, probe, greatest)
 }
 
-// Whether a place's mark is a claim of its snapshot, at that claim's distance, within reach.
+// [8.8] Whether a place's mark is a claim of its snapshot, at that claim's distance, within reach.
 pub fn mark_holds(t: Table, coordinates: &[i32], probe: &[i32], reach: u64, place: Place) -> bool
     requires { ⌜ Markable t (now coordinates) (now probe) place ⌝ }
     ensures { λ r. ⌜ ((order : Order) (references : List ℕ) → r ≡ markHolds (tableQuery t order (now (probe .entry)) reach) (claimsFrom (t .d) (t .count) references (now (coordinates .entry))) place) ⌝ }

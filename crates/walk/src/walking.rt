@@ -27,8 +27,8 @@ fn consider(references: &[u32], ask: Asked, k: u64, x: u64, room: &mut [u64], co
     count
 }
 
-// The room to go to below side s of room m, plus one, or 0 where no claim below can change the answer. The side's claim is at rank x,
-// the other side's at rank y.
+// [4.11] The room to go to below side s of room m, plus one, or 0 where nothing below it can change the answer. The side's claim is at
+// rank x, the other side's at rank y.
 fn way_down(
     rooms: &[u64],
     ask: Asked,
@@ -58,7 +58,7 @@ fn way_down(
     below
 }
 
-// The claims on and below the two sides of room m, the nearer side first.
+// [4.10] The claims on and below the two sides of room m, the side that ranks first before the other.
 fn node(
     references: &[u32],
     coordinates: &[i32],
@@ -97,8 +97,8 @@ fn node(
     side(references, coordinates, rooms, probe, ask, way, room, three)
 }
 
-// The claims below a side, where `way` is the room below it plus one, or 0 where none of them can change the answer. The tests are
-// made before the call: so short a function is compiled into `node`, and a level of the tree takes the stack of one call, not of two.
+// [4.10] The claims below a side, where `way` is the room below it plus one, or 0 where none of them can change the answer. The tests
+// are made before the call: so short a function is compiled into `node`, and a level of the tree takes the stack of one call, not of two.
 fn side(
     references: &[u32],
     coordinates: &[i32],
@@ -119,7 +119,7 @@ fn side(
     node(references, coordinates, rooms, probe, ask, m, room, count)
 }
 
-// Puts the first `size` admitted claims, in order, at the front of the room, three numbers a claim, and gives how many they are.
+// [4.6] [4.8] Puts the first `size` admitted claims, in order, at the front of the room, three numbers each, and gives how many they are.
 pub fn page(
     references: &[u32],
     coordinates: &[i32],

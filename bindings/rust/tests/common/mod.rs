@@ -1,4 +1,4 @@
-//! Document 01 told again in plain Rust, without a tree in the questions and without the library, and seeded numbers.
+//! The rules told again in plain Rust, without a tree in the questions and without the library, and seeded numbers.
 
 // Each test file uses its own part of this.
 #![allow(dead_code)]
@@ -145,7 +145,7 @@ pub fn enter(from: &mut Seeded, table: &mut Table, claims: &mut Claims, n: usize
     claims.all.extend(references.into_iter().zip(run.chunks(claims.d).map(<[i32]>::to_vec)));
 }
 
-/// A node of the tree, as document 01's "Building the tree" has it.
+/// [3.3] A node of the tree.
 struct Node {
     room: usize,
     left: usize,

@@ -1,5 +1,5 @@
--- The pair `node` and `side` meets its contracts: a node is answered through its two sides, a side through the node below it. The rooms
--- left above the node number fall at each call: the measure is twice as many, and one more for `side`. Assumes nothing.
+-- The pair `node` and `side` meets its contracts: the two call each other, and each call leaves fewer rooms above the one that is
+-- looked at. The measure is twice as many, and one more for `side`. Assumes nothing.
 use Prim.Native.Nat.{ℕ, _-_, _*_, _<_}
 use mathlib.Core.Path.{_∙_}
 use native.Mathlib.Omega.{arith}
