@@ -15,7 +15,7 @@ use Rattle.paper.specs.Tree.{Store}
 use Rattle.paper.specs.Lines.{putLine}
 use Rattle.paper.specs.Calls.{officeCall}
 use Rattle.paper.proofs.Outcomes.{must-go}
-use Rattle.batch.specs.Batch.{lineAt, Batch, start, answerNow, lengthSaid, rowPut, stepBy, step, goes, answered, startAt, nthLine, alone, lineSaid, answersOf, rowsOf, batchAt, AsAlone}
+use Rattle.batch.specs.Batch.{lineAt, Batch, batchStart, answerNow, lengthSaid, rowPut, stepBy, step, goes, batchAnswered, startAt, nthLine, alone, lineSaid, answersOf, rowsOf, batchAt, AsAlone}
 use Rattle.batch.proofs.Cutting.{cut-on}
 use Rattle.batch.proofs.Steps.{goes-room-for, same-batch}
 use Rattle.paper.specs.Limits.{longestAnswer}
@@ -111,21 +111,21 @@ module _ (s : Store) (asks : List ℕ) where
     -- ---- all steps
 
     answered-is : (f n : ℕ)
-        → answered f s asks (batchAt n s asks outcomes out) ≡ batchAt (answered f s asks (batchAt n s asks outcomes out) .lines) s asks outcomes out
-    unfolding answered batchAt
+        → batchAnswered f s asks (batchAt n s asks outcomes out) ≡ batchAt (batchAnswered f s asks (batchAt n s asks outcomes out) .lines) s asks outcomes out
+    unfolding batchAnswered batchAt
     answered-is zero n = refl
     answered-is (suc f) n = go (goes asks (batchAt n s asks outcomes out)) refl (answered-is f (suc n))
       where
         go : (b : Bool) → goes asks (batchAt n s asks outcomes out) ≡ b
-            → answered f s asks (batchAt (suc n) s asks outcomes out) ≡ batchAt (answered f s asks (batchAt (suc n) s asks outcomes out) .lines) s asks outcomes out
-            → cond b (answered f s asks (step s asks (batchAt n s asks outcomes out))) (batchAt n s asks outcomes out)
-            ≡ batchAt (cond b (answered f s asks (step s asks (batchAt n s asks outcomes out))) (batchAt n s asks outcomes out) .lines) s asks outcomes out
-        go true e deep = subst (λ (b : Batch). answered f s asks b ≡ batchAt (answered f s asks b .lines) s asks outcomes out) (sym (step-is n e)) deep
+            → batchAnswered f s asks (batchAt (suc n) s asks outcomes out) ≡ batchAt (batchAnswered f s asks (batchAt (suc n) s asks outcomes out) .lines) s asks outcomes out
+            → cond b (batchAnswered f s asks (step s asks (batchAt n s asks outcomes out))) (batchAt n s asks outcomes out)
+            ≡ batchAt (cond b (batchAnswered f s asks (step s asks (batchAt n s asks outcomes out))) (batchAt n s asks outcomes out) .lines) s asks outcomes out
+        go true e deep = subst (λ (b : Batch). batchAnswered f s asks b ≡ batchAt (batchAnswered f s asks b .lines) s asks outcomes out) (sym (step-is n e)) deep
         go false e deep = refl
 
 module _ (s : Store) (asks outcomes out : List ℕ) (f : ℕ) where
   abbrev Result : Batch
-  Result = answered f s asks (start outcomes out)
+  Result = batchAnswered f s asks (batchStart outcomes out)
 
   abbrev Count : ℕ
   Count = Result .lines
@@ -206,9 +206,9 @@ module _ (s : Store) (asks : List ℕ) where
             is = ap (λ (l : List ℕ). l ++ lineSaid (alone s asks n)) (p .is) ∙ simp append-assoc;
           }
 
-  module _ (outcomes out : List ℕ) (f k : ℕ) (h : k < answered f s asks (start outcomes out) .lines) where
+  module _ (outcomes out : List ℕ) (f k : ℕ) (h : k < batchAnswered f s asks (batchStart outcomes out) .lines) where
     abbrev Done : Batch
-    Done = answered f s asks (start outcomes out)
+    Done = batchAnswered f s asks (batchStart outcomes out)
 
     row-in : (i : ℕ) → i < 2 → getD (Done .outcomes) (2 * k + i) 0 ≡ getD (number (alone s asks k) ∷ lengthSaid (alone s asks k) ∷ []) i 0
     row-in i j =
@@ -238,16 +238,16 @@ unfolding goes
 goes-end asks b h = rw (le-ltb (b .used) (length asks) h)
 
 module _ (s : Store) (asks : List ℕ) where
-  stopped : (f : ℕ) (b : Batch) → length asks ≤ b .used + f → goes asks (answered f s asks b) ≡ false
-  unfolding answered step stepBy
+  stopped : (f : ℕ) (b : Batch) → length asks ≤ b .used + f → goes asks (batchAnswered f s asks b) ≡ false
+  unfolding batchAnswered step stepBy
   stopped zero b h = goes-end asks b (omega arith)
   stopped (suc f) b h = go (goes asks b) refl (stopped f (step s asks b))
     where
-      go : (c : Bool) → goes asks b ≡ c → (length asks ≤ step s asks b .used + f → goes asks (answered f s asks (step s asks b)) ≡ false)
-          → goes asks (cond c (answered f s asks (step s asks b)) b) ≡ false
+      go : (c : Bool) → goes asks b ≡ c → (length asks ≤ step s asks b .used + f → goes asks (batchAnswered f s asks (step s asks b)) ≡ false)
+          → goes asks (cond c (batchAnswered f s asks (step s asks b)) b) ≡ false
       go true e deep = deep (let m = cut-on asks (b .used) (goes-room-for asks b e .unread) in omega (arith, m))
       go false e deep = e
 
   -- the asks are used up, or one of the rooms is
-  pub stops-for-want : (outcomes out : List ℕ) → goes asks (answered (length asks) s asks (start outcomes out)) ≡ false
-  stops-for-want outcomes out = stopped (length asks) (start outcomes out) (omega arith)
+  pub stops-for-want : (outcomes out : List ℕ) → goes asks (batchAnswered (length asks) s asks (batchStart outcomes out)) ≡ false
+  stops-for-want outcomes out = stopped (length asks) (batchStart outcomes out) (omega arith)

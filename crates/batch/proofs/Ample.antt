@@ -12,18 +12,18 @@ use Rattle.paper.specs.Orders.{flat, following, pageOf, snapshotHolds, markHold
 use Rattle.paper.specs.Outcomes.{gives, must, onto}
 use Rattle.paper.specs.Tree.{Store, fits}
 use Rattle.paper.specs.Tree as Tree
-use Rattle.paper.specs.Frames.{frameOf, sound}
+use Rattle.paper.specs.Frames.{frameOf, isLine}
 use Rattle.paper.specs.Fields.{flagOf}
 use Rattle.paper.specs.Lines.{isAsk, askAt, answerFrame}
 use Rattle.paper.specs.Ends.{Ask, tableOf, matches, answerOf, answerTo, served}
 use Rattle.paper.specs.Ends as Ends
-use Rattle.paper.specs.Codec.{asked, answerLine, readAsk, scopeOf, lines}
+use Rattle.paper.specs.Codec.{askMeant, answerLine, readAsk, scopeOf, lines}
 use Rattle.paper.specs.Calls.{officeCall}
 use Rattle.orders.proofs.Rooms.{flat-length}
-use Rattle.digits.proofs.Laws.{length-line}
+use Rattle.digits.proofs.NumbersAndFrames.{length-line}
 use Rattle.lines.proofs.Tests.{length-answer}
-use Rattle.desk.proofs.Ways.{ask-given}
-use Rattle.batch.specs.Batch.{Batch, start, lengthSaid, goes, answered, startAt, nthLine, alone, lineSaid, answersOf, rowsOf, batchAt}
+use Rattle.desk.proofs.AnswerToAsk.{ask-given}
+use Rattle.batch.specs.Batch.{Batch, batchStart, lengthSaid, goes, batchAnswered, startAt, nthLine, alone, lineSaid, answersOf, rowsOf, batchAt}
 use Rattle.batch.proofs.Cutting.{cut-short}
 use Rattle.batch.proofs.Alone.{said-size, rows-long, batch-is, stops-for-want}
 use Rattle.paper.specs.Limits.{longestAnswer, mostPage}
@@ -51,16 +51,16 @@ reply-short t a narrow most = go (matches t (a .query)) (snapshotHolds (t .claim
     go false y z = omega arith
 
 served-short : (t : Ends.Table) (line : List ℕ) → lengthSaid (served lines t line) ≤ longestAnswer
-unfolding served readAsk lengthSaid asked
-served-short t line = go (sound line) (isAsk (frameOf line)) refl
+unfolding served readAsk lengthSaid askMeant
+served-short t line = go (isLine line) (isAsk (frameOf line)) refl
   where
     go : (x y : Bool) → isAsk (frameOf line) ≡ y
-        → lengthSaid (onto (must x 9 (must y 10 (gives (asked (askAt (frameOf line)))))) (λ a. onto (answerTo t a) (λ y. gives (answerLine y)))) ≤ longestAnswer
+        → lengthSaid (onto (must x 9 (must y 10 (gives (askMeant (askAt (frameOf line)))))) (λ a. onto (answerTo t a) (λ y. gives (answerLine y)))) ≤ longestAnswer
     go true true e =
         let g = ask-given (frameOf line) e in
         let q = askAt (frameOf line) .query in
         let m = length-take (q .d) (q .probe) in
-        reply-short t (asked (askAt (frameOf line))) (omega (arith, m, g .narrow)) (g .most)
+        reply-short t (askMeant (askAt (frameOf line))) (omega (arith, m, g .narrow)) (g .most)
     go true false e = omega arith
     go false y e = omega arith
 
@@ -125,12 +125,12 @@ module _ (s : Store) (asks outcomes out : List ℕ) (count : ℕ) (all : startAt
           absurd (omega arith)
       earlier (no gt) = omega arith
 
-  pub all-lines-answered : answered (length asks) s asks (start outcomes out) .used ≡ length asks
+  pub all-lines-answered : batchAnswered (length asks) s asks (batchStart outcomes out) .used ≡ length asks
   unfolding batchAt
   all-lines-answered =
-      let n = answered (length asks) s asks (start outcomes out) .lines in
+      let n = batchAnswered (length asks) s asks (batchStart outcomes out) .lines in
       let is = batch-is s asks outcomes out (length asks) in
-      let u : answered (length asks) s asks (start outcomes out) .used ≡ startAt n asks = ap (λ (b : Batch). b .used) is in
+      let u : batchAnswered (length asks) s asks (batchStart outcomes out) .used ≡ startAt n asks = ap (λ (b : Batch). b .used) is in
       let stop : goes asks (batchAt n s asks outcomes out) ≡ false = subst (λ (b : Batch). goes asks b ≡ false) is (stops-for-want s asks outcomes out) in
       u ∙ end n stop (decLe (length asks) (startAt n asks))
     where

@@ -10,7 +10,7 @@ use lib.ListN.{length}
 use Rattle.paper.specs.Outcomes.{Outcome, refused, gives, must, number, leaves}
 use Rattle.paper.specs.Tree.{Store, fits, sound}
 use Rattle.batch.specs.declared.Answered.{Answered}
-use Rattle.batch.specs.Batch.{Batch, start, goes, answered, batchCall, batchOf, twoRooms, answeredAs, putBatch, AnswersAll, AsAlone}
+use Rattle.batch.specs.Batch.{Batch, batchStart, goes, batchAnswered, batchCall, batchOf, twoRooms, answeredAs, putBatch, AnswersAll, AsAlone}
 use Rattle.batch.proofs.Alone.{each-line-as-alone, stops-for-want}
 use Rattle.paper.specs.Limits.{longestAnswer}
 
@@ -27,10 +27,10 @@ number-shown (gives b) = refl
 
 module _ (s : Store) (asks outcomes out : List ℕ) (r : Answered) (outcomes' out' : List ℕ)
     (p : AnswersAll (batchCall s asks outcomes out) (twoRooms outcomes out) r (twoRooms outcomes' out')) (none : r .refusal ≡ 0) where
-  pub promise-gives : batchOf r outcomes' out' ≡ answered (length asks) s asks (start outcomes out)
+  pub promise-gives : batchOf r outcomes' out' ≡ batchAnswered (length asks) s asks (batchStart outcomes out)
   unfolding batchCall
   promise-gives =
-      let b = answered (length asks) s asks (start outcomes out) in
+      let b = batchAnswered (length asks) s asks (batchStart outcomes out) in
       let n : number (batchCall s asks outcomes out) ≡ 0 = number-shown (batchCall s asks outcomes out) ∙ ap (λ (x : Answered). x .refusal) (sym (p .result)) ∙ none in
       let e = given (leb longestAnswer (length out)) (fits s) (sound s) b n in
       let x : r ≡ answeredAs (gives b) = p .result ∙ ap answeredAs e in

@@ -17,7 +17,7 @@ use Rattle.paper.specs.Codec.{lines}
 use Rattle.paper.proofs.Tests.{and-first, and-second}
 use Rattle.paper.specs.Lines.{wroteOf, putLine, Writes}
 use Rattle.desk.specs.Desk.{Open}
-use Rattle.nearby.proofs.CallLaws.{office-open, office-answers}
+use Rattle.nearby.proofs.QuestionsAndLists.{office-open, office-answers}
 use Rattle.batch.specs.declared.Answered.{Answered}
 use Rattle.batch.specs.declared.outcomes.Said.{Said}
 use Rattle.batch.specs.Batch.{cutAt, lineAt, Batch, answerNow, lengthSaid, rowPut, stepBy, step, goes, batchOf, Stands, Turning, saidBy}

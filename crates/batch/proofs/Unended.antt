@@ -8,7 +8,7 @@ use lib.ListN.{length, getD}
 use borrow.Author.Tests.{ne-eqb}
 use Rattle.paper.specs.Outcomes.{Outcome, refused, gives, onto}
 use Rattle.paper.specs.Tree.{Store}
-use Rattle.paper.specs.Frames.{digit, ended, sound}
+use Rattle.paper.specs.Frames.{digit, pairsEnded, isLine}
 use Rattle.paper.specs.Ends.{Ask, tableOf, answerTo, served}
 use Rattle.paper.specs.Codec.{lines, readAsk, answerLine}
 use Rattle.paper.specs.Calls.{tableRefusal, officeCall}
@@ -25,22 +25,22 @@ pub three-lines : (nthLine 0 three ≡ 122 ∷ 10 ∷ []) × (nthLine 1 three �
 unfolding nthLine lineAt startAt cutAt
 three-lines = (refl, refl, refl, refl)
 
-unended : (l : List ℕ) → ((i : ℕ) → getD l i 0 ≡ 10 → ⊥) → ended l ≡ false
-unfolding ended
+unended : (l : List ℕ) → ((i : ℕ) → getD l i 0 ≡ 10 → ⊥) → pairsEnded l ≡ false
+unfolding pairsEnded
 unended [] h = refl
 unended (a ∷ []) h = ne-eqb a 10 (h 0)
 unended (a ∷ b ∷ l) h = go (ltb (digit a) 16) (ltb (digit b) 16) (unended l (λ i. h (suc (suc i))))
   where
-    go : (x y : Bool) → ended l ≡ false → (x && (y && ended l)) ≡ false
+    go : (x y : Bool) → pairsEnded l ≡ false → (x && (y && pairsEnded l)) ≡ false
     go true true e = e
     go true false e = refl
     go false y e = refl
 
-unsound : (l : List ℕ) → ended l ≡ false → sound l ≡ false
-unfolding sound
+unsound : (l : List ℕ) → pairsEnded l ≡ false → isLine l ≡ false
+unfolding isLine
 unsound l e = go (ltb 1 (length l)) (leb (length l) longestAnswer)
   where
-    go : (x y : Bool) → (x && (y && ended l)) ≡ false
+    go : (x y : Bool) → (x && (y && pairsEnded l)) ≡ false
     go true true = e
     go true false = refl
     go false y = refl
@@ -50,4 +50,4 @@ unfolding alone officeCall served readAsk
 unended-refused s asks k ok h =
     table-goes s 0 ok refl (served lines (tableOf s) (nthLine k asks))
     ∙ ap (λ (o : Outcome Ask). onto o (λ a. onto (answerTo (tableOf s) a) (λ y. gives (answerLine y))))
-    (must-stop (sound (nthLine k asks)) 9 _ (unsound (nthLine k asks) (unended (nthLine k asks) h)))
+    (must-stop (isLine (nthLine k asks)) 9 _ (unsound (nthLine k asks) (unended (nthLine k asks) h)))

@@ -11,7 +11,7 @@ use Rattle.paper.proofs.Outcomes.{must-stop, must-go, promise-refused, promise-
 use Rattle.paper.specs.Calls.{tableRefusal}
 use Rattle.tested.proofs.TableLaws.{table-refused, table-goes}
 use Rattle.batch.specs.declared.Answered.{Answered}
-use Rattle.batch.specs.Batch.{Batch, start, answered, batchCall, Rooms, twoRooms, answeredAs, putBatch, AnswersAll, refusedBy, Stands}
+use Rattle.batch.specs.Batch.{Batch, batchStart, batchAnswered, batchCall, Rooms, twoRooms, answeredAs, putBatch, AnswersAll, refusedBy, Stands}
 use Rattle.paper.specs.Limits.{longestAnswer}
 
 stands-given : (o : Outcome Batch) (b : Batch) (before : Rooms) (r : Answered) (outcomes out : List ℕ) → o ≡ gives b → Stands b r outcomes out
@@ -31,7 +31,7 @@ module _ (s : Store) (asks outcomes out : List ℕ) (r : Answered) where
     unfolding batchCall
     all-refused h q = promise-refused answeredAs putBatch _ (twoRooms outcomes out) n r (must-go (leb longestAnswer (length out)) 12 _ (le-leb longestAnswer (length out) long) ∙ table-refused s n we _ h) q
 
-    pub all-answered : n ≡ 0 → (outcomes' out' : List ℕ) → Stands (answered (length asks) s asks (start outcomes out)) r outcomes' out'
+    pub all-answered : n ≡ 0 → (outcomes' out' : List ℕ) → Stands (batchAnswered (length asks) s asks (batchStart outcomes out)) r outcomes' out'
         → AnswersAll (batchCall s asks outcomes out) (twoRooms outcomes out) r (twoRooms outcomes' out')
     unfolding batchCall
     all-answered h outcomes' out' q =

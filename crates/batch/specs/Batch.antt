@@ -33,8 +33,8 @@ pub record Batch : Type 0 where
   pub outcomes : List ℕ
   pub out : List ℕ
 
-abbrev pub start : List ℕ → List ℕ → Batch
-start outcomes out = record { lines = 0; used = 0; written = 0; outcomes = outcomes; out = out }
+abbrev pub batchStart : List ℕ → List ℕ → Batch
+batchStart outcomes out = record { lines = 0; used = 0; written = 0; outcomes = outcomes; out = out }
 
 -- [6.5] what the single call gives for the line at hand, in the room that is left
 unfoldable pub answerNow : Store → List ℕ → Batch → Outcome (List ℕ)
@@ -69,14 +69,14 @@ goes asks b =
     && (leb (2 * b .lines + 2) (length (b .outcomes)) && leb (b .written + longestAnswer) (length (b .out)))
 
 -- the first number bounds the steps
-unfoldable pub answered : ℕ → Store → List ℕ → Batch → Batch
-answered zero s asks b = b
-answered (suc f) s asks b = cond (goes asks b) (answered f s asks (step s asks b)) b
+unfoldable pub batchAnswered : ℕ → Store → List ℕ → Batch → Batch
+batchAnswered zero s asks b = b
+batchAnswered (suc f) s asks b = cond (goes asks b) (batchAnswered f s asks (step s asks b)) b
 
 -- [9.18] refusals 12, 1, 2, and then line after line: every line uses a byte, so the bytes bound the steps
 unfoldable pub batchCall : Store → List ℕ → List ℕ → List ℕ → Outcome Batch
 batchCall s asks outcomes out =
-    must (answerRoom (length out)) 12 (onTable s (gives (answered (length asks) s asks (start outcomes out))))
+    must (answerRoom (length out)) 12 (onTable s (gives (batchAnswered (length asks) s asks (batchStart outcomes out))))
 
 -- ---- what it comes to, line by line
 

@@ -6,7 +6,7 @@ ghost use lib.Dec.{ltb, leb};
 ghost use lib.ListN.{length};
 ghost use Rattle.paper.specs.Tree.{lent};
 ghost use Rattle.paper.specs.Calls.{tableRefusal};
-ghost use Rattle.batch.specs.Batch.{start, step, answered, batchOf, Stands, Turning};
+ghost use Rattle.batch.specs.Batch.{batchStart, step, batchAnswered, batchOf, Stands, Turning};
 ghost use Rattle.paper.specs.Limits.{longestAnswer};
 use super::ends::line_end;
 use super::outcomes::put_row;
@@ -78,7 +78,7 @@ pub fn answer_lines(
     out: &mut [u8],
 ) -> Answered
     requires { ⌜ 0 ≡ tableRefusal (lent t references coordinates rooms) ⌝ }
-    ensures { λ r. ⌜ Stands (answered (length (now (asks .entry))) (lent t (references .entry) (coordinates .entry) (rooms .entry)) (now (asks .entry)) (start (now (outcomes .entry)) (now (out .entry)))) r (now (outcomes .exit)) (now (out .exit)) ⌝ }
+    ensures { λ r. ⌜ Stands (batchAnswered (length (now (asks .entry))) (lent t (references .entry) (coordinates .entry) (rooms .entry)) (now (asks .entry)) (batchStart (now (outcomes .entry)) (now (out .entry)))) r (now (outcomes .exit)) (now (out .exit)) ⌝ }
 {
     let mut d = Answered {
         refusal: 0,

@@ -107,8 +107,8 @@ listOut l =
       count = l .count;
     }
 
-abbrev pub scopeIn : Extent → Scope
-scopeIn p = record { from = p .from; snapshot = p .snapshot; distance = p .distance; number = p .number }
+abbrev pub scopeFrom : Extent → Scope
+scopeFrom p = record { from = p .from; snapshot = p .snapshot; distance = p .distance; number = p .number }
 
 abbrev pub extentOut : ℕ → Scope → Extent
 extentOut reach p =

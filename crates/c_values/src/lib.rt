@@ -4,7 +4,7 @@
 ghost use mathlib.Core.Path.{_≡_};
 ghost use Prim.Native.Nat.{_≤_};
 ghost use Rattle.paper.specs.Limits.{mostPlaces};
-ghost use Rattle.c_values.specs.Values.{noTable, madeOut, enteredOut, itemOut, filledOut, writtenOf, placeOf, listIn, listOut, openedOut, takenOut, scopeIn, extentOut, askOut, answerOut};
+ghost use Rattle.c_values.specs.Values.{noTable, madeOut, enteredOut, itemOut, filledOut, writtenOf, placeOf, listIn, listOut, openedOut, takenOut, scopeFrom, extentOut, askOut, answerOut};
 use checks::flag;
 use paper::limits::ITEM_ROOM;
 use paper::limits::MOST_PLACES;
@@ -308,7 +308,7 @@ pub fn list_taken(t: Taken) -> Listed
 }
 
 pub fn scope_in(p: Extent) -> Scope
-    ensures { λ r. ⌜ r ≡ scopeIn p ⌝ }
+    ensures { λ r. ⌜ r ≡ scopeFrom p ⌝ }
 {
     Scope {
         from: p.from,

@@ -10,7 +10,7 @@ use lib.ListN.{length, getD, set, drop, length-set, length-append, length-drop}
 use lib.Dec.{eqb}
 use lib.Seq.{drop-cons, take-suc-set, drop-drop, drop-nil}
 use borrow.Author.Tests.{eq-eqb, ne-eqb, le-leb, lt-leb}
-use Rattle.cut.specs.Cut.{longer, Taken, taken, cutOf, lineIn, restIn, hasEnd, Kept}
+use Rattle.cut.specs.Cut.{longer, Taken, takenWith, cutOf, lineIn, restIn, hasEnd, Kept}
 
 -- one turn
 module _ (most : ℕ) (l : List ℕ) (n i : ℕ) (chunk : List ℕ) where
@@ -18,7 +18,7 @@ module _ (most : ℕ) (l : List ℕ) (n i : ℕ) (chunk : List ℕ) where
   open-at h = rw (add-one i) (drop-cons chunk i 0 h)
 
   pub cut-end : i < length chunk → getD chunk i 0 ≡ 10
-      → cutOf most l n i (drop i chunk) ≡ taken (set l n (getD chunk i 0)) (record { at = i + 1; size = longer most n; whole = true })
+      → cutOf most l n i (drop i chunk) ≡ takenWith (set l n (getD chunk i 0)) (record { at = i + 1; size = longer most n; whole = true })
   unfolding cutOf
   cut-end h e = rw (open-at h, eq-eqb (getD chunk i 0) 10 e)
 
@@ -27,7 +27,7 @@ module _ (most : ℕ) (l : List ℕ) (n i : ℕ) (chunk : List ℕ) where
   unfolding cutOf
   cut-more h e = rw (open-at h, ne-eqb (getD chunk i 0) 10 e)
 
-  pub cut-none : length chunk ≤ i → cutOf most l n i (drop i chunk) ≡ taken l (record { at = i; size = n; whole = false })
+  pub cut-none : length chunk ≤ i → cutOf most l n i (drop i chunk) ≡ takenWith l (record { at = i; size = n; whole = false })
   unfolding cutOf
   cut-none h = rw (drop-past i chunk h)
     where
@@ -38,7 +38,7 @@ module _ (most : ℕ) (l : List ℕ) (n i : ℕ) (chunk : List ℕ) where
 
 -- a turn of the loop, where the line and its size came out as l' and n'
 module _ (most : ℕ) (l l' : List ℕ) (n n' i : ℕ) (chunk : List ℕ) (all : Taken) (inv : cutOf most l n i (drop i chunk) ≡ all) (hi : i < length chunk) where
-  pub cut-ends : getD chunk i 0 ≡ 10 → l' ≡ set l n (getD chunk i 0) → n' ≡ longer most n → taken l' (record { at = i + 1; size = n'; whole = true }) ≡ all
+  pub cut-ends : getD chunk i 0 ≡ 10 → l' ≡ set l n (getD chunk i 0) → n' ≡ longer most n → takenWith l' (record { at = i + 1; size = n'; whole = true }) ≡ all
   cut-ends e p q = rw (p, q) (sym (cut-end most l n i chunk hi e) ∙ inv)
 
   pub cut-goes : (getD chunk i 0 ≡ 10 → ⊥) → l' ≡ set l n (getD chunk i 0) → n' ≡ longer most n → cutOf most l' n' (i + 1) (drop (i + 1) chunk) ≡ all
@@ -113,7 +113,7 @@ cut-at most [] l n i = omega arith
 cut-at most (x ∷ xs) l n i = go (eqb x 10) (cut-at most xs (set l n x) (longer most n) (i + 1))
   where
     go : (b : Bool) → cutOf most (set l n x) (longer most n) (i + 1) xs .piece .at ≡ i + 1 + length (lineIn xs)
-        → cond b (taken (set l n x) (record { at = i + 1; size = longer most n; whole = true })) (cutOf most (set l n x) (longer most n) (i + 1) xs) .piece .at ≡ i + length (x ∷ cond b [] (lineIn xs))
+        → cond b (takenWith (set l n x) (record { at = i + 1; size = longer most n; whole = true })) (cutOf most (set l n x) (longer most n) (i + 1) xs) .piece .at ≡ i + length (x ∷ cond b [] (lineIn xs))
     go true deep = refl
     go false deep = omega (arith, deep)
 

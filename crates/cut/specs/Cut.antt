@@ -17,14 +17,14 @@ pub record Taken : Type 0 where
   pub line : List ℕ
   pub piece : Piece
 
-abbrev pub taken : List ℕ → Piece → Taken
-taken l p = record { line = l; piece = p }
+abbrev pub takenWith : List ℕ → Piece → Taken
+takenWith l p = record { line = l; piece = p }
 
 -- [10.8] the bytes xs, which start at i in the chunk, are added to a line of size n in the room l
 unfoldable pub cutOf : ℕ → List ℕ → ℕ → ℕ → List ℕ → Taken
-cutOf most l n i [] = taken l (record { at = i; size = n; whole = false })
+cutOf most l n i [] = takenWith l (record { at = i; size = n; whole = false })
 cutOf most l n i (x ∷ xs) =
-    cond (eqb x 10) (taken (set l n x) (record { at = i + 1; size = longer most n; whole = true }))
+    cond (eqb x 10) (takenWith (set l n x) (record { at = i + 1; size = longer most n; whole = true }))
     (cutOf most (set l n x) (longer most n) (i + 1) xs)
 
 -- ---- what that means

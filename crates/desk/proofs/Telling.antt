@@ -19,7 +19,7 @@ use Rattle.paper.specs.Orders.{Item, Query, queryIn, snapshotOf, earlier, inser
 use Rattle.paper.specs.Tree.{Store, claimsIn}
 use Rattle.paper.specs.Outcomes.{gives}
 use Rattle.paper.specs.Frames.{lineOf}
-use Rattle.lines.proofs.Ways.{bare-fits}
+use Rattle.lines.proofs.WritersReaders.{bare-fits}
 use Rattle.paper.specs.Fields.{flagOf, scopeOk, numbersOk, referencesOk}
 use Rattle.paper.specs.Lines.{Writes, bareLine, queryFits, answerFrame, answerRanges, answerFits}
 use Rattle.paper.specs.Ends.{answerOf, tableOf, matches}
@@ -27,7 +27,7 @@ use Rattle.paper.specs.Codec.{placeIn, scopeOf, answerLine}
 use Rattle.paper.proofs.Tests.{and-first, and-second, and-both}
 use Rattle.paper.proofs.Ranges.{is-range}
 use Rattle.checks.proofs.Naming.{place-start, place-after}
-use Rattle.tree.proofs.Known.{good-few}
+use Rattle.tree.proofs.TestedTables.{good-few}
 use Rattle.paper.specs.Calls.{tableQuery}
 use Rattle.walk.specs.Asking.{Pageable, Markable, PageIs}
 use Rattle.tree.proofs.Places.{claims-length}

@@ -2,7 +2,7 @@
 ghost use lib.ListN.{length};
 ghost use Rattle.paper.specs.Tree.{lent};
 ghost use Rattle.paper.specs.Ends.{tableOf, served};
-ghost use Rattle.paper.specs.Codec.{asked};
+ghost use Rattle.paper.specs.Codec.{askMeant};
 ghost use Rattle.paper.specs.Codec.{lines as Codec·lines};
 ghost use Rattle.paper.specs.Program.{replyTo};
 ghost use Rattle.paper.specs.Lines.{Writes};
@@ -53,7 +53,7 @@ pub fn answer_ask(
     out: &mut [u8],
 ) -> Wrote
     requires { ⌜ Answering (lent t references coordinates rooms) ask (length (now out)) ⌝ }
-    ensures { λ r. ⌜ Writes (replyTo (tableOf (lent t (references .entry) (coordinates .entry) (rooms .entry))) (asked ask)) (now (out .entry)) r (now (out .exit)) ⌝ }
+    ensures { λ r. ⌜ Writes (replyTo (tableOf (lent t (references .entry) (coordinates .entry) (rooms .entry))) (askMeant ask)) (now (out .entry)) r (now (out .exit)) ⌝ }
 {
     let q = ask.query;
     if !is_ours(t, q.table, q.measure, q.d) {

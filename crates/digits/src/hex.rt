@@ -3,7 +3,7 @@ ghost use mathlib.Core.Path.{_≡_};
 ghost use mathlib.Core.List.{_++_};
 ghost use Prim.Native.Nat.{_/_, _≤_, _<_};
 ghost use lib.ListN.{length, drop};
-ghost use Rattle.paper.specs.Frames.{sound, frameOf};
+ghost use Rattle.paper.specs.Frames.{isLine, frameOf};
 ghost use Rattle.paper.specs.Frames.{glyph as Frames·glyph, digit as Frames·digit};
 ghost use Rattle.paper.specs.Limits.{longestFrame};
 ghost use Rattle.digits.specs.Places.{Framed};
@@ -38,7 +38,7 @@ pub fn digit(b: u8) -> u64
 
 // [8.9] Whether a line is pairs of digits, one at least, with 0A behind them, and not too long.
 pub fn is_sound(line: &[u8]) -> bool
-    ensures { λ r. ⌜ r ≡ sound (now (line .entry)) ⌝ }
+    ensures { λ r. ⌜ r ≡ isLine (now (line .entry)) ⌝ }
 {
     let n = line.len();
     if n < 2 {

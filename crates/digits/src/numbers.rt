@@ -5,13 +5,13 @@ ghost use lib.ListN.{length};
 ghost use mir.Syntax.{w32};
 ghost use mir.Val.{ofZ, toZ};
 ghost use Rattle.paper.specs.Frames.{be};
-ghost use Rattle.digits.specs.Places.{over, held, Field};
+ghost use Rattle.digits.specs.Places.{overlaid, frameIn, Field};
 use crate::hex::glyph;
 
 // [5.2] Writes n in w bytes, as digits, at byte `at` of the line that `out` holds.
 pub fn put(out: &mut [u8], at: usize, w: usize, n: u64)
     requires { ⌜ 2 * (at + w) ≤ length (now out) ⌝ }
-    ensures { λ _. ⌜ now (out .exit) ≡ over (now (out .entry)) at (be w n) ⌝ }
+    ensures { λ _. ⌜ now (out .exit) ≡ overlaid (now (out .entry)) at (be w n) ⌝ }
 {
     let mut i = w;
     let mut rest = n;
@@ -27,14 +27,14 @@ pub fn put(out: &mut [u8], at: usize, w: usize, n: u64)
 
 // How many bytes the frame has that `src` holds.
 pub fn size(src: &[u8]) -> usize
-    ensures { λ r. ⌜ r ≡ length (held (now (src .entry))) ⌝ }
+    ensures { λ r. ⌜ r ≡ length (frameIn (now (src .entry))) ⌝ }
 {
     src.len()
 }
 
 // [5.2] The number in the w bytes from byte `at` on of the frame that `src` holds.
 pub fn number(src: &[u8], at: usize, w: usize) -> u64
-    requires { ⌜ (at + w ≤ length (held (now src))) × (w ≤ 8) ⌝ }
+    requires { ⌜ (at + w ≤ length (frameIn (now src))) × (w ≤ 8) ⌝ }
     ensures { λ r. ⌜ Field (now (src .entry)) at w r ⌝ }
 {
     let mut acc: u64 = 0;

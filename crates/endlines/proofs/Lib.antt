@@ -2,4 +2,4 @@
 pub mod Parts
 pub mod Written
 pub mod Read
-pub mod Real
+pub mod RealLines

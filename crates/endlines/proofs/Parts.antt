@@ -15,14 +15,14 @@ use Rattle.paper.specs.declared.lines.Scope.{Scope}
 use Rattle.paper.specs.declared.orders.Place.{Place}
 use Rattle.paper.specs.declared.orders.Place.the-variants.{Start, After}
 use Rattle.paper.specs.Frames.{num}
-use Rattle.paper.specs.Fields.{coordsIn, scopeOk, itemsIn, numbersOk, referencesOk}
+use Rattle.paper.specs.Fields.{coordsIn, scopeOk, itemNumbers, numbersOk, referencesOk}
 use Rattle.paper.specs.Orders.{Item, Query, snapshotOf, flat}
 use Rattle.paper.specs.Lists as lists
 use Rattle.paper.specs.Codec.{scopeOf, placeIn}
-use Rattle.digits.proofs.Laws.{Bytes, bytes-drop, num-lt}
+use Rattle.digits.proofs.NumbersAndFrames.{Bytes, bytes-drop, num-lt}
 use Rattle.fields.proofs.Round.{Fit, QueryFit, ScopeFit}
 use Rattle.fields.proofs.ItemLaws.{Distances}
-use Rattle.orders.specs.Laws.{QueryOk, PlaceOk, ItemOk}
+use Rattle.orders.specs.LawfulLines.{QueryOk, PlaceOk, ItemOk}
 use Rattle.paper.proofs.Tests.{and-first, and-second, and-both}
 use Rattle.paper.proofs.Ranges.{range-is}
 use Rattle.orders.proofs.Lists.{All}
@@ -129,8 +129,8 @@ flat-distances [] h = tt
 flat-distances (x ∷ l) h = (h .0 .distance, flat-distances l (h .1))
 
 -- the items of a frame are in range
-pub items-ok : (k : ℕ) (g r : List ℕ) → Bytes g → numbersOk (itemsIn k g) ≡ true → All ItemOk (lists.itemsIn k (itemsIn k g ++ r))
-unfolding itemsIn numbersOk lists.itemsIn
+pub items-ok : (k : ℕ) (g r : List ℕ) → Bytes g → numbersOk (itemNumbers k g) ≡ true → All ItemOk (lists.itemsIn k (itemNumbers k g ++ r))
+unfolding itemNumbers numbersOk lists.itemsIn
 items-ok zero g r b e = tt
 items-ok (suc k) g r b e = (
   record {

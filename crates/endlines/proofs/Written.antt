@@ -13,15 +13,15 @@ use Rattle.paper.specs.Lines.{askKind, answerKind, spoken, queryFits, askFrame,
 use Rattle.paper.specs.Orders.{Query, snapshotOf, flat}
 use Rattle.paper.specs.Outcomes.{gives}
 use Rattle.paper.specs.Ends.{Ask, Answer}
-use Rattle.paper.specs.Codec.{scopeOf, askLine, answerLine, asked, answered, readAsk, readAnswer}
+use Rattle.paper.specs.Codec.{scopeOf, askLine, answerLine, askMeant, answerMeant, readAsk, readAnswer}
 use Rattle.paper.proofs.Reading.{ask-by-refusal, answer-by-refusal}
-use Rattle.digits.proofs.Laws.{frame-line}
+use Rattle.digits.proofs.NumbersAndFrames.{frame-line}
 use Rattle.fields.proofs.Round.{ScopeFit, front-read}
 use Rattle.paper.proofs.LineKinds.{ask-small, answer-small}
 use Rattle.lines.proofs.Tests.{bytes-ask, bytes-answer}
 use Rattle.lines.proofs.AskRound.{ask-reads-back}
 use Rattle.lines.proofs.AnswerRound.{answer-reads-back}
-use Rattle.orders.specs.Laws.{QueryOk, AskOk, ItemOk, AnswerOk}
+use Rattle.orders.specs.LawfulLines.{QueryOk, AskOk, ItemOk, AnswerOk}
 use Rattle.paper.proofs.Tests.{and-both}
 use Rattle.orders.proofs.Lists.{All, all-of-mem}
 use Rattle.orders.proofs.Rooms.{read-flat, flat-length, query-placed}
@@ -60,8 +60,8 @@ module _ (a : Ask) (ok : AskOk a) where
       (and-both _ _ (scope-ok (a .place) carried (ok .place) (asked-small (a .place) (ok .place)))
       (and-both _ _ (scope-asks (a .place)) (and-both _ _ (le-leb 1 (a .size) (ok .one)) (le-leb (a .size) mostPage (ok .most)))))
 
-  ask-same : asked (record { query = inPlaces (a .query); scope = scope; size = a .size }) ≡ a
-  unfolding asked
+  ask-same : askMeant (record { query = inPlaces (a .query); scope = scope; size = a .size }) ≡ a
+  unfolding askMeant
   ask-same =
       let q = query-placed (a .query) (ok .query .long) in
       let p = scope-place (a .place) carried (asked-used (a .place)) in
@@ -102,8 +102,8 @@ module _ (y : Answer) (ok : AnswerOk y) where
       (and-both _ _ (le-leb (flagOf (y .last)) 1 (flag-small (y .last))) (le-leb pages mostPage (ok .few))))
       (and-both _ _ (eq-eqb _ _ (flat-length (y .items))) (and-both _ _ (flat-references (y .items) all-ok) (flat-numbers (y .items) all-ok))))
 
-  answer-same : answered (record { query = inPlaces (y .query); scope = around; last = flagOf (y .last); count = pages; items = itemPlaces pages (flat (y .items)) }) ≡ y
-  unfolding answered itemPlaces
+  answer-same : answerMeant (record { query = inPlaces (y .query); scope = around; last = flagOf (y .last); count = pages; items = itemPlaces pages (flat (y .items)) }) ≡ y
+  unfolding answerMeant itemPlaces
   answer-same =
       let q = query-placed (y .query) (ok .query .long) in
       let p = scope-place (y .place) (y .snapshot) (ok .used) in

@@ -19,10 +19,10 @@ use Rattle.paper.proofs.Outcomes.{must-go, must-stop}
 use Rattle.orders.proofs.Lists.{All, all-append, all-map, every-true, every-all}
 use Rattle.tree.specs.Soundness.{Good, Roomy}
 use Rattle.tree.proofs.Places.{claims-length}
-use Rattle.tree.proofs.Known.{fits-fit, fit-fits, sound-good, good-sound}
+use Rattle.tree.proofs.TestedTables.{fits-fit, fit-fits, sound-good, good-sound}
 use Rattle.tree.proofs.Adding.{in-run, point-length, Kept, run-claims, run-kept}
 use Rattle.tree.proofs.RunLaws.{enters-gives, zero-enters}
-use Rattle.journey.specs.World.{entering}
+use Rattle.journey.specs.World.{runEntering}
 use Rattle.entering.specs.Runs.{runOf, referencesOf, placesOf, callEnters}
 
 -- each claim that is cut out of a run has d coordinates, where the run has them
@@ -50,8 +50,8 @@ module _ (s : Store) (given : List ℕ) (places : List ℤ) where
 
   -- a run for which there is room
   enters : Good s → length places ≡ s .table .d * length given → s .table .count + length given ≤ s .table .capacity
-      → entering (tableOf s) (runOf s given places) ≡ callEnters s given places
-  unfolding entering callEnters
+      → runEntering (tableOf s) (runOf s given places) ≡ callEnters s given places
+  unfolding runEntering callEnters
   enters g whole free =
       let r : Roomy s (length given) = record { good = g; free = free } in
       let k : Kept (s .table) (addedRun given places (length given) s .table) (length given) = run-kept s given places (length given) r whole in
@@ -74,23 +74,23 @@ module _ (s : Store) (given : List ℕ) (places : List ℤ) where
       )
 
   refuses : Good s → length places ≡ s .table .d * length given → s .table .capacity < s .table .count + length given
-      → entering (tableOf s) (runOf s given places) ≡ callEnters s given places
-  unfolding entering callEnters
+      → runEntering (tableOf s) (runOf s given places) ≡ callEnters s given places
+  unfolding runEntering callEnters
   refuses g whole full =
       must-go _ 5 _ (run-whole whole)
       ∙ must-stop _ 3 _ (lt-leb _ (s .table .capacity) (omega (arith, run-count)))
       ∙ ap (λ (o : Outcome Store). onto o (λ x. gives (tableOf x))) (sym (enters-3 g whole full))
 
-  good-alike : Good s → length places ≡ s .table .d * length given → entering (tableOf s) (runOf s given places) ≡ callEnters s given places
+  good-alike : Good s → length places ≡ s .table .d * length given → runEntering (tableOf s) (runOf s given places) ≡ callEnters s given places
   good-alike g whole = go (leb (s .table .count + length given) (s .table .capacity)) refl
     where
-      go : (b : Bool) → leb (s .table .count + length given) (s .table .capacity) ≡ b → entering (tableOf s) (runOf s given places) ≡ callEnters s given places
+      go : (b : Bool) → leb (s .table .count + length given) (s .table .capacity) ≡ b → runEntering (tableOf s) (runOf s given places) ≡ callEnters s given places
       go true e = enters g whole (leb-true (s .table .count + length given) (s .table .capacity) e)
       go false e = refuses g whole (leb-false (s .table .count + length given) (s .table .capacity) e)
 
   -- what the call enters, a world enters: the table in lent memory is then the world's next table
   pub the-world-enters-what-the-call-enters : (x : Store) → enterCall s given places ≡ gives x
-      → entering (tableOf s) (runOf s given places) ≡ gives (tableOf x)
+      → runEntering (tableOf s) (runOf s given places) ≡ gives (tableOf x)
   unfolding callEnters
   the-world-enters-what-the-call-enters x e =
       let h = zero-enters s given places (ap number e) in
@@ -98,16 +98,16 @@ module _ (s : Store) (given : List ℕ) (places : List ℤ) where
 
   -- on a table that fits and is sound, with d coordinates for each reference, the two are one: where the call refuses, with 3, so does the world
   module _ (fit : fits s ≡ true) (well : sound s ≡ true) (whole : length places ≡ s .table .d * length given) where
-    pub the-world-enters-as-the-call-does : entering (tableOf s) (runOf s given places) ≡ callEnters s given places
+    pub the-world-enters-as-the-call-does : runEntering (tableOf s) (runOf s given places) ≡ callEnters s given places
     the-world-enters-as-the-call-does = good-alike (sound-good s (fits-fit s fit) well) whole
 
     pub the-world-refuses-what-the-call-refuses : (n : ℕ) → enterCall s given places ≡ refused n
-        → entering (tableOf s) (runOf s given places) ≡ refused n
+        → runEntering (tableOf s) (runOf s given places) ≡ refused n
     unfolding callEnters
     the-world-refuses-what-the-call-refuses n e =
         the-world-enters-as-the-call-does ∙ ap (λ (o : Outcome Store). onto o (λ y. gives (tableOf y))) e
 
-    pub the-call-refuses-what-the-world-refuses : (n : ℕ) → entering (tableOf s) (runOf s given places) ≡ refused n
+    pub the-call-refuses-what-the-world-refuses : (n : ℕ) → runEntering (tableOf s) (runOf s given places) ≡ refused n
         → enterCall s given places ≡ refused n
     unfolding callEnters
     the-call-refuses-what-the-world-refuses n e = go (enterCall s given places) (sym the-world-enters-as-the-call-does ∙ e)
@@ -154,8 +154,8 @@ module _ (d : ℕ) where
 -- a run that a world does not refuse with 5 is entered, or refused, as the call enters or refuses its references and coordinates
 pub the-call-enters-as-the-world-does : (s : Store) → fits s ≡ true → sound s ≡ true → (run : List Claim)
     → every (λ (k : Claim). eqb (length (k .place)) (s .table .d)) run ≡ true
-    → entering (tableOf s) run ≡ callEnters s (referencesOf run) (placesOf run)
+    → runEntering (tableOf s) run ≡ callEnters s (referencesOf run) (placesOf run)
 the-call-enters-as-the-world-does s fit well run e =
     let h = all-map _ (λ (k : Claim). length (k .place) ≡ s .table .d) (λ k p. eqb-true (length (k .place)) (s .table .d) p) run (every-all _ run e) in
-    ap (entering (tableOf s)) (sym (run-cut (s .table .d) run h))
+    ap (runEntering (tableOf s)) (sym (run-cut (s .table .d) run h))
     ∙ the-world-enters-as-the-call-does s (referencesOf run) (placesOf run) fit well (run-long (s .table .d) run h)

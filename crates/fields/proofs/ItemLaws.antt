@@ -10,9 +10,9 @@ use lib.Dec.{ltb, leb}
 use borrow.Author.Tests.{ltb-true, leb-true, le-leb, lt-leb, lt-ltb, le-ltb}
 use lib.Seq.{drop-cons, drop-drop}
 use Rattle.paper.specs.Frames.{be, num}
-use Rattle.digits.specs.Places.{over}
-use Rattle.digits.proofs.Laws.{and-false, and-both, num-lt, Bytes, bytes-append, bytes-be, bytes-drop, length-be, field-read, field-back}
-use Rattle.paper.specs.Fields.{item, itemBytes, itemsIn, numbersOk, referencesOk}
+use Rattle.digits.specs.Places.{overlaid}
+use Rattle.digits.proofs.NumbersAndFrames.{and-false, and-both, num-lt, Bytes, bytes-append, bytes-be, bytes-drop, length-be, field-read, field-back}
+use Rattle.paper.specs.Fields.{item, itemBytes, itemNumbers, numbersOk, referencesOk}
 use Rattle.fields.proofs.PartLaws.{over-to}
 use Rattle.paper.specs.Limits.{itemRoom, mostNumber, mostPage}
 
@@ -44,8 +44,8 @@ bytes-items (n ∷ r ∷ x ∷ ns) = bytes-append (item n r x) (itemBytes ns) (b
 
 -- one item of those that are left to write
 pub item-step : (o o' : List ℕ) (at i : ℕ) (ns : List ℕ) → 3 * i + 2 < length ns → 2 * (at + 14 * (i + 1)) ≤ length o
-    → o' ≡ over o (at + 14 * i) (item (getD ns (3 * i) 0) (getD ns (3 * i + 1) 0) (getD ns (3 * i + 2) 0))
-    → over o (at + 14 * i) (itemBytes (drop (3 * i) ns)) ≡ over o' (at + 14 * (i + 1)) (itemBytes (drop (3 * (i + 1)) ns))
+    → o' ≡ overlaid o (at + 14 * i) (item (getD ns (3 * i) 0) (getD ns (3 * i + 1) 0) (getD ns (3 * i + 2) 0))
+    → overlaid o (at + 14 * i) (itemBytes (drop (3 * i) ns)) ≡ overlaid o' (at + 14 * (i + 1)) (itemBytes (drop (3 * (i + 1)) ns))
 unfolding itemBytes
 item-step o o' at i ns h k e =
     let j = 3 * i in
@@ -53,18 +53,18 @@ item-step o o' at i ns h k e =
     let e2 : 3 * i + 2 ≡ suc (suc (3 * i)) = omega arith in
     let e3 : 3 * (i + 1) ≡ suc (suc (suc (3 * i))) = omega arith in
     let l = length-item (getD ns (3 * i) 0) (getD ns (suc (3 * i)) 0) (getD ns (suc (suc (3 * i))) 0) in
-    let e' : o' ≡ over o (at + 14 * i) (item (getD ns (3 * i) 0) (getD ns (suc (3 * i)) 0) (getD ns (suc (suc (3 * i))) 0)) = rw (← e2, ← e1) e in
+    let e' : o' ≡ overlaid o (at + 14 * i) (item (getD ns (3 * i) 0) (getD ns (suc (3 * i)) 0) (getD ns (suc (suc (3 * i))) 0)) = rw (← e2, ← e1) e in
     rw (e3, drop-cons ns (3 * i) 0 (omega arith), drop-cons ns (suc (3 * i)) 0 (omega arith), drop-cons ns (suc (suc (3 * i))) 0 (omega arith))
     (over-to o o' (at + 14 * i) (at + 14 * (i + 1)) (item (getD ns (3 * i) 0) (getD ns (suc (3 * i)) 0) (getD ns (suc (suc (3 * i))) 0)) (itemBytes (drop (suc (suc (suc (3 * i)))) ns)) (omega arith) k e')
 
-pub length-itemsIn : (k : ℕ) (f : List ℕ) → length (itemsIn k f) ≡ 3 * k
-unfolding itemsIn
+pub length-itemsIn : (k : ℕ) (f : List ℕ) → length (itemNumbers k f) ≡ 3 * k
+unfolding itemNumbers
 length-itemsIn zero f = refl
-length-itemsIn (suc k) f = let e : length (itemsIn k (drop 14 f)) ≡ 3 * k = length-itemsIn k (drop 14 f) in omega arith
+length-itemsIn (suc k) f = let e : length (itemNumbers k (drop 14 f)) ≡ 3 * k = length-itemsIn k (drop 14 f) in omega arith
 
 pub items-snoc : (k : ℕ) (f : List ℕ)
-    → itemsIn (suc k) f ≡ itemsIn k f ++ (num 2 (drop (14 * k) f) ∷ num 4 (drop (14 * k + 2) f) ∷ num 8 (drop (14 * k + 6) f) ∷ [])
-unfolding itemsIn
+    → itemNumbers (suc k) f ≡ itemNumbers k f ++ (num 2 (drop (14 * k) f) ∷ num 4 (drop (14 * k + 2) f) ∷ num 8 (drop (14 * k + 6) f) ∷ [])
+unfolding itemNumbers
 items-snoc zero f = refl
 items-snoc (suc k) f =
     let e1 : 14 * suc k ≡ 14 + 14 * k = omega arith in
@@ -84,16 +84,16 @@ three (h ∷ p) q (suc n) a b c x y z e =
     rw (e1, e2) (ap (λ (l : List ℕ). h ∷ l) (three p q n a b c x y z (omega arith)))
 
 pub places-step : (f : List ℕ) (i : ℕ) → i < mostPage
-    → set (set (set (itemsIn i f ++ replicate (itemRoom - 3 * i) 0) (3 * i) (num 2 (drop (14 * i) f))) (3 * i + 1) (num 4 (drop (14 * i + 2) f))) (3 * i + 2) (num 8 (drop (14 * i + 6) f))
-    ≡ itemsIn (i + 1) f ++ replicate (itemRoom - 3 * (i + 1)) 0
+    → set (set (set (itemNumbers i f ++ replicate (itemRoom - 3 * i) 0) (3 * i) (num 2 (drop (14 * i) f))) (3 * i + 1) (num 4 (drop (14 * i + 2) f))) (3 * i + 2) (num 8 (drop (14 * i + 6) f))
+    ≡ itemNumbers (i + 1) f ++ replicate (itemRoom - 3 * (i + 1)) 0
 places-step f i h =
     let e : itemRoom - 3 * i ≡ suc (suc (suc (itemRoom - 3 * (i + 1)))) = omega arith in
     rw (e, add-one i, items-snoc i f, ← add-one i)
-    (three (itemsIn i f) (replicate (itemRoom - 3 * (i + 1)) 0) (3 * i) (num 2 (drop (14 * i) f)) (num 4 (drop (14 * i + 2) f)) (num 8 (drop (14 * i + 6) f)) 0 0 0 (length-itemsIn i f))
+    (three (itemNumbers i f) (replicate (itemRoom - 3 * (i + 1)) 0) (3 * i) (num 2 (drop (14 * i) f)) (num 4 (drop (14 * i + 2) f)) (num 8 (drop (14 * i + 6) f)) 0 0 0 (length-itemsIn i f))
 
 -- there and back
-pub items-back : (k : ℕ) (f : List ℕ) → Bytes f → 14 * k ≤ length f → itemBytes (itemsIn k f) ++ drop (14 * k) f ≡ f
-unfolding itemsIn itemBytes item
+pub items-back : (k : ℕ) (f : List ℕ) → Bytes f → 14 * k ≤ length f → itemBytes (itemNumbers k f) ++ drop (14 * k) f ≡ f
+unfolding itemNumbers itemBytes item
 items-back zero f p h = refl
 items-back (suc k) f p h =
     let e : 14 * suc k ≡ 14 + 14 * k = omega arith in
@@ -110,8 +110,8 @@ ItemsFit (suc k) (n ∷ []) = ⊥
 ItemsFit (suc k) (n ∷ r ∷ []) = ⊥
 ItemsFit (suc k) (n ∷ r ∷ x ∷ ns) = (n < 2 ^ 16) × ((r < 2 ^ 32) × ((x < 2 ^ 64) × ItemsFit k ns))
 
-pub items-read : (k : ℕ) (ns g : List ℕ) → ItemsFit k ns → itemsIn k (itemBytes ns ++ g) ≡ ns
-unfolding itemsIn itemBytes item
+pub items-read : (k : ℕ) (ns g : List ℕ) → ItemsFit k ns → itemNumbers k (itemBytes ns ++ g) ≡ ns
+unfolding itemNumbers itemBytes item
 items-read zero [] g p = refl
 items-read zero (n ∷ ns) g p = absurd p
 items-read (suc k) [] g p = absurd p
@@ -130,15 +130,15 @@ items-read (suc k) (n ∷ r ∷ x ∷ ns) g p =
 -- of the items that are left to test, the first is in range, or is not
 module _ (k i : ℕ) (g : List ℕ) (h : i < k) where
   pub number-more : num 2 (drop (14 * i) g) ≤ mostNumber
-      → numbersOk (itemsIn (k - i) (drop (14 * i) g)) ≡ numbersOk (itemsIn (k - (i + 1)) (drop (14 * (i + 1)) g))
-  unfolding itemsIn numbersOk
+      → numbersOk (itemNumbers (k - i) (drop (14 * i) g)) ≡ numbersOk (itemNumbers (k - (i + 1)) (drop (14 * (i + 1)) g))
+  unfolding itemNumbers numbersOk
   number-more q =
       let e1 : k - i ≡ suc (k - (i + 1)) = omega arith in
       let e2 : 14 * (i + 1) ≡ 14 * i + 14 = omega arith in
       rw (e1, e2, le-leb (num 2 (drop (14 * i) g)) mostNumber q, drop-drop 14 (14 * i) g)
 
-  pub number-bad : mostNumber < num 2 (drop (14 * i) g) → numbersOk (itemsIn (k - i) (drop (14 * i) g)) ≡ false
-  unfolding itemsIn numbersOk
+  pub number-bad : mostNumber < num 2 (drop (14 * i) g) → numbersOk (itemNumbers (k - i) (drop (14 * i) g)) ≡ false
+  unfolding itemNumbers numbersOk
   number-bad q =
       let e1 : k - i ≡ suc (k - (i + 1)) = omega arith in
       rw (e1, lt-leb (num 2 (drop (14 * i) g)) mostNumber q)
@@ -191,8 +191,8 @@ items-fitting (suc k) (n ∷ r ∷ x ∷ ns) e p q h =
     (omega arith, (omega arith, (h .0, items-fitting k ns (omega arith) (a .1) (b .1) (h .1))))
 
 -- a reference that was read is in range
-pub references-in : (k : ℕ) (f : List ℕ) → Bytes f → referencesOk (itemsIn k f) ≡ true
-unfolding itemsIn referencesOk
+pub references-in : (k : ℕ) (f : List ℕ) → Bytes f → referencesOk (itemNumbers k f) ≡ true
+unfolding itemNumbers referencesOk
 references-in zero f p = refl
 references-in (suc k) f p =
     rw (lt-ltb (num 4 (drop 2 f)) 4294967296 (num-lt 4 (drop 2 f) (bytes-drop 2 f p))) (references-in k (drop 14 f) (bytes-drop 14 f p))

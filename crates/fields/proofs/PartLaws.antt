@@ -13,8 +13,8 @@ use lib.IntN.{ℤ, pos}
 use mir.Syntax.{w32}
 use mir.Val.{ofZ, toZ}
 use Rattle.paper.specs.Frames.{be, num}
-use Rattle.digits.specs.Places.{over}
-use Rattle.digits.proofs.Laws.{Bytes, bytes-append, bytes-be, length-be, over-append, and-both}
+use Rattle.digits.specs.Places.{overlaid}
+use Rattle.digits.proofs.NumbersAndFrames.{Bytes, bytes-append, bytes-be, length-be, over-append, and-both}
 use borrow.Author.Tests.{le-leb, leb-true, eqb-true, eq-eqb}
 use Rattle.paper.specs.Points.{inRange, InRange}
 use Rattle.paper.specs.Orders.{Query}
@@ -27,18 +27,18 @@ use Rattle.paper.specs.Limits.{mostClaims, mostNumber}
 -- ---- writing
 
 -- a number written, and then what stands behind it
-pub over-then : (o : List ℕ) (at w n : ℕ) (g : List ℕ) → 2 * (at + w) ≤ length o → over o at (be w n ++ g) ≡ over (over o at (be w n)) (at + w) g
+pub over-then : (o : List ℕ) (at w n : ℕ) (g : List ℕ) → 2 * (at + w) ≤ length o → overlaid o at (be w n ++ g) ≡ overlaid (overlaid o at (be w n)) (at + w) g
 over-then o at w n g h =
     let e : length (be w n) ≡ w = length-be w n in
-    over-append o at (be w n) g (omega arith) ∙ ap (λ (k : ℕ). over (over o at (be w n)) (at + k) g) e
+    over-append o at (be w n) g (omega arith) ∙ ap (λ (k : ℕ). overlaid (overlaid o at (be w n)) (at + k) g) e
 
 -- the same, of what a call left, with the next place by its name
-pub over-be : (o o' : List ℕ) (at at' w n : ℕ) (g : List ℕ) → at + w ≡ at' → 2 * at' ≤ length o → o' ≡ over o at (be w n) → over o at (be w n ++ g) ≡ over o' at' g
+pub over-be : (o o' : List ℕ) (at at' w n : ℕ) (g : List ℕ) → at + w ≡ at' → 2 * at' ≤ length o → o' ≡ overlaid o at (be w n) → overlaid o at (be w n ++ g) ≡ overlaid o' at' g
 over-be o o' at at' w n g p h e =
-    over-then o at w n g (omega arith) ∙ ap (λ (k : ℕ). over (over o at (be w n)) k g) p ∙ ap (λ (x : List ℕ). over x at' g) (sym e)
+    over-then o at w n g (omega arith) ∙ ap (λ (k : ℕ). overlaid (overlaid o at (be w n)) k g) p ∙ ap (λ (x : List ℕ). overlaid x at' g) (sym e)
 
-pub over-to : (o o' : List ℕ) (at at' : ℕ) (f g : List ℕ) → at + length f ≡ at' → 2 * at' ≤ length o → o' ≡ over o at f → over o at (f ++ g) ≡ over o' at' g
-over-to o o' at at' f g p h e = over-append o at f g (omega arith) ∙ ap (λ (k : ℕ). over (over o at f) k g) p ∙ ap (λ (x : List ℕ). over x at' g) (sym e)
+pub over-to : (o o' : List ℕ) (at at' : ℕ) (f g : List ℕ) → at + length f ≡ at' → 2 * at' ≤ length o → o' ≡ overlaid o at f → overlaid o at (f ++ g) ≡ overlaid o' at' g
+over-to o o' at at' f g p h e = over-append o at f g (omega arith) ∙ ap (λ (k : ℕ). overlaid (overlaid o at f) k g) p ∙ ap (λ (x : List ℕ). overlaid x at' g) (sym e)
 
 pub length-scope : (reach : ℕ) (p : Scope) → length (scopeBytes reach p) ≡ 21
 unfolding scopeBytes
@@ -84,7 +84,7 @@ bytes-front k q p =
 
 -- one coordinate of those that are left to write
 pub coord-step : (o : List ℕ) (at i : ℕ) (cs : List ℤ) → i < length cs → 2 * (at + 4 * i + 4) ≤ length o
-    → over o (at + 4 * i) (coordBytes (drop i cs)) ≡ over (over o (at + 4 * i) (be 4 (ofZ w32 (getD cs i (pos 0))))) (at + 4 * (i + 1)) (coordBytes (drop (i + 1) cs))
+    → overlaid o (at + 4 * i) (coordBytes (drop i cs)) ≡ overlaid (overlaid o (at + 4 * i) (be 4 (ofZ w32 (getD cs i (pos 0))))) (at + 4 * (i + 1)) (coordBytes (drop (i + 1) cs))
 unfolding coordBytes
 coord-step o at i cs h k =
     let e : at + 4 * (i + 1) ≡ at + 4 * i + 4 = omega arith in

@@ -11,7 +11,7 @@ use mir.Syntax.{w32}
 use mir.Val.{ofZ, SFits}
 use mir.Facts.{toZ-ofZ, ofZ-toZ, fits-ofZ}
 use Rattle.paper.specs.Frames.{be, num}
-use Rattle.digits.proofs.Laws.{Bytes, bytes-drop, length-be, num-be, be-num, num-lt, field-read, field-back}
+use Rattle.digits.proofs.NumbersAndFrames.{Bytes, bytes-drop, length-be, num-be, be-num, num-lt, field-read, field-back}
 use Rattle.paper.specs.Orders.{Query, queryIn}
 use Rattle.paper.specs.Fields.{head, front, coordBytes, coordsIn, places, inPlaces, scopeBytes, scopeIn}
 use Rattle.paper.specs.declared.lines.Scope.{Scope}

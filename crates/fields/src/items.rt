@@ -4,24 +4,25 @@ ghost use mathlib.Core.Bool.{_&&_};
 ghost use Prim.Native.Nat.{_+_, _*_, _≤_};
 ghost use lib.ListN.{length, drop};
 ghost use lib.Dec.{eqb};
-ghost use Rattle.paper.specs.Fields.{item, itemBytes, itemsIn, itemPlaces, numbersOk, referencesOk};
-ghost use Rattle.digits.specs.Places.{held, over};
+ghost use Rattle.paper.specs.Fields.{item, itemBytes, itemNumbers, itemPlaces, numbersOk, referencesOk};
+ghost use Rattle.digits.specs.Places.{frameIn, overlaid};
 ghost use Rattle.paper.specs.Limits.{mostPage};
 use paper::limits::ITEM_ROOM;
 use paper::limits::MOST_NUMBER;
 
 fn put_item(out: &mut [u8], at: usize, n: u64, r: u64, x: u64)
     requires { ⌜ 2 * (at + 14) ≤ length (now out) ⌝ }
-    ensures { λ _. ⌜ now (out .exit) ≡ over (now (out .entry)) at (item n r x) ⌝ }
+    ensures { λ _. ⌜ now (out .exit) ≡ overlaid (now (out .entry)) at (item n r x) ⌝ }
 {
     digits::put(out, at, 2, n);
     digits::put(out, at + 2, 4, r);
     digits::put(out, at + 6, 8, x);
 }
 
+// [5.6] Writes k items from byte `at` on, 14 bytes for each: number (2), reference (4), distance (8).
 pub fn put_items(out: &mut [u8], at: usize, items: &[u64], k: usize)
     requires { ⌜ (length (now items) ≡ 3 * k) × ((k ≤ mostPage) × (2 * (at + 14 * k) ≤ length (now out))) ⌝ }
-    ensures { λ _. ⌜ now (out .exit) ≡ over (now (out .entry)) at (itemBytes (now (items .entry))) ⌝ }
+    ensures { λ _. ⌜ now (out .exit) ≡ overlaid (now (out .entry)) at (itemBytes (now (items .entry))) ⌝ }
 {
     let mut i = 0;
     while i < k {
@@ -31,10 +32,10 @@ pub fn put_items(out: &mut [u8], at: usize, items: &[u64], k: usize)
     }
 }
 
-// [5.14] The k items from byte `at` on, and 0 behind them.
+// [5.6] [5.14] The k items from byte `at` on, 14 bytes for each, and 0 behind them.
 pub fn items_at(src: &[u8], at: usize, k: usize) -> [u64; ITEM_ROOM]
-    requires { ⌜ (at + 14 * k ≤ length (held (now src))) × (k ≤ mostPage) ⌝ }
-    ensures { λ r. ⌜ r ≡ itemPlaces k (itemsIn k (drop at (held (now (src .entry))))) ⌝ }
+    requires { ⌜ (at + 14 * k ≤ length (frameIn (now src))) × (k ≤ mostPage) ⌝ }
+    ensures { λ r. ⌜ r ≡ itemPlaces k (itemNumbers k (drop at (frameIn (now (src .entry))))) ⌝ }
 {
     let mut found = [0u64; ITEM_ROOM];
     let mut i = 0;
@@ -49,10 +50,10 @@ pub fn items_at(src: &[u8], at: usize, k: usize) -> [u64; ITEM_ROOM]
     found
 }
 
-// [5.9] Whether each of the k items from byte `at` on has a number in range.
+// [5.9] Whether each of the k items from byte `at` on, 14 bytes for each, has a number (its first two) in range.
 pub fn numbers_ok(src: &[u8], at: usize, k: usize) -> bool
-    requires { ⌜ at + 14 * k ≤ length (held (now src)) ⌝ }
-    ensures { λ r. ⌜ r ≡ numbersOk (itemsIn k (drop at (held (now (src .entry))))) ⌝ }
+    requires { ⌜ at + 14 * k ≤ length (frameIn (now src)) ⌝ }
+    ensures { λ r. ⌜ r ≡ numbersOk (itemNumbers k (drop at (frameIn (now (src .entry))))) ⌝ }
 {
     let mut i = 0;
     while i < k {

@@ -7,25 +7,25 @@ ghost use Rattle.paper.specs.Fields.{head, coordBytes, coordsIn, places, scopeB
 ghost use Rattle.paper.specs.Fields.{front as Fields·front};
 ghost use Rattle.paper.specs.Orders.{queryIn};
 ghost use Rattle.paper.specs.Lines.{headOk};
-ghost use Rattle.digits.specs.Places.{held, over};
+ghost use Rattle.digits.specs.Places.{frameIn, overlaid};
 ghost use Rattle.paper.specs.Limits.{mostPlaces};
 use checks::in_range;
 use paper::limits::MOST_PLACES;
 use paper::lines::Scope;
 use paper::queries::Query;
 
-// The kind of the frame that `src` holds.
+// [5.4] The kind of the frame that `src` holds: byte 0.
 pub fn kind(src: &[u8]) -> u64
-    requires { ⌜ 1 ≤ length (held (now src)) ⌝ }
-    ensures { λ r. ⌜ r ≡ num 1 (held (now (src .entry))) ⌝ }
+    requires { ⌜ 1 ≤ length (frameIn (now src)) ⌝ }
+    ensures { λ r. ⌜ r ≡ num 1 (frameIn (now (src .entry))) ⌝ }
 {
     digits::number(src, 0, 1)
 }
 
-// [5.4] [8.10] Whether a frame begins with a head of this kind, in range.
+// [5.4] [8.10] Whether a frame begins with a head of this kind (byte 0), with measure (5) and d (6) in range.
 pub fn head_ok(src: &[u8], kind: u8) -> bool
-    requires { ⌜ 7 ≤ length (held (now src)) ⌝ }
-    ensures { λ r. ⌜ r ≡ headOk kind (held (now (src .entry))) ⌝ }
+    requires { ⌜ 7 ≤ length (frameIn (now src)) ⌝ }
+    ensures { λ r. ⌜ r ≡ headOk kind (frameIn (now (src .entry))) ⌝ }
 {
     if kind == 0 {
         return false;
@@ -39,10 +39,10 @@ pub fn head_ok(src: &[u8], kind: u8) -> bool
     false
 }
 
-// [5.4] Writes a head.
+// [5.4] Writes a head: byte 0 kind, 1 to 4 table, 5 measure, 6 d.
 pub fn put_head(out: &mut [u8], kind: u8, table: u32, measure: u8, d: u8)
     requires { ⌜ 14 ≤ length (now out) ⌝ }
-    ensures { λ _. ⌜ now (out .exit) ≡ over (now (out .entry)) 0 (head kind table measure d) ⌝ }
+    ensures { λ _. ⌜ now (out .exit) ≡ overlaid (now (out .entry)) 0 (head kind table measure d) ⌝ }
 {
     digits::put(out, 0, 1, kind as u64);
     digits::put(out, 1, 4, table as u64);
@@ -50,10 +50,10 @@ pub fn put_head(out: &mut [u8], kind: u8, table: u32, measure: u8, d: u8)
     digits::put(out, 6, 1, d as u64);
 }
 
-// [5.3] Writes coordinates.
+// [5.3] Writes coordinates from byte `at` on, four bytes for each.
 pub fn put_coords(out: &mut [u8], at: usize, coords: &[i32])
     requires { ⌜ 2 * (at + 4 * length (now coords)) ≤ length (now out) ⌝ }
-    ensures { λ _. ⌜ now (out .exit) ≡ over (now (out .entry)) at (coordBytes (now (coords .entry))) ⌝ }
+    ensures { λ _. ⌜ now (out .exit) ≡ overlaid (now (out .entry)) at (coordBytes (now (coords .entry))) ⌝ }
 {
     let mut i = 0;
     while i < coords.len() {
@@ -62,10 +62,10 @@ pub fn put_coords(out: &mut [u8], at: usize, coords: &[i32])
     }
 }
 
-// [5.3] [5.14] The d coordinates from byte `at` on, and 0 behind them.
+// [5.3] [5.14] The d coordinates from byte `at` on, four bytes for each, and 0 behind them.
 pub fn coords_at(src: &[u8], at: usize, d: usize) -> [i32; MOST_PLACES]
-    requires { ⌜ (at + 4 * d ≤ length (held (now src))) × (d ≤ mostPlaces) ⌝ }
-    ensures { λ r. ⌜ r ≡ places d (coordsIn d (drop at (held (now (src .entry))))) ⌝ }
+    requires { ⌜ (at + 4 * d ≤ length (frameIn (now src))) × (d ≤ mostPlaces) ⌝ }
+    ensures { λ r. ⌜ r ≡ places d (coordsIn d (drop at (frameIn (now (src .entry))))) ⌝ }
 {
     let mut found = [0i32; MOST_PLACES];
     let mut i = 0;
@@ -101,7 +101,7 @@ pub fn scope_ok(p: Scope) -> bool
 // [5.5] Writes the reach and the scope behind it.
 fn put_scope(out: &mut [u8], at: usize, reach: u64, p: Scope)
     requires { ⌜ 2 * (at + 21) ≤ length (now out) ⌝ }
-    ensures { λ _. ⌜ now (out .exit) ≡ over (now (out .entry)) at (scopeBytes reach p) ⌝ }
+    ensures { λ _. ⌜ now (out .exit) ≡ overlaid (now (out .entry)) at (scopeBytes reach p) ⌝ }
 {
     digits::put(out, at, 8, reach);
     digits::put(out, at + 8, 1, p.from as u64);
@@ -110,10 +110,11 @@ fn put_scope(out: &mut [u8], at: usize, reach: u64, p: Scope)
     digits::put(out, at + 19, 2, p.number as u64);
 }
 
-// [5.5] The scope behind the reach that stands at byte `at`.
+// [5.5] The scope behind the reach, which has bytes `at` to at + 7: at + 8 from, at + 9 snapshot (2), at + 11 the mark's distance (8) and
+// at + 19 its number (2).
 pub fn scope_at(src: &[u8], at: usize) -> Scope
-    requires { ⌜ at + 21 ≤ length (held (now src)) ⌝ }
-    ensures { λ r. ⌜ r ≡ scopeIn (drop at (held (now (src .entry)))) ⌝ }
+    requires { ⌜ at + 21 ≤ length (frameIn (now src)) ⌝ }
+    ensures { λ r. ⌜ r ≡ scopeIn (drop at (frameIn (now (src .entry)))) ⌝ }
 {
     Scope {
         from: digits::number(src, at + 8, 1) as u8,
@@ -123,10 +124,10 @@ pub fn scope_at(src: &[u8], at: usize) -> Scope
     }
 }
 
-// [5.5] [5.6] Writes what an ask and an answer begin with.
+// [5.5] [5.6] Writes what an ask and an answer begin with: the head, the probe from byte 7, then reach (8) and scope (13), 28 + 4d in all.
 pub fn put_front(out: &mut [u8], kind: u8, q: Query, p: Scope)
     requires { ⌜ (q .d ≤ mostPlaces) × (2 * (28 + 4 * q .d) ≤ length (now out)) ⌝ }
-    ensures { λ _. ⌜ now (out .exit) ≡ over (now (out .entry)) 0 (Fields·front kind (queryIn q) p) ⌝ }
+    ensures { λ _. ⌜ now (out .exit) ≡ overlaid (now (out .entry)) 0 (Fields·front kind (queryIn q) p) ⌝ }
 {
     let d = q.d;
     let probe = q.probe;

@@ -5,7 +5,7 @@ ghost use lib.ListN.{length};
 ghost use Rattle.paper.specs.Fields.{places, inPlaces};
 ghost use Rattle.paper.specs.Orders.{queryIn};
 ghost use Rattle.paper.specs.Lines.{queryAt, queryFits};
-ghost use Rattle.digits.specs.Places.{held};
+ghost use Rattle.digits.specs.Places.{frameIn};
 ghost use Rattle.fields.specs.Fronts.{Begun};
 ghost use Rattle.paper.specs.Limits.{mostPlaces};
 use super::parts::coords_at;
@@ -29,6 +29,7 @@ fn padded(probe: &[i32]) -> [i32; MOST_PLACES]
     places
 }
 
+// [7.1] The query of these parts.
 pub fn query_of(order: Order, table: u32, measure: u8, d: usize, probe: &[i32], reach: u64) -> Query
     requires { ⌜ (length (now probe) ≡ d) × (d ≤ mostPlaces) ⌝ }
     ensures { λ r. ⌜ r ≡ inPlaces (record { order = order; table = table; measure = measure; d = d; probe = now (probe .entry); reach = reach }) ⌝ }
@@ -55,10 +56,11 @@ pub fn query_fits(q: Query) -> bool
     false
 }
 
-// [5.5] [5.6] The query of an ask's or an answer's frame, in the order that its kind tells.
+// [5.5] [5.6] The query of an ask's or an answer's frame, in the order that its kind tells: bytes 1 to 4 table, 5 measure, 6 d, the probe from
+// byte 7 and the reach behind it.
 pub fn query_at(order: Order, src: &[u8]) -> Query
-    requires { ⌜ Begun (held (now src)) ⌝ }
-    ensures { λ r. ⌜ r ≡ queryAt order (held (now (src .entry))) ⌝ }
+    requires { ⌜ Begun (frameIn (now src)) ⌝ }
+    ensures { λ r. ⌜ r ≡ queryAt order (frameIn (now (src .entry))) ⌝ }
 {
     let d = digits::number(src, 6, 1) as usize;
     let probe = coords_at(src, 7, d);

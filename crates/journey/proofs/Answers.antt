@@ -9,7 +9,7 @@ use lib.Dec.{leb, eqb}
 use borrow.Author.Tests.{ltb-true, leb-true, lt-ltb, le-leb, eq-eqb}
 use Rattle.paper.specs.declared.orders.Place.{Place}
 use Rattle.paper.specs.declared.orders.Place.the-variants.{Start, After}
-use Rattle.paper.specs.Points.{noClaim}
+use Rattle.paper.specs.Points.{zeroClaim}
 use Rattle.paper.specs.Orders.{Item, noItem, Query, itemOf, listed, snapshotOf, following, pageOf, lastOf, snapshotHolds, markHolds}
 use Rattle.paper.specs.Points.{inRange}
 use Rattle.paper.specs.Outcomes.{gives}
@@ -20,7 +20,7 @@ use Rattle.orders.proofs.Lists.{All, all-map, all-take, all-getD, all-mem, all-
 use Rattle.orders.proofs.Sorted.{rising-take, rising-rest, rising-test, IsOf, listed-are, listed-rising, rest-follows, all-rest}
 use Rattle.orders.proofs.Page.{last-some}
 use Rattle.orders.proofs.Taking.{present-start, present-after, query-same, place-same}
-use Rattle.orders.specs.Laws.{QueryOk, PlaceOk, AskOk, ItemOk, AnswerOk}
+use Rattle.orders.specs.LawfulLines.{QueryOk, PlaceOk, AskOk, ItemOk, AnswerOk}
 use Rattle.journey.specs.World.{TableOk}
 use Rattle.journey.proofs.Kept.{Kept, after, Vouched, kept-are, is-fitting}
 use Rattle.paper.specs.Limits.{mostClaims, mostPage}
@@ -73,7 +73,7 @@ item-ok t q s tok qok small x p =
     record {
       number = omega (arith, p .below, tok .fits, tok .small);
       reference = rw (p .is)
-          (all-getD (λ k. k .reference < 2 ^ 32) (t .claims) (x .number) noClaim (all-of-mem _ (t .claims) (tok .references)) (omega (arith, p .below)));
+          (all-getD (λ k. k .reference < 2 ^ 32) (t .claims) (x .number) zeroClaim (all-of-mem _ (t .claims) (tok .references)) (omega (arith, p .below)));
       distance = omega (arith, p .within, qok .typed .reach);
     }
 

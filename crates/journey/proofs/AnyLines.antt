@@ -6,7 +6,7 @@ use mathlib.Core.List.{List, List·Memᴰ}
 use native.Mathlib.Omega.{arith}
 use Rattle.paper.specs.Ends.{Codec, count, Listing}
 use Rattle.orders.proofs.Lists.{all-getD, all-mem}
-use Rattle.orders.specs.Laws.{Lawful}
+use Rattle.orders.specs.LawfulLines.{Lawful}
 use Rattle.journey.specs.World.{World, noListing, theList, Reachable, Later, Unshared}
 use Rattle.journey.specs.Promise.{allOf, Truthful, MayAsk, Answered, Grows}
 use Rattle.journey.proofs.Kept.{Kept, Grown, grown-matches, kept-grown, kept-sound}

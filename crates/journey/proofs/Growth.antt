@@ -12,9 +12,9 @@ use Rattle.paper.specs.Outcomes.{Outcome, gives, onto}
 use Rattle.paper.specs.Ends.{Ask, Answer, Codec, Table, count, matches, answerOf, answerTo, served, office, Listing, presentPlace, presentAsk, asking, joinedTo, taken, taking}
 use Rattle.paper.proofs.Tests.{and-both, false-not}
 use Rattle.paper.proofs.Outcomes.{must-go}
-use Rattle.orders.specs.Laws.{AskOk, AnswerOk, Lawful}
+use Rattle.orders.specs.LawfulLines.{AskOk, AnswerOk, Lawful}
 use Rattle.journey.specs.World.{World, noListing, theList, sent, moved, TableOk, next}
-use Rattle.journey.specs.Promise.{askOf, replyTo, Answered, Grows}
+use Rattle.journey.specs.Promise.{askLineOf, replyLineOf, Answered, Grows}
 use Rattle.journey.proofs.Kept.{Kept, Grown, grown-listed, kept-sound, Continues, continues, longer}
 use Rattle.journey.proofs.Answers.{asked-ok, answer-ok, present-snapshot, present-held, present-answered, reply-taken}
 use Rattle.paper.specs.Limits.{longestAnswer, longestAsk, mostClaims, mostPage}
@@ -46,20 +46,20 @@ module _ (c : Codec) (law : Lawful c) (t : Table) (L : Listing) (size : ℕ) (r 
   reply-ok : AnswerOk reply
   reply-ok = answer-ok t (presentAsk L size) (r .table) ask-ok held
 
-  pub asks-line : (room out : ℕ) → length (L .items) ≤ room → longestAsk ≤ out → asking c room size out L ≡ gives (askOf c L size)
+  pub asks-line : (room out : ℕ) → length (L .items) ≤ room → longestAsk ≤ out → asking c room size out L ≡ gives (askLineOf c L size)
   unfolding asking
   asks-line room out h g =
       must-go _ _ _ (kept-sound t L room (r .kept) few h) ∙ must-go _ _ _ (false-not _ (r .unfinished))
       ∙ must-go _ _ _ (and-both _ _ (le-leb 1 size (r .one)) (le-leb size mostPage (r .most))) ∙ must-go _ _ _ (le-leb longestAsk out g)
 
-  pub office-line : (out : ℕ) → longestAnswer ≤ out → office c t out (askOf c L size) ≡ gives (replyTo c t L size)
+  pub office-line : (out : ℕ) → longestAnswer ≤ out → office c t out (askLineOf c L size) ≡ gives (replyLineOf c t L size)
   unfolding office served
   office-line out h =
       must-go _ _ _ (le-leb longestAnswer out h)
       ∙ ap (λ (x : Outcome Ask). onto x (λ a. onto (answerTo t a) (λ y. gives (c .answerLine y)))) (law .ask-back (presentAsk L size) ask-ok (r .spoken))
       ∙ ap (λ (x : Outcome Answer). onto x (λ y. gives (c .answerLine y))) (present-answered t L (r .kept) (r .unfinished) size (r .ours))
 
-  pub takes-line : (room : ℕ) → length (joinedTo L reply .items) ≤ room → taking c room L (replyTo c t L size) ≡ gives (joinedTo L reply)
+  pub takes-line : (room : ℕ) → length (joinedTo L reply .items) ≤ room → taking c room L (replyLineOf c t L size) ≡ gives (joinedTo L reply)
   unfolding taking joinedTo answerOf
   takes-line room h =
       must-go _ _ _ (kept-sound t L room (r .kept) few (omega (arith, length-append (L .items) (reply .items))))
@@ -112,7 +112,7 @@ module _ (c : Codec) (law : Lawful c) where
       record {
         grown = joinedTo L (answerOf t (presentAsk L size));
         accepted = λ room h.
-            moved-is u i _ _ (ap (λ (X : Listing). taking c room X (replyTo c t L size)) stands ∙ takes-line c law t L size r room h) here;
+            moved-is u i _ _ (ap (λ (X : Listing). taking c room X (replyLineOf c t L size)) stands ∙ takes-line c law t L size r room h) here;
         more = ap (λ (l : List Item). L .items ++ take size l) (lacking c law t L size r (u .table) g);
         front = joined-front c law t L size r (u .table) g;
         complete = ap (lastOf size) (lacking c law t L size r (u .table) g);

@@ -18,8 +18,8 @@ use Rattle.paper.proofs.Tests.{and-first, and-second}
 use Rattle.paper.proofs.Outcomes.{must-test, must-rest, through, same-given}
 use Rattle.orders.proofs.Lists.{All, all-map, all-append, all-set, all-getD, all-mem}
 use Rattle.orders.proofs.Taking.{took, took-query, fits-present}
-use Rattle.orders.specs.Laws.{Typed, QueryOk, AskOk, AnswerOk, Lawful}
-use Rattle.journey.specs.World.{World, Event, enters, opens, asks, receives, takes, strays, noListing, theList, entering, entered, sent, added, moved, next, Allowed, TableOk, Reachable, begins, goes, Later, still, onwards, Unshared}
+use Rattle.orders.specs.LawfulLines.{Typed, QueryOk, AskOk, AnswerOk, Lawful}
+use Rattle.journey.specs.World.{World, Event, enters, opens, asks, receives, takes, strays, noListing, theList, runEntering, tableChanged, sent, listAdded, moved, next, Allowed, TableOk, Reachable, begins, goes, Later, still, onwards, Unshared}
 use Rattle.journey.proofs.Kept.{Kept, Vouched, kept-fresh, Grown, grown-same, grown-trans, kept-grown, vouched-grown, kept-joined}
 use Rattle.journey.proofs.Answers.{asked-ok, answer-ok, replied, answer-vouched}
 
@@ -28,8 +28,8 @@ record Entered (t : Table) (run : List Claim) (u : Table) : Type 0 where
   roomy : count t + length run ≤ t .capacity
   is : u ≡ record { number = t .number; measure = t .measure; d = t .d; capacity = t .capacity; claims = t .claims ++ run }
 
-was-entered : (t : Table) (run : List Claim) (u : Table) → entering t run ≡ gives u → Entered t run u
-unfolding entering
+was-entered : (t : Table) (run : List Claim) (u : Table) → runEntering t run ≡ gives u → Entered t run u
+unfolding runEntering
 was-entered t run u e =
     let e1 = must-rest (every (λ k. eqb (length (k .place)) (t .d)) run) 5 _ _ e in
     record {
@@ -71,7 +71,7 @@ module _ (c : Codec) (law : Lawful c) (Elsewhere : List ℕ → Type 0) where
     pub lists : All (Good (w .table)) (w .lists)
 
   enters-inv : (w : World) (run : List Claim) → Inv w → ((k : Claim) → List·Memᴰ k run → k .reference < 2 ^ 32) → (r : Outcome Table)
-      → entering (w .table) run ≡ r → Inv (entered w r)
+      → runEntering (w .table) run ≡ r → Inv (tableChanged w r)
   enters-inv w run i typed (refused n) e = i
   enters-inv w run i typed (gives u) e =
       let ent = was-entered (w .table) run u e in
@@ -82,7 +82,7 @@ module _ (c : Codec) (law : Lawful c) (Elsewhere : List ℕ → Type 0) where
         lists = all-map _ _ (λ L h. record { query = h .query; spoken = h .spoken; kept = λ a. kept-grown _ _ g L (h .kept a) }) (w .lists) (i .lists);
       }
 
-  opens-inv : (w : World) (q : Query) → Inv w → Typed q → c .speaks (q .order) ≡ true → (r : Outcome Listing) → opening q ≡ r → Inv (added w r)
+  opens-inv : (w : World) (q : Query) → Inv w → Typed q → c .speaks (q .order) ≡ true → (r : Outcome Listing) → opening q ≡ r → Inv (listAdded w r)
   unfolding opening
   opens-inv w q i typed spoken (refused n) e = i
   opens-inv w q i typed spoken (gives L) e =
@@ -197,11 +197,11 @@ module _ (c : Codec) (law : Lawful c) (Elsewhere : List ℕ → Type 0) where
   always (goes {w} r e a) = step-inv w e (always r) a
 
   -- each event leaves the table as it was or enters a run, and loses no list
-  entered-onward : (w : World) (run : List Claim) (x : Outcome Table) → entering (w .table) run ≡ x → Onward w (entered w x)
+  entered-onward : (w : World) (run : List Claim) (x : Outcome Table) → runEntering (w .table) run ≡ x → Onward w (tableChanged w x)
   entered-onward w run (refused n) e = record { table = grown-same _; lists = omega arith }
   entered-onward w run (gives u) e = record { table = entered-grown (w .table) run u (was-entered (w .table) run u e); lists = omega arith }
 
-  added-onward : (w : World) (x : Outcome Listing) → Onward w (added w x)
+  added-onward : (w : World) (x : Outcome Listing) → Onward w (listAdded w x)
   added-onward w (refused n) = record { table = grown-same _; lists = omega arith }
   added-onward w (gives L) = record { table = grown-same _; lists = omega (arith, length-append (w .lists) (L ∷ [])) }
 

@@ -17,7 +17,7 @@ use Rattle.orders.proofs.Lists.{All, all-map, all-take, every-true, front-lengt
 use Rattle.orders.proofs.Sorted.{Rising, rising-take, rising-test, IsOf, listed-are, listed-rising, listed-grown, rest-start, rest-next}
 use Rattle.orders.proofs.Page.{last-all, last-more}
 use Rattle.orders.proofs.Taking.{present-start, present-after, Fits}
-use Rattle.orders.specs.Laws.{QueryOk}
+use Rattle.orders.specs.LawfulLines.{QueryOk}
 use Rattle.journey.specs.Promise.{allOf}
 use Rattle.paper.specs.Limits.{mostClaims}
 

@@ -22,11 +22,11 @@ pub record Truthful (t : Table) (L : Listing) : Type 0 where
   pub ours : L .started ≡ true → matches t (L .query) ≡ true
 
 -- [6.3] [7.4] a list's present ask, and its answer from a table, as lines; the answer's items are the page that the ask names
-abbrev pub askOf : Codec → Listing → ℕ → List ℕ
-askOf c L size = c .askLine (presentAsk L size)
+abbrev pub askLineOf : Codec → Listing → ℕ → List ℕ
+askLineOf c L size = c .askLine (presentAsk L size)
 
-abbrev pub replyTo : Codec → Table → Listing → ℕ → List ℕ
-replyTo c t L size = c .answerLine (answerOf t (presentAsk L size))
+abbrev pub replyLineOf : Codec → Table → Listing → ℕ → List ℕ
+replyLineOf c t L size = c .answerLine (answerOf t (presentAsk L size))
 
 -- list i is for this table, is not complete, and may ask for a page of this size
 pub record MayAsk (w : World) (i size : ℕ) : Type 0 where
@@ -39,15 +39,15 @@ pub record MayAsk (w : World) (i size : ℕ) : Type 0 where
 -- [7.13] list i writes its present ask in w, and the ask reaches the office in v
 pub record Answered (c : Codec) (w v : World) (i size : ℕ) : Type 0 where
   pub written : (room out : ℕ) → length (theList w i .items) ≤ room → longestAsk ≤ out
-      → List·Memᴰ (askOf c (theList w i) size) (next c w (asks i size room out) .air)
+      → List·Memᴰ (askLineOf c (theList w i) size) (next c w (asks i size room out) .air)
   pub answered : (out : ℕ) → longestAnswer ≤ out
-      → List·Memᴰ (replyTo c (v .table) (theList w i) size) (next c v (receives (askOf c (theList w i) size) out) .air)
+      → List·Memᴰ (replyLineOf c (v .table) (theList w i) size) (next c v (receives (askLineOf c (theList w i) size) out) .air)
 
 -- [7.13] and list i takes this answer in u
 pub record Grows (c : Codec) (w v u : World) (i size : ℕ) : Type 0 where
   pub grown : Listing
   pub accepted : (room : ℕ) → length (grown .items) ≤ room
-      → theList (next c u (takes i room (replyTo c (v .table) (theList w i) size))) i ≡ grown
+      → theList (next c u (takes i room (replyLineOf c (v .table) (theList w i) size))) i ≡ grown
   -- [7.13] a full page more, or all that is left
   pub more : grown .items ≡ theList w i .items ++ take size (drop (length (theList w i .items)) (allOf (u .table) grown))
   pub front : grown .items ≡ take (length (theList w i .items) + size) (allOf (u .table) grown)

@@ -12,7 +12,7 @@ use Rattle.paper.specs.Orders.{Query, queryIn}
 use Rattle.paper.specs.Lines.{noQuery}
 use Rattle.paper.specs.Outcomes.{Outcome, refused, gives, must}
 use Rattle.paper.specs.Ends.{Answer, Codec, Table, count, office, Listing, fresh, opening, every, asking, taking}
-use Rattle.orders.specs.Laws.{Typed}
+use Rattle.orders.specs.LawfulLines.{Typed}
 use Rattle.paper.specs.Limits.{mostClaims}
 
 pub record World : Type 0 where
@@ -42,20 +42,20 @@ abbrev pub theList : World → ℕ → Listing
 theList w i = getD (w .lists) i noListing
 
 -- [9.6] [3.15] all claims of a run, or none, by 5 and 3: what 1, 2 and 4 are about is memory, which a world has none of
-unfoldable pub entering : Table → List Claim → Outcome Table
-entering t run =
+unfoldable pub runEntering : Table → List Claim → Outcome Table
+runEntering t run =
     must (every (λ k. eqb (length (k .place)) (t .d)) run) 5
     (must (leb (count t + length run) (t .capacity)) 3
     (gives (record { number = t .number; measure = t .measure; d = t .d; capacity = t .capacity; claims = t .claims ++ run })))
 
 -- [9.2] a refusal changes nothing
-abbrev pub entered : World → Outcome Table → World
-entered w (refused n) = w
-entered w (gives t) = record { table = t; air = w .air; lists = w .lists }
+abbrev pub tableChanged : World → Outcome Table → World
+tableChanged w (refused n) = w
+tableChanged w (gives t) = record { table = t; air = w .air; lists = w .lists }
 
-abbrev pub added : World → Outcome Listing → World
-added w (refused n) = w
-added w (gives L) = record { table = w .table; air = w .air; lists = w .lists ++ (L ∷ []) }
+abbrev pub listAdded : World → Outcome Listing → World
+listAdded w (refused n) = w
+listAdded w (gives L) = record { table = w .table; air = w .air; lists = w .lists ++ (L ∷ []) }
 
 abbrev pub sent : World → Outcome (List ℕ) → World
 sent w (refused n) = w
@@ -66,8 +66,8 @@ moved w i (refused n) = w
 moved w i (gives L) = record { table = w .table; air = w .air; lists = set (w .lists) i L }
 
 unfoldable pub next : Codec → World → Event → World
-next c w (enters run) = entered w (entering (w .table) run)
-next c w (opens q) = added w (opening q)
+next c w (enters run) = tableChanged w (runEntering (w .table) run)
+next c w (opens q) = listAdded w (opening q)
 next c w (asks i size room out) = sent w (asking c room size out (theList w i))
 next c w (receives s out) = sent w (office c (w .table) out s)
 next c w (takes i room s) = moved w i (taking c room (theList w i) s)

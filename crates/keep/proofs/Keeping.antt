@@ -11,7 +11,7 @@ use native.Mathlib.Omega.{arith}
 use native.Mathlib.Nat.{le-refl, eq-or-lt-of-le}
 use borrow.Author.Tests.{ltb-true, ltb-false, eqb-true, eqb-false}
 use Rattle.paper.proofs.Tests.{no-way}
-use Rattle.keep.specs.Page.{ahead, sooner, insert, sortedOf, firstSorted}
+use Rattle.keep.specs.Page.{ahead, sooner, insertBy, sortedOf, firstSorted}
 use Rattle.keep.specs.Kept.{key, Rising, none, more, Covered, full, there, past, Kept}
 
 -- the order as a key
@@ -110,14 +110,14 @@ module _ (rank : ℕ → ℕ) (ok : ℕ → Bool) (n : ℕ) where
   rising-last (suc s) lo (k ∷ l) (suc i) (suc m) (more a b c d) hi h = rising-last s (key rank k + 1) l i m d (omega arith) (omega arith)
 
   module _ (k : ℕ) (hn : n < 2 ^ 64) (hk : k < n) where
-    pub insert-rising : (t lo : ℕ) (l : List ℕ) → lo ≤ key rank k → ok k ≡ true → Rising rank ok n t lo l → Rising rank ok n (suc t) lo (insert rank k l)
-    unfolding insert
+    pub insert-rising : (t lo : ℕ) (l : List ℕ) → lo ≤ key rank k → ok k ≡ true → Rising rank ok n t lo l → Rising rank ok n (suc t) lo (insertBy rank k l)
+    unfolding insertBy
     insert-rising t lo [] hlo hok none = more hlo hk hok none
     insert-rising (suc t) lo (x ∷ l) hlo hok (more a b c d) =
         go (sooner rank x k) (eqb x k) refl refl (λ h. insert-rising t (key rank x + 1) l h hok d)
       where
-        go : (u v : Bool) → sooner rank x k ≡ u → eqb x k ≡ v → (key rank x + 1 ≤ key rank k → Rising rank ok n (suc t) (key rank x + 1) (insert rank k l))
-            → Rising rank ok n (suc (suc t)) lo (cond u (x ∷ insert rank k l) (cond v (x ∷ l) (k ∷ x ∷ l)))
+        go : (u v : Bool) → sooner rank x k ≡ u → eqb x k ≡ v → (key rank x + 1 ≤ key rank k → Rising rank ok n (suc t) (key rank x + 1) (insertBy rank k l))
+            → Rising rank ok n (suc (suc t)) lo (cond u (x ∷ insertBy rank k l) (cond v (x ∷ l) (k ∷ x ∷ l)))
         go true v p q rec = more a b c (rec (omega (arith, sooner-true rank x k (omega arith) (omega arith) p)))
         go false true p q rec = more a b c (rising-more t (key rank x + 1) l d)
         go false false p q rec =
@@ -125,27 +125,27 @@ module _ (rank : ℕ → ℕ) (ok : ℕ → Bool) (n : ℕ) where
             more hlo hk hok (more f b c d)
 
     -- the claim that was put is there, or everything kept comes before it
-    pub insert-there : (s t lo : ℕ) (l : List ℕ) → Rising rank ok n t lo l → Covered rank k s (take s (insert rank k l))
-    unfolding insert
+    pub insert-there : (s t lo : ℕ) (l : List ℕ) → Rising rank ok n t lo l → Covered rank k s (take s (insertBy rank k l))
+    unfolding insertBy
     insert-there zero t lo l r = full
     insert-there (suc s) t lo [] none = there
     insert-there (suc s) (suc t) lo (x ∷ l) (more a b c d) = go (sooner rank x k) (eqb x k) refl refl (insert-there s t (key rank x + 1) l d)
       where
-        go : (u v : Bool) → sooner rank x k ≡ u → eqb x k ≡ v → Covered rank k s (take s (insert rank k l))
-            → Covered rank k (suc s) (take (suc s) (cond u (x ∷ insert rank k l) (cond v (x ∷ l) (k ∷ x ∷ l))))
+        go : (u v : Bool) → sooner rank x k ≡ u → eqb x k ≡ v → Covered rank k s (take s (insertBy rank k l))
+            → Covered rank k (suc s) (take (suc s) (cond u (x ∷ insertBy rank k l) (cond v (x ∷ l) (k ∷ x ∷ l))))
         go true v p q rec = past (sooner-true rank x k (omega arith) (omega arith) p) rec
         go false true p q rec = rw (eqb-true x k q) there
         go false false p q rec = there
 
     -- what was covered stays so
-    pub insert-keeps : (j s t lo : ℕ) (l : List ℕ) → Rising rank ok n t lo l → Covered rank j s (take s l) → Covered rank j s (take s (insert rank k l))
-    unfolding insert
+    pub insert-keeps : (j s t lo : ℕ) (l : List ℕ) → Rising rank ok n t lo l → Covered rank j s (take s l) → Covered rank j s (take s (insertBy rank k l))
+    unfolding insertBy
     insert-keeps j zero t lo l r c = full
     insert-keeps j (suc s) t lo [] none c = absurd (let z = covered-some rank j (suc s) [] c (omega arith) in omega arith)
     insert-keeps j (suc s) (suc t) lo (x ∷ l) (more a b c d) h = go (sooner rank x k) (eqb x k) refl refl h (λ c. insert-keeps j s t (key rank x + 1) l d c)
       where
-        go : (u v : Bool) → sooner rank x k ≡ u → eqb x k ≡ v → Covered rank j (suc s) (x ∷ take s l) → (Covered rank j s (take s l) → Covered rank j s (take s (insert rank k l)))
-            → Covered rank j (suc s) (take (suc s) (cond u (x ∷ insert rank k l) (cond v (x ∷ l) (k ∷ x ∷ l))))
+        go : (u v : Bool) → sooner rank x k ≡ u → eqb x k ≡ v → Covered rank j (suc s) (x ∷ take s l) → (Covered rank j s (take s l) → Covered rank j s (take s (insertBy rank k l)))
+            → Covered rank j (suc s) (take (suc s) (cond u (x ∷ insertBy rank k l) (cond v (x ∷ l) (k ∷ x ∷ l))))
         go true v p q h rec = step rank x j s (take s l) _ h rec
         go false true p q h rec = h
         go false false p q h rec = moved rank k x j s l (omega (arith, sooner-false rank x k (omega arith) (omega arith) p, key-differs rank x k (omega arith) (omega arith) (eqb-false x k q))) h
@@ -154,10 +154,10 @@ module _ (rank : ℕ → ℕ) (ok : ℕ → Bool) (n : ℕ) where
   still size C l r h = record { rising = r; keeps = λ j c. c; all = h }
 
   -- the step of claim k
-  pub one : (size k : ℕ) (l : List ℕ) → n < 2 ^ 64 → k < n → ok k ≡ true → Rising rank ok n size zero l → Kept rank ok n size (λ j. j ≡ k) l (take size (insert rank k l))
+  pub one : (size k : ℕ) (l : List ℕ) → n < 2 ^ 64 → k < n → ok k ≡ true → Rising rank ok n size zero l → Kept rank ok n size (λ j. j ≡ k) l (take size (insertBy rank k l))
   one size k l hn hk hok r =
       record {
-        rising = rising-take size (suc size) zero (insert rank k l) (insert-rising k hn hk size zero l (omega arith) hok r);
+        rising = rising-take size (suc size) zero (insertBy rank k l) (insert-rising k hn hk size zero l (omega arith) hok r);
         keeps = λ j c. insert-keeps k hn hk j size size zero l r (rw (take-all size l (rising-few size zero l r)) c);
         all = λ j e y. rw e (insert-there k hn hk size size zero l r);
       }
@@ -196,7 +196,7 @@ module _ (rank : ℕ → ℕ) (ok : ℕ → Bool) (n : ℕ) where
   scan-rising zero h hn = none
   scan-rising (suc m) h hn = go (ok m) refl (scan-rising m (omega arith) hn)
     where
-      go : (u : Bool) → ok m ≡ u → Rising rank ok n m zero (sortedOf rank ok m) → Rising rank ok n (suc m) zero (cond u (insert rank m (sortedOf rank ok m)) (sortedOf rank ok m))
+      go : (u : Bool) → ok m ≡ u → Rising rank ok n m zero (sortedOf rank ok m) → Rising rank ok n (suc m) zero (cond u (insertBy rank m (sortedOf rank ok m)) (sortedOf rank ok m))
       go true p r = insert-rising m hn (omega arith) m zero _ (omega arith) p r
       go false p r = rising-more m zero _ r
 
@@ -206,7 +206,7 @@ module _ (rank : ℕ → ℕ) (ok : ℕ → Bool) (n : ℕ) where
   scan-covers (suc m) size j h hn hj hok = go (ok m) refl (eq-or-lt-of-le (omega arith)) (λ l. scan-covers m size j (omega arith) hn l hok)
     where
       go : (u : Bool) → ok m ≡ u → (j ≡ m) ⊎ (j < m) → (j < m → Covered rank j size (take size (sortedOf rank ok m)))
-          → Covered rank j size (take size (cond u (insert rank m (sortedOf rank ok m)) (sortedOf rank ok m)))
+          → Covered rank j size (take size (cond u (insertBy rank m (sortedOf rank ok m)) (sortedOf rank ok m)))
       go true p (inl e) rec = rw e (insert-there m hn (omega arith) size m zero _ (scan-rising m (omega arith) hn))
       go true p (inr l) rec = insert-keeps m hn (omega arith) j size m zero _ (scan-rising m (omega arith) hn) (rec l)
       go false p (inl e) rec = let z : true ≡ false = sym hok ∙ rw e p in absurd (no-way z)

@@ -12,7 +12,7 @@ use lib.Seq.{take-all, take-at, drop-drop, take-append-add, take-length, drop-le
 use borrow.Author.Tests.{eq-eqb, ne-eqb, eqb-true, lt-ltb, ltb-true}
 use Rattle.paper.specs.declared.orders.Order.{Order}
 use Rattle.paper.specs.Orders.{rank, before}
-use Rattle.keep.specs.Page.{ranks, ahead, sooner, insert, items, filled}
+use Rattle.keep.specs.Page.{ranks, ahead, sooner, insertBy, items, filled}
 use Rattle.keep.specs.Kept.{key, Rising, none, more, Holding, Roomy, PlaceIs, shifted, heldAt, KeepIs}
 use Rattle.paper.proofs.Tests.{no-way}
 use Rattle.keep.proofs.Keeping.{sooner-true, key-sooner, rising-at, rising-few, rising-take, insert-rising}
@@ -81,8 +81,8 @@ module _ (rank : ℕ → ℕ) (ok : ℕ → Bool) (n k : ℕ) (hn : n < 2 ^ 64) 
 
   -- in its place
   pub insert-at : (s lo : ℕ) (l : List ℕ) (p : ℕ) → Rising rank ok n s lo l → PlaceIn rank l k p → (p < length l → getD l p 0 ≡ k → ⊥)
-      → insert rank k l ≡ take p l ++ (k ∷ drop p l)
-  unfolding insert
+      → insertBy rank k l ≡ take p l ++ (k ∷ drop p l)
+  unfolding insertBy
   insert-at s lo [] zero none g ne = refl
   insert-at s lo [] (suc p) none g ne = absurd (omega (arith, g .few))
   insert-at (suc s) lo (x ∷ l) zero (more a b c d) g ne = rw (g .behind (omega arith), ne-eqb x k (ne (omega arith)))
@@ -94,8 +94,8 @@ module _ (rank : ℕ → ℕ) (ok : ℕ → Bool) (n k : ℕ) (hn : n < 2 ^ 64) 
       (record { few = omega (arith, g .few); front = λ i h. g .front (suc i) (ap suc h); behind = λ h. g .behind (omega arith) }) (λ h. ne (omega arith))))
 
   -- where it is already
-  pub insert-same : (s lo : ℕ) (l : List ℕ) (p : ℕ) → Rising rank ok n s lo l → p < length l → getD l p 0 ≡ k → insert rank k l ≡ l
-  unfolding insert
+  pub insert-same : (s lo : ℕ) (l : List ℕ) (p : ℕ) → Rising rank ok n s lo l → p < length l → getD l p 0 ≡ k → insertBy rank k l ≡ l
+  unfolding insertBy
   insert-same s lo [] p none h e = absurd (omega arith)
   insert-same (suc s) lo (x ∷ l) zero (more a b c d) h e = rw (e, self, eq-eqb k k refl)
     where
@@ -217,9 +217,9 @@ module _ (order : Order) (size : ℕ) (o : List ℕ) (count k y x p : ℕ) (room
         put = λ ref dist ok n base l hk hok py px h.
             let g = place-in order ref dist ok n size base o count l k x p px h at in
             let all : p ≡ length l = omega (arith, h .counts, at .few, roomy .few) in
-            let i : insert (ranks order dist) k l ≡ take p l ++ (k ∷ drop p l) = insert-at (ranks order dist) ok n k (h .small) hk size zero l p (h .rising) g (λ hp. absurd (omega arith)) in
+            let i : insertBy (ranks order dist) k l ≡ take p l ++ (k ∷ drop p l) = insert-at (ranks order dist) ok n k (h .small) hk size zero l p (h .rising) g (λ hp. absurd (omega arith)) in
             let t : take p l ≡ l = rw all (take-length l) in
-            let same : take size (insert (ranks order dist) k l) ≡ l = ap (take size) (i ∙ ap (λ (z : List ℕ). z ++ (k ∷ drop p l)) t) ∙ take-at l (k ∷ drop p l) size (omega arith) in
+            let same : take size (insertBy (ranks order dist) k l) ≡ l = ap (take size) (i ∙ ap (λ (z : List ℕ). z ++ (k ∷ drop p l)) t) ∙ take-at l (k ∷ drop p l) size (omega arith) in
             rw same h;
       }
 
@@ -230,8 +230,8 @@ module _ (order : Order) (size : ℕ) (o : List ℕ) (count k y x p : ℕ) (room
         put = λ ref dist ok n base l hk hok py px h.
             let it = item-at ref dist l (drop (length l * 3) base) p (omega (arith, h .counts)) in
             let q : getD l p 0 ≡ k = sym (it .0) ∙ ap (λ (z : List ℕ). getD z (p * 3) 0) (sym (h .front)) ∙ e in
-            let i : insert (ranks order dist) k l ≡ l = insert-same (ranks order dist) ok n k (h .small) hk size zero l p (h .rising) (omega (arith, h .counts)) q in
-            let same : take size (insert (ranks order dist) k l) ≡ l = ap (take size) i ∙ take-all size l (rising-few (ranks order dist) ok n size zero l (h .rising)) in
+            let i : insertBy (ranks order dist) k l ≡ l = insert-same (ranks order dist) ok n k (h .small) hk size zero l p (h .rising) (omega (arith, h .counts)) q in
+            let same : take size (insertBy (ranks order dist) k l) ≡ l = ap (take size) i ∙ take-all size l (rising-few (ranks order dist) ok n size zero l (h .rising)) in
             rw same h;
       }
 
@@ -249,20 +249,20 @@ module _ (order : Order) (size : ℕ) (o : List ℕ) (count k y x p : ℕ) (room
             let ne' : p < length l → getD l p 0 ≡ k → ⊥ = λ hp e.
             let it = item-at ref dist l (drop (length l * 3) base) p hp in
             ne (omega (arith, h .counts)) (ap (λ (z : List ℕ). getD z (p * 3) 0) (h .front) ∙ it .0 ∙ e) in
-            let i : insert (ranks order dist) k l ≡ take p l ++ (k ∷ drop p l) = insert-at (ranks order dist) ok n k (h .small) hk size zero l p (h .rising) g ne' in
+            let i : insertBy (ranks order dist) k l ≡ take p l ++ (k ∷ drop p l) = insert-at (ranks order dist) ok n k (h .small) hk size zero l p (h .rising) g ne' in
             let N : List ℕ = take p l ++ (k ∷ take (q - p) (drop p l)) in
             let lA : length (take p l) ≡ p = length-take p l ∙ omega (arith, g .few) in
             let lB : length (take (q - p) (drop p l)) ≡ q - p = length-take (q - p) (drop p l) ∙ simp length-drop (omega (arith, left-few size count q cases, h .counts)) in
             let lN : length N ≡ q + 1 = length-append (take p l) (k ∷ take (q - p) (drop p l)) ∙ omega arith in
             let cases' : Left size (length l) q = rw (h .counts) at cases in
-            let isN : take size (insert (ranks order dist) k l) ≡ N = ap (take size) i ∙ kept-is l k p q size hp hq (left-few size (length l) q cases') cases' in
+            let isN : take size (insertBy (ranks order dist) k l) ≡ N = ap (take size) i ∙ kept-is l k p q size hp hq (left-few size (length l) q cases') cases' in
             let rest = free ref dist l base q size hq (h .long) cases' in
             rw isN (record {
               front = rw (h .front, py, px, lN) (put-room ref dist l base (rest .0) (drop ((q + 1) * 3) base) k p q hp (left-few size (length l) q cases') (rest .1) (rest .2));
               counts = hr ∙ sym lN;
               long = h .long;
               small = h .small;
-              rising = rw isN at (rising-take (ranks order dist) ok n size (suc size) zero (insert (ranks order dist) k l) (insert-rising (ranks order dist) ok n k (h .small) hk size zero l (omega arith) hok (h .rising)));
+              rising = rw isN at (rising-take (ranks order dist) ok n size (suc size) zero (insertBy (ranks order dist) k l) (insert-rising (ranks order dist) ok n k (h .small) hk size zero l (omega arith) hok (h .rising)));
             });
       }
 

@@ -7,7 +7,7 @@ use lib.Dec.{ltb, eqb}
 use lib.ListN.{length, take, drop, getD}
 use Rattle.paper.specs.declared.orders.Order.{Order}
 use Rattle.paper.specs.Orders.{before}
-use Rattle.keep.specs.Page.{ranks, insert, filled}
+use Rattle.keep.specs.Page.{ranks, insertBy, filled}
 
 -- an order as one number, for claims numbered below 2^64
 abbrev pub key : (ℕ → ℕ) → ℕ → ℕ
@@ -73,4 +73,4 @@ heldAt room p count k = ltb p count && eqb (getD room (p * 3) 0) k
 pub record KeepIs (order : Order) (size : ℕ) (o : List ℕ) (count k y x : ℕ) (o' : List ℕ) (r : ℕ) : Type 0 where
   pub few : r ≤ size
   pub put : (ref dist : ℕ → ℕ) (ok : ℕ → Bool) (n : ℕ) (base l : List ℕ) → k < n → ok k ≡ true → y ≡ ref k → x ≡ dist k
-      → Holding order ref dist ok n size base o count l → Holding order ref dist ok n size base o' r (take size (insert (ranks order dist) k l))
+      → Holding order ref dist ok n size base o count l → Holding order ref dist ok n size base o' r (take size (insertBy (ranks order dist) k l))

@@ -21,14 +21,14 @@ abbrev pub sooner : (ℕ → ℕ) → ℕ → ℕ → Bool
 sooner rank j k = ahead (rank j) j (rank k) k
 
 -- claim k put in its place; where it is already, nothing changes
-unfoldable pub insert : (ℕ → ℕ) → ℕ → List ℕ → List ℕ
-insert rank k [] = k ∷ []
-insert rank k (x ∷ l) = cond (sooner rank x k) (x ∷ insert rank k l) (cond (eqb x k) (x ∷ l) (k ∷ x ∷ l))
+unfoldable pub insertBy : (ℕ → ℕ) → ℕ → List ℕ → List ℕ
+insertBy rank k [] = k ∷ []
+insertBy rank k (x ∷ l) = cond (sooner rank x k) (x ∷ insertBy rank k l) (cond (eqb x k) (x ∷ l) (k ∷ x ∷ l))
 
 -- [2.5] the admitted ones of the first n claims, in order
 unfoldable pub sortedOf : (ℕ → ℕ) → (ℕ → Bool) → ℕ → List ℕ
 sortedOf rank ok zero = []
-sortedOf rank ok (suc n) = cond (ok n) (insert rank n (sortedOf rank ok n)) (sortedOf rank ok n)
+sortedOf rank ok (suc n) = cond (ok n) (insertBy rank n (sortedOf rank ok n)) (sortedOf rank ok n)
 
 unfoldable pub firstSorted : (ℕ → ℕ) → (ℕ → Bool) → ℕ → ℕ → List ℕ
 firstSorted rank ok n size = take size (sortedOf rank ok n)

@@ -8,20 +8,20 @@ use mathlib.Core.List.{List, [], _++_, append-nil}
 use lib.ListN.{length, drop, take, replicate, length-drop, drop-of-length-le}
 use lib.Seq.{drop-drop, take-at}
 use borrow.Author.Tests.{eq-eqb}
-use Rattle.paper.specs.Frames.{be, num, lineOf, frameOf, sound}
+use Rattle.paper.specs.Frames.{be, num, lineOf, frameOf, isLine}
 use Rattle.paper.specs.Orders.{Query, queryIn}
-use Rattle.paper.specs.Fields.{front, inPlaces, scopeIn, itemBytes, itemsIn, itemPlaces}
-use Rattle.paper.specs.Lines.{answerKind, behind, queryAt, queryFits, answerFrame, answerFits, countIn, answerOk, answerAt, anAnswer, noAnswer, answerOf}
+use Rattle.paper.specs.Fields.{front, inPlaces, scopeIn, itemBytes, itemNumbers, itemPlaces}
+use Rattle.paper.specs.Lines.{answerKind, behind, queryAt, queryFits, answerFrame, answerFits, countIn, answerOk, answerAt, anAnswer, noAnswer, readAsAnswer}
 use Rattle.paper.specs.declared.lines.Scope.{Scope}
 use Rattle.paper.specs.declared.lines.Answer.{Answer}
 use Rattle.paper.specs.declared.lines.AnswerRead.{AnswerRead}
 use Rattle.paper.specs.declared.orders.Order.{Order}
 use Rattle.paper.proofs.LineKinds.{answer-small, answer-some, answer-spoken}
-use Rattle.digits.proofs.Laws.{Bytes, bytes-drop, bytes-frame, field-read, field-back, frame-line, sound-line, line-of-sound}
+use Rattle.digits.proofs.NumbersAndFrames.{Bytes, bytes-drop, bytes-frame, field-read, field-back, frame-line, sound-line, line-of-sound}
 use Rattle.fields.proofs.PartLaws.{head-rule}
 use Rattle.fields.proofs.ItemLaws.{Distances, items-fitting, items-read, items-back, length-itemsIn, references-in}
 use Rattle.fields.proofs.Round.{QueryFit, ScopeFit, Fronts, front-read, front-back}
-use Rattle.lines.proofs.Ways.{reads, accepted}
+use Rattle.lines.proofs.WritersReaders.{reads, accepted}
 use Rattle.lines.proofs.Tests.{read-fits, last-at, items-from, length-answer, bytes-answer, answer-fits, is-answer, answer-begun}
 use Rattle.paper.specs.Limits.{itemRoom}
 
@@ -50,10 +50,10 @@ module _ (q : Query) (p : Scope) (last n : ℕ) (ns : List ℕ) (fit : answerFit
       let w = answer-fits q p last n ns fit in
       field-read (behind frame) 22 1 n (itemBytes ns) (last-read .1) (omega arith)
 
-  items-in : itemsIn n (itemBytes ns) ≡ ns
+  items-in : itemNumbers n (itemBytes ns) ≡ ns
   items-in =
       let w = answer-fits q p last n ns fit in
-      ap (itemsIn n) (sym (append-nil (itemBytes ns))) ∙ items-read n ns [] (items-fitting n ns (w .count) (w .references) (w .numbers) hn)
+      ap (itemNumbers n) (sym (append-nil (itemBytes ns))) ∙ items-read n ns [] (items-fitting n ns (w .count) (w .references) (w .numbers) hn)
 
   frame-ok : answerOk k frame ≡ true
   unfolding answerOk
@@ -68,8 +68,8 @@ module _ (q : Query) (p : Scope) (last n : ℕ) (ns : List ℕ) (fit : answerFit
   unfolding answerAt
   frame-at = rw (begins .query, begins .scope, last-read .0, count-read .0, count-read .1, items-in)
 
-  pub answer-reads-back : answerOf (q .order) (lineOf frame) ≡ anAnswer (record { query = inPlaces q; scope = p; last = last; count = n; items = itemPlaces n ns })
-  unfolding answerOf
+  pub answer-reads-back : readAsAnswer (q .order) (lineOf frame) ≡ anAnswer (record { query = inPlaces q; scope = p; last = last; count = n; items = itemPlaces n ns })
+  unfolding readAsAnswer
   answer-reads-back =
       let w = answer-fits q p last n ns fit in
       let l = length-answer q p last n ns (w .count) in
@@ -79,13 +79,13 @@ module _ (q : Query) (p : Scope) (last n : ℕ) (ns : List ℕ) (fit : answerFit
 
 -- ---- what is read was written
 
-tail-back : (g : List ℕ) (n : ℕ) → Bytes g → length g ≡ 2 + 14 * n → n ≡ num 1 (drop 1 g) → be 1 (num 1 g) ++ (be 1 n ++ itemBytes (itemsIn n (drop 2 g))) ≡ g
+tail-back : (g : List ℕ) (n : ℕ) → Bytes g → length g ≡ 2 + 14 * n → n ≡ num 1 (drop 1 g) → be 1 (num 1 g) ++ (be 1 n ++ itemBytes (itemNumbers n (drop 2 g))) ≡ g
 tail-back g n p l e =
     let b = bytes-drop 2 g p in
     let lb : length (drop 2 g) ≡ length g - 2 = length-drop 2 g in
     let z : drop (14 * n) (drop 2 g) ≡ [] = drop-of-length-le (drop 2 g) {i = 14 * n} (omega arith) in
-    let i : itemBytes (itemsIn n (drop 2 g)) ≡ drop 2 g =
-    sym (append-nil (itemBytes (itemsIn n (drop 2 g)))) ∙ ap (λ (x : List ℕ). itemBytes (itemsIn n (drop 2 g)) ++ x) (sym z) ∙ items-back n (drop 2 g) b (omega arith) in
+    let i : itemBytes (itemNumbers n (drop 2 g)) ≡ drop 2 g =
+    sym (append-nil (itemBytes (itemNumbers n (drop 2 g)))) ∙ ap (λ (x : List ℕ). itemBytes (itemNumbers n (drop 2 g)) ++ x) (sym z) ∙ items-back n (drop 2 g) b (omega arith) in
     rw (i, e, field-back g 1 1 p (omega arith)) (field-back g 0 1 p (omega arith))
 
 -- a frame of the kind that an order's answers have
@@ -94,7 +94,7 @@ module _ (o : Order) (f : List ℕ) (p : Bytes f) (e : answerOk (answerKind o) f
   rest = drop 21 (behind f)
 
   abbrev listed : List ℕ
-  listed = itemsIn (countIn f) (drop 23 (behind f))
+  listed = itemNumbers (countIn f) (drop 23 (behind f))
 
   frame-back : answerFrame (queryIn (queryAt o f)) (scopeIn (behind f)) (num 1 rest) (countIn f) listed ≡ f
   unfolding answerFrame
@@ -125,19 +125,19 @@ pub record AnswerBack (l : List ℕ) (a : Answer) : Type 0 where
   pub fits : answerFits (queryIn (a .query)) (a .scope) (a .last) (a .count) (take (3 * a .count) (a .items)) ≡ true
   pub line : lineOf (answerFrame (queryIn (a .query)) (a .scope) (a .last) (a .count) (take (3 * a .count) (a .items))) ≡ l
 
-take-items : (n : ℕ) (g : List ℕ) → take (3 * n) (itemPlaces n (itemsIn n g)) ≡ itemsIn n g
+take-items : (n : ℕ) (g : List ℕ) → take (3 * n) (itemPlaces n (itemNumbers n g)) ≡ itemNumbers n g
 unfolding itemPlaces
-take-items n g = take-at (itemsIn n g) (replicate (itemRoom - 3 * n) 0) (3 * n) (length-itemsIn n g)
+take-items n g = take-at (itemNumbers n g) (replicate (itemRoom - 3 * n) 0) (3 * n) (length-itemsIn n g)
 
-answer-back : (o : Order) (l : List ℕ) → sound l ≡ true → answerOk (answerKind o) (frameOf l) ≡ true → AnswerBack l (answerAt o (frameOf l))
+answer-back : (o : Order) (l : List ℕ) → isLine l ≡ true → answerOk (answerKind o) (frameOf l) ≡ true → AnswerBack l (answerAt o (frameOf l))
 unfolding answerAt
 answer-back o l s e =
     let f = frameOf l in
     let i = take-items (countIn f) (drop 23 (behind f)) in
     record { fits = rw i (fits-back o f (bytes-frame l) e); line = rw i (ap lineOf (frame-back o f (bytes-frame l) e) ∙ line-of-sound l s) }
 
-pub answer-writes-back : (o : Order) (l : List ℕ) → answerOf o l .refusal ≡ 0 → AnswerBack l (answerOf o l .answer)
-unfolding answerOf
+pub answer-writes-back : (o : Order) (l : List ℕ) → readAsAnswer o l .refusal ≡ 0 → AnswerBack l (readAsAnswer o l .answer)
+unfolding readAsAnswer
 answer-writes-back o l e =
     let p = accepted (answerOk (answerKind o)) (λ f. anAnswer (answerAt o f)) noAnswer (λ (x : AnswerRead). x .refusal) l (unfold noAnswer in λ n. refl) e in
     subst (λ (x : AnswerRead). AnswerBack l (x .answer)) (sym (reads (answerOk (answerKind o)) (λ f. anAnswer (answerAt o f)) noAnswer l (p .0) (p .1))) (unfold anAnswer in answer-back o l (p .0) (p .1))

@@ -7,19 +7,19 @@ use mathlib.Core.Bool.{true}
 use mathlib.Core.List.{List, [], _++_, append-nil}
 use lib.ListN.{length, drop, length-drop}
 use borrow.Author.Tests.{leb-true, le-leb, eq-eqb}
-use Rattle.paper.specs.Frames.{be, num, lineOf, frameOf, sound}
+use Rattle.paper.specs.Frames.{be, num, lineOf, frameOf, isLine}
 use Rattle.paper.specs.Orders.{Query, queryIn}
 use Rattle.paper.specs.Fields.{front, inPlaces, scopeIn}
-use Rattle.paper.specs.Lines.{askKind, askOrder, behind, queryAt, queryFits, askFrame, askFits, askOk, isAsk, askAt, anAsk, noAsk, askOf}
+use Rattle.paper.specs.Lines.{askKind, askOrder, behind, queryAt, queryFits, askFrame, askFits, askOk, isAsk, askAt, anAsk, noAsk, readAsAsk}
 use Rattle.paper.specs.declared.lines.Scope.{Scope}
 use Rattle.paper.specs.declared.lines.Ask.{Ask}
 use Rattle.paper.specs.declared.lines.AskRead.{AskRead}
 use Rattle.paper.specs.declared.orders.Order.{Order}
 use Rattle.paper.proofs.LineKinds.{ask-small, order-back}
-use Rattle.digits.proofs.Laws.{Bytes, bytes-drop, bytes-frame, field-read, frame-line, sound-line, line-of-sound}
+use Rattle.digits.proofs.NumbersAndFrames.{Bytes, bytes-drop, bytes-frame, field-read, frame-line, sound-line, line-of-sound}
 use Rattle.fields.proofs.PartLaws.{head-rule}
 use Rattle.fields.proofs.Round.{QueryFit, ScopeFit, Fronts, front-read, front-back, last-field}
-use Rattle.lines.proofs.Ways.{reads, accepted}
+use Rattle.lines.proofs.WritersReaders.{reads, accepted}
 use Rattle.lines.proofs.Tests.{read-fits, last-at, page-size, length-ask, bytes-ask, ask-fits, is-ask, ask-begun}
 
 -- ---- what is written is read
@@ -57,8 +57,8 @@ module _ (q : Query) (p : Scope) (s : ℕ) (fit : askFits q p s ≡ true) (hq : 
   unfolding askAt
   frame-at = rw (order-read, begins .query, begins .scope, size-read)
 
-  pub ask-reads-back : askOf (lineOf (askFrame q p s)) ≡ anAsk (record { query = inPlaces q; scope = p; size = s })
-  unfolding askOf
+  pub ask-reads-back : readAsAsk (lineOf (askFrame q p s)) ≡ anAsk (record { query = inPlaces q; scope = p; size = s })
+  unfolding readAsAsk
   ask-reads-back =
       let w = ask-fits q p s fit in
       let f = askFrame q p s in
@@ -98,14 +98,14 @@ module _ (o : Order) (f : List ℕ) (e : askOk (askKind o) f ≡ true) where
       let w = is-ask (askKind o) f e in
       rw (read-fits o f (le-leb 1 (askKind o) (w .headed .some)) (w .headed .test)) (w .rest)
 
-ask-back : (l : List ℕ) → sound l ≡ true → isAsk (frameOf l) ≡ true → AskBack l (askAt (frameOf l))
+ask-back : (l : List ℕ) → isLine l ≡ true → isAsk (frameOf l) ≡ true → AskBack l (askAt (frameOf l))
 unfolding askAt isAsk
 ask-back l s e =
     let o = askOrder (num 1 (frameOf l)) in
     record { fits = fits-back o (frameOf l) e; line = ap lineOf (frame-back o (frameOf l) e (bytes-frame l)) ∙ line-of-sound l s }
 
-pub ask-writes-back : (l : List ℕ) → askOf l .refusal ≡ 0 → AskBack l (askOf l .ask)
-unfolding askOf
+pub ask-writes-back : (l : List ℕ) → readAsAsk l .refusal ≡ 0 → AskBack l (readAsAsk l .ask)
+unfolding readAsAsk
 ask-writes-back l e =
     let p = accepted isAsk (λ f. anAsk (askAt f)) noAsk (λ (x : AskRead). x .refusal) l (unfold noAsk in λ n. refl) e in
     subst (λ (x : AskRead). AskBack l (x .ask)) (sym (reads isAsk (λ f. anAsk (askAt f)) noAsk l (p .0) (p .1))) (unfold anAsk in ask-back l (p .0) (p .1))

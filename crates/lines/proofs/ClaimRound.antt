@@ -9,15 +9,15 @@ use lib.ListN.{length, drop, take, length-drop, drop-of-length-le}
 use lib.IntN.{ℤ}
 use lib.Dec.{lit≤}
 use borrow.Author.Tests.{eq-eqb}
-use Rattle.paper.specs.Frames.{be, num, lineOf, frameOf, sound}
+use Rattle.paper.specs.Frames.{be, num, lineOf, frameOf, isLine}
 use Rattle.paper.specs.Fields.{head, coordBytes, coordsIn, places}
-use Rattle.paper.specs.Lines.{claimFrame, claimFits, claimOk, claimAt, aClaim, noClaim, claimOf}
+use Rattle.paper.specs.Lines.{claimFrame, claimFits, claimOk, claimAt, aClaim, noClaim, readAsClaim}
 use Rattle.paper.specs.declared.lines.ClaimLine.{ClaimLine}
 use Rattle.paper.specs.declared.lines.ClaimRead.{ClaimRead}
-use Rattle.digits.proofs.Laws.{Bytes, bytes-drop, bytes-frame, field-read, field-back, frame-line, sound-line, line-of-sound}
+use Rattle.digits.proofs.NumbersAndFrames.{Bytes, bytes-drop, bytes-frame, field-read, field-back, frame-line, sound-line, line-of-sound}
 use Rattle.fields.proofs.PartLaws.{length-coordsIn, head-rule}
 use Rattle.fields.proofs.Round.{Fit, Heads, head-read, head-back, coords-read, coords-back, take-places}
-use Rattle.lines.proofs.Ways.{reads, accepted}
+use Rattle.lines.proofs.WritersReaders.{reads, accepted}
 use Rattle.lines.proofs.Tests.{length-claim, bytes-claim, claim-fits, is-claim}
 
 -- ---- what is written is read
@@ -46,8 +46,8 @@ module _ (t m d r : ℕ) (cs : List ℤ) (fit : claimFits m d cs ≡ true) (ht :
       let e : coordsIn d (coordBytes cs) ≡ cs = rw (← q .count) (ap (coordsIn (length cs)) (sym (append-nil (coordBytes cs))) ∙ coords-read cs [] hc) in
       rw (begins .table, begins .measure, begins .dim, reference .0, reference .1, e)
 
-  pub claim-reads-back : claimOf (lineOf (claimFrame t m d r cs)) ≡ aClaim (record { table = t; measure = m; d = d; reference = r; coordinates = places d cs })
-  unfolding claimOf
+  pub claim-reads-back : readAsClaim (lineOf (claimFrame t m d r cs)) ≡ aClaim (record { table = t; measure = m; d = d; reference = r; coordinates = places d cs })
+  unfolding readAsClaim
   claim-reads-back =
       let q = claim-fits m d cs fit in
       let f = claimFrame t m d r cs in
@@ -79,15 +79,15 @@ pub record ClaimBack (l : List ℕ) (c : ClaimLine) : Type 0 where
   pub fits : claimFits (c .measure) (c .d) (take (c .d) (c .coordinates)) ≡ true
   pub line : lineOf (claimFrame (c .table) (c .measure) (c .d) (c .reference) (take (c .d) (c .coordinates))) ≡ l
 
-claim-back : (l : List ℕ) → sound l ≡ true → claimOk (frameOf l) ≡ true → ClaimBack l (claimAt (frameOf l))
+claim-back : (l : List ℕ) → isLine l ≡ true → claimOk (frameOf l) ≡ true → ClaimBack l (claimAt (frameOf l))
 unfolding claimAt
 claim-back l s e =
     let f = frameOf l in
     let q = take-places (num 1 (drop 6 f)) (drop 11 f) in
     record { fits = rw q (fits-back f e); line = rw q (ap lineOf (frame-back f (bytes-frame l) e) ∙ line-of-sound l s) }
 
-pub claim-writes-back : (l : List ℕ) → claimOf l .refusal ≡ 0 → ClaimBack l (claimOf l .claim)
-unfolding claimOf
+pub claim-writes-back : (l : List ℕ) → readAsClaim l .refusal ≡ 0 → ClaimBack l (readAsClaim l .claim)
+unfolding readAsClaim
 claim-writes-back l e =
     let p = accepted claimOk (λ f. aClaim (claimAt f)) noClaim (λ (x : ClaimRead). x .refusal) l (unfold noClaim in λ n. refl) e in
     subst (λ (x : ClaimRead). ClaimBack l (x .claim)) (sym (reads claimOk (λ f. aClaim (claimAt f)) noClaim l (p .0) (p .1))) (unfold aClaim in claim-back l (p .0) (p .1))

@@ -1,4 +1,4 @@
-pub mod Ways
+pub mod WritersReaders
 pub mod Tests
 pub mod AskRound
 pub mod AnswerRound

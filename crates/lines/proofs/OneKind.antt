@@ -3,19 +3,19 @@ use Prim.Native.Nat.{ℕ}
 use mathlib.Core.Path.{_≡_, refl, sym, _∙_}
 use mathlib.Core.Bool.{Bool, true}
 use mathlib.Core.List.{List}
-use Rattle.paper.specs.Frames.{num, frameOf, sound}
-use Rattle.paper.specs.Lines.{askKind, answerKind, askOrder, reading, isAsk, askAt, anAsk, noAsk, askOf, answerOk, answerAt, anAnswer, noAnswer, answerOf, claimOk, claimAt, aClaim, noClaim, claimOf}
+use Rattle.paper.specs.Frames.{num, frameOf, isLine}
+use Rattle.paper.specs.Lines.{askKind, answerKind, askOrder, reading, isAsk, askAt, anAsk, noAsk, readAsAsk, answerOk, answerAt, anAnswer, noAnswer, readAsAnswer, claimOk, claimAt, aClaim, noClaim, readAsClaim}
 use Rattle.paper.specs.declared.orders.Order.{Order}
 use Rattle.paper.specs.declared.lines.AskRead.{AskRead}
 use Rattle.paper.specs.declared.lines.AnswerRead.{AnswerRead}
 use Rattle.paper.specs.declared.lines.ClaimRead.{ClaimRead}
 use Rattle.paper.proofs.Tests.{refuted}
-use Rattle.lines.proofs.Ways.{reads-10, accepted}
+use Rattle.lines.proofs.WritersReaders.{reads-10, accepted}
 use Rattle.lines.proofs.Tests.{any-ask, is-answer, is-claim}
 
 -- a sound line whose frame has kind k
 pub record OfKind (k : ℕ) (l : List ℕ) : Type 0 where
-  pub sure : sound l ≡ true
+  pub sure : isLine l ≡ true
   pub kind : num 1 (frameOf l) ≡ k
 
 -- whatever the test, as long as it refuses that kind
@@ -31,32 +31,32 @@ orderIn l = askOrder (num 1 (frameOf l))
 kind-of : (f : List ℕ) → isAsk f ≡ true → num 1 f ≡ askKind (askOrder (num 1 f))
 kind-of f e = any-ask f e .headed .kind
 
-pub ask-kind : (l : List ℕ) → askOf l .refusal ≡ 0 → OfKind (askKind (orderIn l)) l
-unfolding askOf
+pub ask-kind : (l : List ℕ) → readAsAsk l .refusal ≡ 0 → OfKind (askKind (orderIn l)) l
+unfolding readAsAsk
 ask-kind l e =
     let p = accepted isAsk (λ f. anAsk (askAt f)) noAsk (λ (x : AskRead). x .refusal) l (unfold noAsk in λ n. refl) e in
     record { sure = p .0; kind = kind-of (frameOf l) (p .1) }
 
-pub answer-kind : (o : Order) (l : List ℕ) → answerOf o l .refusal ≡ 0 → OfKind (answerKind o) l
-unfolding answerOf
+pub answer-kind : (o : Order) (l : List ℕ) → readAsAnswer o l .refusal ≡ 0 → OfKind (answerKind o) l
+unfolding readAsAnswer
 answer-kind o l e =
     let p = accepted (answerOk (answerKind o)) (λ f. anAnswer (answerAt o f)) noAnswer (λ (x : AnswerRead). x .refusal) l (unfold noAnswer in λ n. refl) e in
     record { sure = p .0; kind = is-answer (answerKind o) (frameOf l) (p .1) .headed .kind }
 
-pub claim-kind : (l : List ℕ) → claimOf l .refusal ≡ 0 → OfKind 3 l
-unfolding claimOf
+pub claim-kind : (l : List ℕ) → readAsClaim l .refusal ≡ 0 → OfKind 3 l
+unfolding readAsClaim
 claim-kind l e =
     let p = accepted claimOk (λ f. aClaim (claimAt f)) noClaim (λ (x : ClaimRead). x .refusal) l (unfold noClaim in λ n. refl) e in
     record { sure = p .0; kind = is-claim (frameOf l) (p .1) .headed .kind }
 
-pub not-ask : (k : ℕ) (l : List ℕ) → OfKind k l → ((o : Order) → k ≡ askKind o → ⊥) → askOf l ≡ noAsk 10
-unfolding askOf
+pub not-ask : (k : ℕ) (l : List ℕ) → OfKind k l → ((o : Order) → k ≡ askKind o → ⊥) → readAsAsk l ≡ noAsk 10
+unfolding readAsAsk
 not-ask k l p q = apart isAsk (λ f. anAsk (askAt f)) noAsk k l (λ f e n. q (askOrder (num 1 f)) (sym n ∙ kind-of f e)) p
 
-pub not-answer : (k : ℕ) (o : Order) (l : List ℕ) → OfKind k l → (k ≡ answerKind o → ⊥) → answerOf o l ≡ noAnswer 10
-unfolding answerOf
+pub not-answer : (k : ℕ) (o : Order) (l : List ℕ) → OfKind k l → (k ≡ answerKind o → ⊥) → readAsAnswer o l ≡ noAnswer 10
+unfolding readAsAnswer
 not-answer k o l p q = apart (answerOk (answerKind o)) (λ f. anAnswer (answerAt o f)) noAnswer k l (λ f e n. q (sym n ∙ is-answer (answerKind o) f e .headed .kind)) p
 
-pub not-claim : (k : ℕ) (l : List ℕ) → OfKind k l → (k ≡ 3 → ⊥) → claimOf l ≡ noClaim 10
-unfolding claimOf
+pub not-claim : (k : ℕ) (l : List ℕ) → OfKind k l → (k ≡ 3 → ⊥) → readAsClaim l ≡ noClaim 10
+unfolding readAsClaim
 not-claim k l p q = apart claimOk (λ f. aClaim (claimAt f)) noClaim k l (λ f e n. q (sym n ∙ is-claim f e .headed .kind)) p

@@ -13,13 +13,13 @@ use Rattle.paper.specs.Frames.{be, num}
 use Rattle.paper.specs.Ends.{sizeHolds}
 use Rattle.paper.specs.Points.{inRange, InRange}
 use Rattle.paper.proofs.Ranges.{range-is}
-use Rattle.paper.specs.Fields.{head, front, coordBytes, scopeIn, scopeOk, itemBytes, itemsIn, itemPlaces, numbersOk, referencesOk}
+use Rattle.paper.specs.Fields.{head, front, coordBytes, scopeIn, scopeOk, itemBytes, itemNumbers, itemPlaces, numbersOk, referencesOk}
 use Rattle.paper.specs.Orders.{Query, queryIn}
 use Rattle.paper.specs.Lines.{askKind, answerKind, spoken, askOrder, headOk, behind, queryAt, queryFits, askFrame, askRanges, askFits, askOk, isAsk, askAt, answerFrame, answerRanges, answerFits, countIn, answerOk, answerAt, claimFrame, claimFits, claimOk}
 use Rattle.paper.specs.declared.lines.Scope.{Scope}
 use Rattle.paper.specs.declared.orders.Order.{Order}
 use Rattle.paper.specs.declared.queries.Query as queries
-use Rattle.digits.proofs.Laws.{and-false, and-both, Bytes, bytes-append, bytes-be, length-be}
+use Rattle.digits.proofs.NumbersAndFrames.{and-false, and-both, Bytes, bytes-append, bytes-be, length-be}
 use Rattle.fields.specs.Fronts.{Begun}
 use Rattle.fields.proofs.PartLaws.{Headed, is-head, length-front, bytes-front, length-head, bytes-head, length-coordBytes, bytes-coordBytes, length-coordsIn}
 use Rattle.fields.proofs.ItemLaws.{length-items, bytes-items}
@@ -193,12 +193,12 @@ pub record AnswerFrame (k : ℕ) (f : List ℕ) : Type 0 where
   pub size : length f ≡ 30 + 4 * num 1 (drop 6 f) + 14 * countIn f
   pub rest : answerRanges (scopeIn (behind f)) (num 1 (drop 21 (behind f))) (countIn f) ≡ true
   pub few : countIn f ≤ mostPage
-  pub numbers : numbersOk (itemsIn (countIn f) (drop 23 (behind f))) ≡ true
+  pub numbers : numbersOk (itemNumbers (countIn f) (drop 23 (behind f))) ≡ true
 
 pub is-answer : (k : ℕ) (f : List ℕ) → answerOk k f ≡ true → AnswerFrame k f
 unfolding answerOk
 is-answer k f e =
-    let numbers = numbersOk (itemsIn (countIn f) (drop 23 (behind f))) in
+    let numbers = numbersOk (itemNumbers (countIn f) (drop 23 (behind f))) in
     let ranges = answerRanges (scopeIn (behind f)) (num 1 (drop 21 (behind f))) (countIn f) in
     let size = eqb (length f) (30 + 4 * num 1 (drop 6 f) + 14 * countIn f) in
     let p = and-both (headOk k f) (size && (ranges && numbers)) e in
@@ -228,7 +228,7 @@ unfolding behind
 items-from f at e = let q : at + 2 ≡ 7 + 4 * num 1 (drop 6 f) + 23 = omega arith in rw (drop-drop, q)
 
 -- the answer that a frame holds, from its parts
-pub answer-value : (o : Order) (f : List ℕ) (x : queries.Query) (p : Scope) (at last n : ℕ) (ns : List ℕ) → x ≡ queryAt o f → at ≡ 28 + 4 * x .d → p ≡ scopeIn (drop (at - 21) f) → last ≡ num 1 (drop at f) → n ≡ num 1 (drop (at + 1) f) → ns ≡ itemPlaces n (itemsIn n (drop (at + 2) f))
+pub answer-value : (o : Order) (f : List ℕ) (x : queries.Query) (p : Scope) (at last n : ℕ) (ns : List ℕ) → x ≡ queryAt o f → at ≡ 28 + 4 * x .d → p ≡ scopeIn (drop (at - 21) f) → last ≡ num 1 (drop at f) → n ≡ num 1 (drop (at + 1) f) → ns ≡ itemPlaces n (itemNumbers n (drop (at + 2) f))
     → record { query = x; scope = p; last = last; count = n; items = ns } ≡ answerAt o f
 unfolding answerAt
 answer-value o f x p at last n ns e q u v w z =
@@ -240,7 +240,7 @@ answer-value o f x p at last n ns e q u v w z =
 
 -- what is left to test where the head and the length are right
 pub answer-rule : (k : ℕ) (f : List ℕ) (at n : ℕ) → headOk k f ≡ true → at ≡ 28 + 4 * num 1 (drop 6 f) → n ≡ num 1 (drop (at + 1) f) → length f ≡ at + 2 + 14 * n
-    → answerOk k f ≡ answerRanges (scopeIn (drop (at - 21) f)) (num 1 (drop at f)) n && numbersOk (itemsIn n (drop (at + 2) f))
+    → answerOk k f ≡ answerRanges (scopeIn (drop (at - 21) f)) (num 1 (drop at f)) n && numbersOk (itemNumbers n (drop (at + 2) f))
 unfolding answerOk
 answer-rule k f at n h e c l =
     let d = num 1 (drop 6 f) in

@@ -5,10 +5,10 @@ ghost use mathlib.Core.List.{_++_};
 ghost use Prim.Native.Nat.{_+_, _-_, _*_, _≤_};
 ghost use lib.ListN.{length, drop};
 ghost use Rattle.paper.specs.Frames.{be, num, lineOf, written};
-ghost use Rattle.paper.specs.Fields.{scopeIn, itemBytes, itemsIn, numbersOk};
+ghost use Rattle.paper.specs.Fields.{scopeIn, itemBytes, itemNumbers, numbersOk};
 ghost use Rattle.paper.specs.Orders.{queryIn};
-ghost use Rattle.paper.specs.Lines.{Writes, bareLine, answerFrame, answerRanges, answerFits, answerOk, answerAt, noAnswer, answerOf};
-ghost use Rattle.digits.specs.Places.{held, over};
+ghost use Rattle.paper.specs.Lines.{Writes, bareLine, answerFrame, answerRanges, answerFits, answerOk, answerAt, noAnswer, readAsAnswer};
+ghost use Rattle.digits.specs.Places.{frameIn, overlaid};
 ghost use Rattle.lines.specs.Kinds.{IsAnswer};
 ghost use Rattle.paper.specs.Limits.{longestAnswer, mostPage, mostPlaces};
 use checks::answer_kind;
@@ -51,7 +51,7 @@ fn answer_fits(q: Query, p: Scope, last: u8, count: u8, items: &[u64]) -> bool
 // Writes what an answer has behind its mark number.
 fn put_tail(out: &mut [u8], at: usize, last: u8, count: u8, items: &[u64])
     requires { ⌜ (length (now items) ≡ 3 * count) × ((count ≤ mostPage) × (2 * (at + 2 + 14 * count) ≤ length (now out))) ⌝ }
-    ensures { λ _. ⌜ now (out .exit) ≡ over (now (out .entry)) at (be 1 last ++ (be 1 count ++ itemBytes (now (items .entry)))) ⌝ }
+    ensures { λ _. ⌜ now (out .exit) ≡ overlaid (now (out .entry)) at (be 1 last ++ (be 1 count ++ itemBytes (now (items .entry)))) ⌝ }
 {
     digits::put(out, at, 1, last as u64);
     digits::put(out, at + 1, 1, count as u64);
@@ -72,7 +72,8 @@ fn fill_answer(q: Query, p: Scope, last: u8, count: u8, items: &[u64], out: &mut
     n + 1
 }
 
-// [9.14] Refusals 10, 12.
+// [5.6] [9.14] Writes an answer: the front of 28 + 4d bytes (fields::put_front), then last (1), item count (1), and 14 for each item. Refusals
+// 10, 12.
 pub fn write_answer(q: Query, p: Scope, last: u8, count: u8, items: &[u64], out: &mut [u8]) -> Wrote
     ensures { λ r. ⌜ Writes (bareLine (answerFits (queryIn q) p last count (now (items .entry))) longestAnswer (answerFrame (queryIn q) p last count (now (items .entry))) (length (now (out .entry)))) (now (out .entry)) r (now (out .exit)) ⌝ }
 {
@@ -88,8 +89,8 @@ pub fn write_answer(q: Query, p: Scope, last: u8, count: u8, items: &[u64], out:
 
 // Whether what stands behind the probe is in range, with `count` items from byte at + 2 on.
 fn tail_ok(src: &[u8], at: usize, count: u64) -> bool
-    requires { ⌜ (21 ≤ at) × (at + 2 + 14 * count ≤ length (held (now src))) ⌝ }
-    ensures { λ r. ⌜ r ≡ answerRanges (scopeIn (drop (at - 21) (held (now (src .entry))))) (num 1 (drop at (held (now (src .entry))))) count && numbersOk (itemsIn count (drop (at + 2) (held (now (src .entry))))) ⌝ }
+    requires { ⌜ (21 ≤ at) × (at + 2 + 14 * count ≤ length (frameIn (now src))) ⌝ }
+    ensures { λ r. ⌜ r ≡ answerRanges (scopeIn (drop (at - 21) (frameIn (now (src .entry))))) (num 1 (drop at (frameIn (now (src .entry))))) count && numbersOk (itemNumbers count (drop (at + 2) (frameIn (now (src .entry))))) ⌝ }
 {
     let p = fields::scope_at(src, at - 21);
     if answer_ranges(p, digits::number(src, at, 1), count) {
@@ -100,7 +101,7 @@ fn tail_ok(src: &[u8], at: usize, count: u64) -> bool
 
 // [8.10] Whether a frame of this kind is laid out as an answer.
 fn answer_ok(src: &[u8], kind: u8) -> bool
-    ensures { λ r. ⌜ r ≡ answerOk kind (held (now (src .entry))) ⌝ }
+    ensures { λ r. ⌜ r ≡ answerOk kind (frameIn (now (src .entry))) ⌝ }
 {
     let n = digits::size(src);
     if n < 34 {
@@ -120,8 +121,8 @@ fn answer_ok(src: &[u8], kind: u8) -> bool
 }
 
 fn answer_at(order: Order, src: &[u8]) -> Answer
-    requires { ⌜ IsAnswer (held (now src)) ⌝ }
-    ensures { λ r. ⌜ r ≡ answerAt order (held (now (src .entry))) ⌝ }
+    requires { ⌜ IsAnswer (frameIn (now src)) ⌝ }
+    ensures { λ r. ⌜ r ≡ answerAt order (frameIn (now (src .entry))) ⌝ }
 {
     let query = fields::query_at(order, src);
     let at = 28 + 4 * query.d;
@@ -150,9 +151,9 @@ fn no_answer(n: u8) -> AnswerRead
     AnswerRead { refusal: n, answer }
 }
 
-// [9.15] Refusals 9, 10.
+// [5.6] [9.15] Reads the line of an answer in an order. Refusals 9, 10.
 pub fn read_answer(order: Order, line: &[u8]) -> AnswerRead
-    ensures { λ r. ⌜ r ≡ answerOf order (now (line .entry)) ⌝ }
+    ensures { λ r. ⌜ r ≡ readAsAnswer order (now (line .entry)) ⌝ }
 {
     let mut frame = [0u8; LONGEST_FRAME];
     let n = digits::frame_of(line, &mut frame);

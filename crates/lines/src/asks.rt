@@ -4,9 +4,9 @@ ghost use mathlib.Core.Bool.{true};
 ghost use Prim.Native.Nat.{_≤_};
 ghost use lib.ListN.{length};
 ghost use Rattle.paper.specs.Frames.{lineOf, written};
-ghost use Rattle.paper.specs.Lines.{Writes, bareLine, askFrame, askRanges, askFits, askOk, isAsk, askAt, noAsk, askOf};
+ghost use Rattle.paper.specs.Lines.{Writes, bareLine, askFrame, askRanges, askFits, askOk, isAsk, askAt, noAsk, readAsAsk};
 ghost use Rattle.paper.specs.Orders.{queryIn};
-ghost use Rattle.digits.specs.Places.{held};
+ghost use Rattle.digits.specs.Places.{frameIn};
 ghost use Rattle.paper.specs.Limits.{longestAsk, mostPlaces};
 use checks::ask_kind;
 use checks::ask_order;
@@ -59,7 +59,7 @@ fn fill_ask(q: Query, p: Scope, size: u8, out: &mut [u8]) -> usize
     n + 1
 }
 
-// [9.14] Refusals 10, 12.
+// [5.5] [9.14] Writes an ask: the front of 28 + 4d bytes (fields::put_front), then the page size (1). Refusals 10, 12.
 pub fn write_ask(q: Query, p: Scope, size: u8, out: &mut [u8]) -> Wrote
     ensures { λ r. ⌜ Writes (bareLine (askFits (queryIn q) p size) longestAsk (askFrame (queryIn q) p size) (length (now (out .entry)))) (now (out .entry)) r (now (out .exit)) ⌝ }
 {
@@ -75,7 +75,7 @@ pub fn write_ask(q: Query, p: Scope, size: u8, out: &mut [u8]) -> Wrote
 
 // [8.10] Whether a frame of this kind is laid out as an ask.
 fn is_kind(src: &[u8], kind: u8) -> bool
-    ensures { λ r. ⌜ r ≡ askOk kind (held (now (src .entry))) ⌝ }
+    ensures { λ r. ⌜ r ≡ askOk kind (frameIn (now (src .entry))) ⌝ }
 {
     let n = digits::size(src);
     if n < 33 {
@@ -92,9 +92,9 @@ fn is_kind(src: &[u8], kind: u8) -> bool
     false
 }
 
-// [8.10] Whether a frame is an ask, of the order that its kind tells.
+// [5.5] [8.10] Whether a frame is an ask, of the order that its kind tells: 29 + 4d bytes, in range.
 pub fn ask_ok(src: &[u8]) -> bool
-    ensures { λ r. ⌜ r ≡ isAsk (held (now (src .entry))) ⌝ }
+    ensures { λ r. ⌜ r ≡ isAsk (frameIn (now (src .entry))) ⌝ }
 {
     if digits::size(src) == 0 {
         return false;
@@ -103,9 +103,10 @@ pub fn ask_ok(src: &[u8]) -> bool
     is_kind(src, ask_kind(order))
 }
 
+// [5.5] The ask that a frame holds: query, scope behind its reach, and page size in byte 28 + 4d.
 pub fn ask_at(src: &[u8]) -> Ask
-    requires { ⌜ isAsk (held (now src)) ≡ true ⌝ }
-    ensures { λ r. ⌜ r ≡ askAt (held (now (src .entry))) ⌝ }
+    requires { ⌜ isAsk (frameIn (now src)) ≡ true ⌝ }
+    ensures { λ r. ⌜ r ≡ askAt (frameIn (now (src .entry))) ⌝ }
 {
     let order = ask_order(fields::kind(src));
     let query = fields::query_at(order, src);
@@ -129,9 +130,9 @@ fn no_ask(n: u8) -> AskRead
     AskRead { refusal: n, ask }
 }
 
-// [9.15] Refusals 9, 10.
+// [5.5] [9.15] Reads an ask's line. Refusals 9, 10.
 pub fn read_ask(line: &[u8]) -> AskRead
-    ensures { λ r. ⌜ r ≡ askOf (now (line .entry)) ⌝ }
+    ensures { λ r. ⌜ r ≡ readAsAsk (now (line .entry)) ⌝ }
 {
     let mut frame = [0u8; LONGEST_FRAME];
     let n = digits::frame_of(line, &mut frame);

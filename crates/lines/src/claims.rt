@@ -4,8 +4,8 @@ ghost use mathlib.Core.Bool.{true};
 ghost use Prim.Native.Nat.{_≤_};
 ghost use lib.ListN.{length};
 ghost use Rattle.paper.specs.Frames.{lineOf, written};
-ghost use Rattle.paper.specs.Lines.{Writes, bareLine, claimFrame, claimFits, claimOk, claimAt, noClaim, claimOf};
-ghost use Rattle.digits.specs.Places.{held};
+ghost use Rattle.paper.specs.Lines.{Writes, bareLine, claimFrame, claimFits, claimOk, claimAt, noClaim, readAsClaim};
+ghost use Rattle.digits.specs.Places.{frameIn};
 ghost use Rattle.paper.specs.Limits.{longestClaim, mostPlaces};
 use checks::in_range;
 use paper::limits::LONGEST_CLAIM;
@@ -45,6 +45,7 @@ fn fill_claim(
     n + 1
 }
 
+// [5.7] [9.14] Writes a claim: the head of 7 bytes, reference (4), point (4d). Refusals 10, 12.
 pub fn write_claim(
     table: u32,
     measure: u8,
@@ -65,9 +66,9 @@ pub fn write_claim(
     Wrote::Refused(10)
 }
 
-// [8.10] Whether a frame is a claim.
+// [5.7] [8.10] Whether a frame is a claim: 11 + 4d bytes, in range.
 pub fn claim_ok(src: &[u8]) -> bool
-    ensures { λ r. ⌜ r ≡ claimOk (held (now (src .entry))) ⌝ }
+    ensures { λ r. ⌜ r ≡ claimOk (frameIn (now (src .entry))) ⌝ }
 {
     let n = digits::size(src);
     if n < 15 {
@@ -79,9 +80,10 @@ pub fn claim_ok(src: &[u8]) -> bool
     false
 }
 
+// [5.7] The claim that a frame holds: reference from byte 7, point from byte 11.
 pub fn claim_at(src: &[u8]) -> ClaimLine
-    requires { ⌜ claimOk (held (now src)) ≡ true ⌝ }
-    ensures { λ r. ⌜ r ≡ claimAt (held (now (src .entry))) ⌝ }
+    requires { ⌜ claimOk (frameIn (now src)) ≡ true ⌝ }
+    ensures { λ r. ⌜ r ≡ claimAt (frameIn (now (src .entry))) ⌝ }
 {
     let d = digits::number(src, 6, 1);
     let coordinates = fields::coords_at(src, 11, d as usize);
@@ -107,9 +109,9 @@ fn no_claim(n: u8) -> ClaimRead
     ClaimRead { refusal: n, claim }
 }
 
-// [9.15] Refusals 9, 10.
+// [5.7] [9.15] Reads a claim's line. Refusals 9, 10.
 pub fn read_claim(line: &[u8]) -> ClaimRead
-    ensures { λ r. ⌜ r ≡ claimOf (now (line .entry)) ⌝ }
+    ensures { λ r. ⌜ r ≡ readAsClaim (now (line .entry)) ⌝ }
 {
     let mut frame = [0u8; LONGEST_FRAME];
     let n = digits::frame_of(line, &mut frame);

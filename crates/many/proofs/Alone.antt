@@ -27,7 +27,7 @@ use Rattle.rows.specs.Places.{placeAt}
 use Rattle.rows.proofs.AnswerRows.{found-wide, page-wide}
 use Rattle.many.specs.Rows.{row, each, putFound}
 use Rattle.many.specs.Many.{probeAt, nearestAt, farthestAt, firstsCall, nearestEach, farthestEach, AsAlone}
-use Rattle.many.specs.Pages.{pageAt, putOutcome, putItems, Rooms, bothRooms, pagesEach, PageAlone}
+use Rattle.many.specs.Pages.{pageAt, putOutcome, putPageItems, Rooms, bothRooms, pagesEach, PageAlone}
 use Rattle.many.proofs.RowLaws.{OneRow, Rowed, each-rowed}
 
 -- ---- what is written to a row
@@ -142,7 +142,7 @@ module _ (s : Store) (probes : List ℤ) (reaches places : List ℕ) (size : ℕ
   Told = each (putOutcome page) n (before .outcomes)
 
   abbrev Items : List ℕ
-  Items = each (putItems page (size * 3)) n (before .items)
+  Items = each (putPageItems page (size * 3)) n (before .items)
 
   past-6 : must (leb (n * 3) (length (before .outcomes))) 12 (must (leb (n * (size * 3)) (length (before .items))) 12 (gives (bothRooms Told Items))) ≡ gives after
   unfolding pagesEach
@@ -166,7 +166,7 @@ module _ (s : Store) (probes : List ℤ) (reaches places : List ℕ) (size : ℕ
 
   item-rows : Rowed (size * 3) (λ i l. leaves putPage (page i) l) n (before .items) Items
   item-rows =
-      each-rowed (size * 3) (putItems page (size * 3)) (λ i l. leaves putPage (page i) l)
+      each-rowed (size * 3) (putPageItems page (size * 3)) (λ i l. leaves putPage (page i) l)
       (record {
         writes = λ i l k. refl;
         fills = λ i l e. page-fills s (probeAt s probes i) (getD reaches i 0) (placeAt places i) size (size * 3) l e ∙ e;

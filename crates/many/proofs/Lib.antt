@@ -1,5 +1,5 @@
-pub mod Ways
-pub mod PageWays
+pub mod FirstsOfMany
+pub mod PagesOfMany
 pub mod RowLaws
 pub mod Alone
 pub mod Settled

@@ -12,7 +12,7 @@ use Rattle.paper.proofs.Outcomes.{must-go, number-0}
 use Rattle.many.specs.Rows.{each, instead, putFound}
 use Rattle.many.specs.Many.{firstsCall}
 use Rattle.many.specs.Pages.{Rooms, onPages, pagesRefusal, pagesEach}
-use Rattle.many.proofs.PageWays.{then-pages, pages-gives}
+use Rattle.many.proofs.PagesOfMany.{then-pages, pages-gives}
 
 -- what a call gave stands in its rooms
 stands : {M : Type 0} (o : Outcome M) (before after x : M) (r : ℕ) → Promise number instead o before r after → o ≡ gives x → o ≡ gives after

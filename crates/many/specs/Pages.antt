@@ -28,8 +28,8 @@ abbrev pub putOutcome : (ℕ → Outcome PageOf) → ℕ → List ℕ → List �
 putOutcome page i l = sets l (i * 3) (pageRow (pageShown (page i)))
 
 -- [4.19] its items at the front of row i, whose rest stays
-abbrev pub putItems : (ℕ → Outcome PageOf) → ℕ → ℕ → List ℕ → List ℕ
-putItems page w i l = take (i * w) l ++ (leaves putPage (page i) (row w i l) ++ drop (i * w + w) l)
+abbrev pub putPageItems : (ℕ → Outcome PageOf) → ℕ → ℕ → List ℕ → List ℕ
+putPageItems page w i l = take (i * w) l ++ (leaves putPage (page i) (row w i l) ++ drop (i * w + w) l)
 
 -- the two rooms of the call
 pub record Rooms : Type 0 where
@@ -58,7 +58,7 @@ pagesEach s probes reaches places size before =
     (gives
     (bothRooms
     (each (putOutcome (pageAt s probes reaches places size)) (length reaches) (before .outcomes))
-    (each (putItems (pageAt s probes reaches places size) (size * 3)) (length reaches) (before .items))))
+    (each (putPageItems (pageAt s probes reaches places size) (size * 3)) (length reaches) (before .items))))
 
 -- [4.16] a row beside the single call for its question, in a room for one page: what it tells, and the row of items before and after
 pub record PageAlone (single : Outcome PageOf) (told before after : List ℕ) : Type 0 where

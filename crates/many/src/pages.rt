@@ -9,7 +9,7 @@ ghost use Rattle.paper.specs.Tree.{lent};
 ghost use Rattle.paper.specs.Calls.{pageCall};
 ghost use Rattle.rows.specs.Places.{placeAt};
 ghost use Rattle.many.specs.Rows.{each, instead};
-ghost use Rattle.many.specs.Pages.{pageAt, putOutcome, putItems, bothRooms, pagesRefusal, pagesEach, OnePage, AllPages};
+ghost use Rattle.many.specs.Pages.{pageAt, putOutcome, putPageItems, bothRooms, pagesRefusal, pagesEach, OnePage, AllPages};
 use crate::counts::many_refusal;
 use checks::is_whole;
 use checks::size_holds;
@@ -36,7 +36,7 @@ fn page_row(
 )
     requires { ⌜ OnePage (lent t references coordinates rooms) (length (now probes)) (length (now places)) i size (length (now outcomes)) (length (now items)) ⌝ }
     ensures told { λ _. ⌜ now (outcomes .exit) ≡ putOutcome (λ k. pageCall (lent t (references .entry) (coordinates .entry) (rooms .entry)) Near (point (t .d) (now (probes .entry)) i) reach (placeAt (now (places .entry)) i) size (size * 3)) i (now (outcomes .entry)) ⌝ }
-    ensures filled { λ _. ⌜ now (items .exit) ≡ putItems (λ k. pageCall (lent t (references .entry) (coordinates .entry) (rooms .entry)) Near (point (t .d) (now (probes .entry)) i) reach (placeAt (now (places .entry)) i) size (size * 3)) (size * 3) i (now (items .entry)) ⌝ }
+    ensures filled { λ _. ⌜ now (items .exit) ≡ putPageItems (λ k. pageCall (lent t (references .entry) (coordinates .entry) (rooms .entry)) Near (point (t .d) (now (probes .entry)) i) reach (placeAt (now (places .entry)) i) size (size * 3)) (size * 3) i (now (items .entry)) ⌝ }
 {
     let d = t.d;
     let a = i * d;
@@ -75,7 +75,7 @@ fn page_rows(
 )
     requires { ⌜ AllPages (lent t references coordinates rooms) (length (now probes)) (length (now reaches)) (length (now places)) size (length (now outcomes)) (length (now items)) ⌝ }
     ensures told { λ _. ⌜ now (outcomes .exit) ≡ each (putOutcome (pageAt (lent t (references .entry) (coordinates .entry) (rooms .entry)) (now (probes .entry)) (now (reaches .entry)) (now (places .entry)) size)) (length (now (reaches .entry))) (now (outcomes .entry)) ⌝ }
-    ensures filled { λ _. ⌜ now (items .exit) ≡ each (putItems (pageAt (lent t (references .entry) (coordinates .entry) (rooms .entry)) (now (probes .entry)) (now (reaches .entry)) (now (places .entry)) size) (size * 3)) (length (now (reaches .entry))) (now (items .entry)) ⌝ }
+    ensures filled { λ _. ⌜ now (items .exit) ≡ each (putPageItems (pageAt (lent t (references .entry) (coordinates .entry) (rooms .entry)) (now (probes .entry)) (now (reaches .entry)) (now (places .entry)) size) (size * 3)) (length (now (reaches .entry))) (now (items .entry)) ⌝ }
 {
     let mut i = 0;
     while i < reaches.len() {

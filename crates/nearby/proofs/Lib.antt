@@ -1,2 +1,2 @@
-pub mod CallLaws
-pub mod RunWays
+pub mod QuestionsAndLists
+pub mod TablesAndRuns

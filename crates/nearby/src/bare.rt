@@ -3,7 +3,7 @@ ghost use mathlib.Core.Path.{_≡_};
 ghost use lib.ListN.{length};
 ghost use Rattle.paper.specs.declared.orders.Order.the-variants.{Near};
 ghost use Rattle.paper.specs.Orders.{queryIn};
-ghost use Rattle.paper.specs.Lines.{Writes, bareLine, askFits, askFrame, askOf, answerFits, answerFrame, answerOf, claimFits, claimFrame, claimOf};
+ghost use Rattle.paper.specs.Lines.{Writes, bareLine, askFits, askFrame, readAsAsk, answerFits, answerFrame, readAsAnswer, claimFits, claimFrame, readAsClaim};
 ghost use Rattle.paper.specs.Limits.{longestAnswer, longestAsk, longestClaim};
 use paper::lines::AnswerRead;
 use paper::lines::AskRead;
@@ -50,14 +50,14 @@ pub fn write_claim_line(
 
 // [9.15] [5.5] Refusals 9, 10.
 pub fn read_ask_line(line: &[u8]) -> AskRead
-    ensures { λ r. ⌜ r ≡ askOf (now (line .entry)) ⌝ }
+    ensures { λ r. ⌜ r ≡ readAsAsk (now (line .entry)) ⌝ }
 {
     lines::read_ask(line)
 }
 
 // [9.15] [5.6] Refusals 9, 10.
 pub fn read_answer_line(line: &[u8]) -> AnswerRead
-    ensures { λ r. ⌜ r ≡ answerOf Near (now (line .entry)) ⌝ }
+    ensures { λ r. ⌜ r ≡ readAsAnswer Near (now (line .entry)) ⌝ }
 {
     let near = Order::Near;
     lines::read_answer(near, line)
@@ -65,7 +65,7 @@ pub fn read_answer_line(line: &[u8]) -> AnswerRead
 
 // [9.15] [5.7] Refusals 9, 10.
 pub fn read_claim_line(line: &[u8]) -> ClaimRead
-    ensures { λ r. ⌜ r ≡ claimOf (now (line .entry)) ⌝ }
+    ensures { λ r. ⌜ r ≡ readAsClaim (now (line .entry)) ⌝ }
 {
     lines::read_claim(line)
 }

@@ -20,8 +20,8 @@ use Rattle.c_values.specs.declared.Written.{Written}
 use Rattle.c_values.specs.Values.{takenOut, TakesOut, writtenOf, WritesOut}
 use Rattle.paper.specs.Orders.{Query, queryIn}
 use Rattle.paper.specs.Fields.{inPlaces}
-use Rattle.paper.specs.Frames.{frameOf, sound}
-use Rattle.paper.specs.Lines.{Writes, wroteOf, putLine, reading, queryAt, answerKind, askFits, isAsk, askAt, anAsk, noAsk, askOf, answerFits, answerOk, answerAt, anAnswer, noAnswer, answerOf}
+use Rattle.paper.specs.Frames.{frameOf, isLine}
+use Rattle.paper.specs.Lines.{Writes, wroteOf, putLine, reading, queryAt, answerKind, askFits, isAsk, askAt, anAsk, noAsk, readAsAsk, answerFits, answerOk, answerAt, anAnswer, noAnswer, readAsAnswer}
 use Rattle.paper.specs.Limits.{mostPlaces}
 use Rattle.paper.proofs.Tests.{and-first, and-second, and-both, refuted, never}
 use Rattle.lines.proofs.Tests.{QueryFits, ask-fits, any-ask, answer-fits, is-answer}
@@ -75,18 +75,18 @@ module _ (q : Query) (p : Scope) (b : Bool) (be : b ≡ eqb (length (q .probe)) 
     placed-query x e = ap queryIn e ∙ query-placed q (placed .0)
 
 -- what a reader gives has at most eight coordinates
-pub ask-narrow : (l : List ℕ) → askOf l .ask .query .d ≤ mostPlaces
-unfolding askOf reading
-ask-narrow l = go (sound l) (isAsk (frameOf l)) refl
+pub ask-narrow : (l : List ℕ) → readAsAsk l .ask .query .d ≤ mostPlaces
+unfolding readAsAsk reading
+ask-narrow l = go (isLine l) (isAsk (frameOf l)) refl
   where
     go : (a b : Bool) → isAsk (frameOf l) ≡ b → cond a (cond b (anAsk (askAt (frameOf l))) (noAsk 10)) (noAsk 9) .ask .query .d ≤ mostPlaces
     go true true e = unfold anAsk in unfold askAt in unfold queryAt in any-ask (frameOf l) e .headed .range .narrow
     go true false e = unfold noAsk in lit≤ tt
     go false b e = unfold noAsk in lit≤ tt
 
-pub answer-narrow : (o : Order) (l : List ℕ) → answerOf o l .answer .query .d ≤ mostPlaces
-unfolding answerOf reading
-answer-narrow o l = go (sound l) (answerOk (answerKind o) (frameOf l)) refl
+pub answer-narrow : (o : Order) (l : List ℕ) → readAsAnswer o l .answer .query .d ≤ mostPlaces
+unfolding readAsAnswer reading
+answer-narrow o l = go (isLine l) (answerOk (answerKind o) (frameOf l)) refl
   where
     go : (a b : Bool) → answerOk (answerKind o) (frameOf l) ≡ b
         → cond a (cond b (anAnswer (answerAt o (frameOf l))) (noAnswer 10)) (noAnswer 9) .answer .query .d ≤ mostPlaces

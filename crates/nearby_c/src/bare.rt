@@ -3,9 +3,9 @@ ghost use mathlib.Core.Path.{_≡_};
 ghost use mathlib.Core.Bool.{_&&_};
 ghost use lib.Dec.{leb, eqb};
 ghost use lib.ListN.{length};
-ghost use Rattle.paper.specs.Lines.{bareLine, askFits, askFrame, askOf, answerFits, answerFrame, answerOf, claimFits, claimFrame, claimOf};
+ghost use Rattle.paper.specs.Lines.{bareLine, askFits, askFrame, readAsAsk, answerFits, answerFrame, readAsAnswer, claimFits, claimFrame, readAsClaim};
 ghost use Rattle.paper.specs.declared.orders.Order.the-variants.{Near};
-ghost use Rattle.c_values.specs.Values.{nearQuery, scopeIn, askOut, answerOut, WritesOut};
+ghost use Rattle.c_values.specs.Values.{nearQuery, scopeFrom, askOut, answerOut, WritesOut};
 ghost use Rattle.paper.specs.Limits.{longestAnswer, longestAsk, longestClaim, mostPlaces};
 use c_values::AnswerShown;
 use c_values::AskShown;
@@ -41,7 +41,7 @@ pub extern "C" fn nearby_write_ask_line(
     size: u8,
     out: &mut [u8],
 ) -> Written
-    ensures { λ r. ⌜ WritesOut (bareLine (askFits (nearQuery table measure d (now (probe .entry)) (p .reach)) (scopeIn p) size) longestAsk (askFrame (nearQuery table measure d (now (probe .entry)) (p .reach)) (scopeIn p) size) (length (now (out .entry)))) (now (out .entry)) r (now (out .exit)) ⌝ }
+    ensures { λ r. ⌜ WritesOut (bareLine (askFits (nearQuery table measure d (now (probe .entry)) (p .reach)) (scopeFrom p) size) longestAsk (askFrame (nearQuery table measure d (now (probe .entry)) (p .reach)) (scopeFrom p) size) (length (now (out .entry)))) (now (out .entry)) r (now (out .exit)) ⌝ }
 {
     if !placeable(probe.len(), d as usize) {
         return line_of(Wrote::Refused(10));
@@ -66,7 +66,7 @@ pub extern "C" fn nearby_write_answer_line(
     items: &[u64],
     out: &mut [u8],
 ) -> Written
-    ensures { λ r. ⌜ WritesOut (bareLine (answerFits (nearQuery table measure d (now (probe .entry)) (p .reach)) (scopeIn p) last count (now (items .entry))) longestAnswer (answerFrame (nearQuery table measure d (now (probe .entry)) (p .reach)) (scopeIn p) last count (now (items .entry))) (length (now (out .entry)))) (now (out .entry)) r (now (out .exit)) ⌝ }
+    ensures { λ r. ⌜ WritesOut (bareLine (answerFits (nearQuery table measure d (now (probe .entry)) (p .reach)) (scopeFrom p) last count (now (items .entry))) longestAnswer (answerFrame (nearQuery table measure d (now (probe .entry)) (p .reach)) (scopeFrom p) last count (now (items .entry))) (length (now (out .entry)))) (now (out .entry)) r (now (out .exit)) ⌝ }
 {
     if !placeable(probe.len(), d as usize) {
         return line_of(Wrote::Refused(10));
@@ -97,7 +97,7 @@ pub extern "C" fn nearby_write_claim_line(
 // [9.15] Refusals 9, 10.
 #[no_mangle]
 pub extern "C" fn nearby_read_ask_line(line: &[u8]) -> AskShown
-    ensures { λ r. ⌜ r ≡ askOut (askOf (now (line .entry))) ⌝ }
+    ensures { λ r. ⌜ r ≡ askOut (readAsAsk (now (line .entry))) ⌝ }
 {
     let read = nearby::read_ask_line(line);
     ask_out(read)
@@ -106,7 +106,7 @@ pub extern "C" fn nearby_read_ask_line(line: &[u8]) -> AskShown
 // [9.15] Refusals 9, 10.
 #[no_mangle]
 pub extern "C" fn nearby_read_answer_line(line: &[u8]) -> AnswerShown
-    ensures { λ r. ⌜ r ≡ answerOut (answerOf Near (now (line .entry))) ⌝ }
+    ensures { λ r. ⌜ r ≡ answerOut (readAsAnswer Near (now (line .entry))) ⌝ }
 {
     let read = nearby::read_answer_line(line);
     answer_out(read)
@@ -115,7 +115,7 @@ pub extern "C" fn nearby_read_answer_line(line: &[u8]) -> AnswerShown
 // [9.15] Refusals 9, 10.
 #[no_mangle]
 pub extern "C" fn nearby_read_claim_line(line: &[u8]) -> ClaimRead
-    ensures { λ r. ⌜ r ≡ claimOf (now (line .entry)) ⌝ }
+    ensures { λ r. ⌜ r ≡ readAsClaim (now (line .entry)) ⌝ }
 {
     nearby::read_claim_line(line)
 }

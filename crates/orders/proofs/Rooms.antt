@@ -12,8 +12,8 @@ use Rattle.paper.specs.Fields.{places, inPlaces}
 use Rattle.paper.specs.Lines.{spoken}
 use Rattle.paper.specs.Outcomes.{gives}
 use Rattle.paper.specs.Ends.{Codec, Listing, fresh, every, sameZ, soundIn, taking}
-use Rattle.paper.specs.Lists.{Held, held, itemsIn, roomFor, listing, unusedZero, heldWell, soundHeld, openedAs, takingHeld, put}
-use Rattle.orders.specs.Laws.{Lawful}
+use Rattle.paper.specs.Lists.{Held, held, itemsIn, roomFor, listing, unusedZero, heldWell, soundHeld, openedAs, takingHeld, heldAfter}
+use Rattle.orders.specs.LawfulLines.{Lawful}
 use Rattle.paper.proofs.Tests.{and-both}
 use Rattle.paper.proofs.Outcomes.{must-test, must-rest, through}
 use Rattle.orders.proofs.Taking.{took, took-query}
@@ -63,8 +63,8 @@ unfolding fronted
 fronted-length l r h = omega (arith, length-append (flat l) (drop (3 * length l) r), length-drop (3 * length l) r, flat-length l)
 
 -- what is held after an accepted call is what the call gave
-pub listing-put : (s : Held) (L : Listing) → L .query ≡ queryIn (s .list .query) → listing (put s (gives L)) ≡ L
-unfolding listing put fronted
+pub listing-put : (s : Held) (L : Listing) → L .query ≡ queryIn (s .list .query) → listing (heldAfter s (gives L)) ≡ L
+unfolding listing heldAfter fronted
 listing-put s L e = λ i. record {
   query = sym e i;
   started = L .started;
@@ -86,12 +86,12 @@ module _ (c : Codec) (s : Held) (line : List ℕ) (L : Listing) (e : takingHeld 
       took-query (roomFor s) (listing s) (a .value) L (took (roomFor s) (listing s) (a .value) L (a .second))
 
   -- the list moves as the definition says
-  pub moves : listing (put s (gives L)) ≡ L
+  pub moves : listing (heldAfter s (gives L)) ≡ L
   moves = listing-put s L held-query
 
   -- and stays sound
-  pub held-sound : Lawful c → soundHeld (put s (gives L)) ≡ true
-  unfolding soundHeld takingHeld put
+  pub held-sound : Lawful c → soundHeld (heldAfter s (gives L)) ≡ true
+  unfolding soundHeld takingHeld heldAfter
   held-sound law =
       let h : soundIn (roomFor s) L ≡ true = stays-sound c law (roomFor s) (listing s) L line took-held in
       let f : length (fronted (L .items) (s .room)) ≡ length (s .room) = fronted-length (L .items) (s .room) (omega (arith, soundness (roomFor s) L h .roomy)) in

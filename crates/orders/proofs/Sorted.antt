@@ -11,7 +11,7 @@ use borrow.Author.Tests.{ltb-true, ltb-false, eqb-true, eqb-false, leb-true, lt-
 use Rattle.paper.specs.declared.orders.Order.{Order}
 use Rattle.paper.specs.declared.orders.Place.{Place}
 use Rattle.paper.specs.declared.orders.Place.the-variants.{Start, After}
-use Rattle.paper.specs.Points.{Claim, noClaim}
+use Rattle.paper.specs.Points.{Claim, zeroClaim}
 use Rattle.paper.specs.Orders.{Item, Query, rank, before, earlier, insert, itemOf, listed, follows, rest}
 use Rattle.paper.specs.Ends.{markOf, rising}
 use Rattle.paper.proofs.Tests.{no-way, and-both}
@@ -159,7 +159,7 @@ module _ (q : Query) (cs : List Claim) where
 -- a table that has grown lists the same at an old count
 same-item : (q : Query) (cs more : List Claim) (k : ℕ) → k < length cs → itemOf q (cs ++ more) k ≡ itemOf q cs k
 unfolding itemOf
-same-item q cs more k p = rw (List·getD-append cs more noClaim k p)
+same-item q cs more k p = rw (List·getD-append cs more zeroClaim k p)
 
 pub listed-grown : (q : Query) (cs more : List Claim) (s : ℕ) → s ≤ length cs → listed q (cs ++ more) s ≡ listed q cs s
 unfolding listed

@@ -16,7 +16,7 @@ use Rattle.paper.specs.Ends.{Answer, Codec, Listing, lastItem, markOf, leads, r
 use Rattle.paper.proofs.Tests.{and-first, and-second, and-both, or-left, or-right}
 use Rattle.paper.proofs.Outcomes.{must-test, must-rest, through}
 use Rattle.orders.proofs.Lists.{All, all-append, every-all, every-true}
-use Rattle.orders.specs.Laws.{AnswerOk, Lawful}
+use Rattle.orders.specs.LawfulLines.{AnswerOk, Lawful}
 use Rattle.orders.proofs.Taking.{Took, took, Fits, fits-present, present-after}
 use Rattle.paper.specs.Limits.{mostClaims}
 

@@ -18,7 +18,7 @@ use Rattle.paper.specs.declared.orders.Place.the-variants.{Start, After}
 use Rattle.paper.specs.Orders.{Query, snapshotOf}
 use Rattle.paper.specs.Outcomes.{gives}
 use Rattle.paper.specs.Ends.{Answer, Listing, lastItem, markOf, presentPlace, sameZ, sameProbe, sameQuery, samePlace, toPresent, pageHolds, joinedTo, taken}
-use Rattle.orders.specs.Laws.{AnswerOk}
+use Rattle.orders.specs.LawfulLines.{AnswerOk}
 use Rattle.paper.proofs.Tests.{no-way, and-first, and-second, and-both}
 use Rattle.paper.proofs.Outcomes.{must-test, must-rest, same-given}
 

@@ -2,13 +2,13 @@
 use mathlib.Core.Path.{refl}
 use Rattle.paper.specs.Points.{inRange}
 use Rattle.paper.specs.Orders.{rank, before, follows, flat, fronted}
-use Rattle.paper.specs.Frames.{be, num, glyph, digit, hexes, lineOf, frameOf, ended, sound}
+use Rattle.paper.specs.Frames.{be, num, glyph, digit, hexes, lineOf, frameOf, pairsEnded, isLine}
 use Rattle.paper.specs.Fields.{head, front, coordBytes, coordsIn, places, inPlaces, scopeBytes, scopeIn, scopeOk, item, itemBytes, itemPlaces, numbersOk, referencesOk}
 use Rattle.paper.specs.Fields as Fields
-use Rattle.paper.specs.Lines.{bareLine, reading, headOk, behind, queryAt, queryFits, isAsk, askFrame, askRanges, askFits, askOk, askAt, anAsk, noAsk, askOf, answerFrame, answerRanges, answerFits, countIn, answerOk, answerAt, anAnswer, noAnswer, answerOf, claimFrame, claimFits, claimOk, claimAt, aClaim, noClaim, claimOf}
-use Rattle.paper.specs.Codec.{scopeOf, placeIn, askLine, answered, readAnswer}
+use Rattle.paper.specs.Lines.{bareLine, reading, headOk, behind, queryAt, queryFits, isAsk, askFrame, askRanges, askFits, askOk, askAt, anAsk, noAsk, readAsAsk, answerFrame, answerRanges, answerFits, countIn, answerOk, answerAt, anAnswer, noAnswer, readAsAnswer, claimFrame, claimFits, claimOk, claimAt, aClaim, noClaim, readAsClaim}
+use Rattle.paper.specs.Codec.{scopeOf, placeIn, askLine, answerMeant, readAnswer}
 use Rattle.paper.specs.Ends.{opening, presentPlace, every, rising, startedWell, soundIn, asking, sameProbe, sameQuery, samePlace, toPresent, pageHolds, joinedTo, taken, taking}
-use Rattle.paper.specs.Lists.{itemsIn, listing, unusedZero, heldWell, openedAs, openingHeld, askingHeld, takingHeld, put}
+use Rattle.paper.specs.Lists.{itemsIn, listing, unusedZero, heldWell, openedAs, openingHeld, askingHeld, takingHeld, heldAfter}
 use Rattle.paper.specs.LineExamples.{ListsMarked, TakingMarked, LinesMarked, CallsMarked}
 use Rattle.paper.proofs.CallExamples.{limits-marked, making-marked, entering-marked, asking-marked, office-marked}
 
@@ -36,8 +36,8 @@ lists-marked =
 
 pub taking-marked : TakingMarked
 unfolding inRange unusedZero heldWell every itemsIn listing soundIn rising startedWell rank before presentPlace follows sameProbe sameQuery samePlace toPresent pageHolds
-    joinedTo taken taking takingHeld flat fronted put be num glyph digit hexes lineOf frameOf ended sound coordsIn places scopeIn scopeOk
-    Fields.itemsIn itemPlaces numbersOk headOk behind answerRanges queryAt countIn answerOk answerAt placeIn answered readAnswer
+    joinedTo taken taking takingHeld flat fronted heldAfter be num glyph digit hexes lineOf frameOf pairsEnded isLine coordsIn places scopeIn scopeOk
+    Fields.itemNumbers itemPlaces numbersOk headOk behind answerRanges queryAt countIn answerOk answerAt placeIn answerMeant readAnswer
 taking-marked =
     record {
       first = refl;
@@ -64,9 +64,9 @@ taking-marked =
     }
 
 pub lines-marked : LinesMarked
-unfolding inRange be num glyph digit hexes lineOf frameOf ended sound head front coordBytes coordsIn places scopeBytes scopeIn scopeOk item itemBytes
-    Fields.itemsIn itemPlaces numbersOk referencesOk bareLine reading headOk behind queryAt queryFits isAsk askFrame askRanges askFits askOk askAt anAsk noAsk askOf
-    answerFrame answerRanges answerFits countIn answerOk answerAt anAnswer noAnswer answerOf claimFrame claimFits claimOk claimAt aClaim noClaim claimOf
+unfolding inRange be num glyph digit hexes lineOf frameOf pairsEnded isLine head front coordBytes coordsIn places scopeBytes scopeIn scopeOk item itemBytes
+    Fields.itemNumbers itemPlaces numbersOk referencesOk bareLine reading headOk behind queryAt queryFits isAsk askFrame askRanges askFits askOk askAt anAsk noAsk readAsAsk
+    answerFrame answerRanges answerFits countIn answerOk answerAt anAnswer noAnswer readAsAnswer claimFrame claimFits claimOk claimAt aClaim noClaim readAsClaim
 lines-marked =
     record {
       askWritten = refl;

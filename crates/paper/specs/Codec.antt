@@ -12,7 +12,7 @@ use Rattle.paper.specs.declared.orders.Place.{Place}
 use Rattle.paper.specs.declared.orders.Place.the-variants.{Start, After}
 use Rattle.paper.specs.Orders.{queryIn, snapshotOf, flat}
 use Rattle.paper.specs.Outcomes.{Outcome, gives, must}
-use Rattle.paper.specs.Frames.{lineOf, frameOf, sound}
+use Rattle.paper.specs.Frames.{lineOf, frameOf, isLine}
 use Rattle.paper.specs.Fields.{flagOf}
 use Rattle.paper.specs.Lines.{answerKind, spoken, askFrame, isAsk, askAt, answerFrame, answerOk, answerAt}
 use Rattle.paper.specs.Ends.{Ask, Answer, Codec}
@@ -27,11 +27,11 @@ unfoldable pub scopeOf : Place → ℕ → Scope
 scopeOf Start snapshot = record { from = 0; snapshot = snapshot; distance = 0; number = 0 }
 scopeOf (After n m) snapshot = record { from = 1; snapshot = snapshot; distance = m .distance; number = m .number }
 
-unfoldable pub asked : lines-Ask.Ask → Ask
-asked a = record { query = queryIn (a .query); place = placeIn (a .scope); size = a .size }
+unfoldable pub askMeant : lines-Ask.Ask → Ask
+askMeant a = record { query = queryIn (a .query); place = placeIn (a .scope); size = a .size }
 
-unfoldable pub answered : lines-Answer.Answer → Answer
-answered y =
+unfoldable pub answerMeant : lines-Answer.Answer → Answer
+answerMeant y =
     record {
       query = queryIn (y .query);
       place = placeIn (y .scope);
@@ -51,12 +51,12 @@ answerLine y =
 
 -- [8.9] [8.10] a line read as an ask
 unfoldable pub readAsk : List ℕ → Outcome Ask
-readAsk line = must (sound line) 9 (must (isAsk (frameOf line)) 10 (gives (asked (askAt (frameOf line)))))
+readAsk line = must (isLine line) 9 (must (isAsk (frameOf line)) 10 (gives (askMeant (askAt (frameOf line)))))
 
 -- [8.9] [8.10] a line read as an answer in an order
 unfoldable pub readAnswer : Order → List ℕ → Outcome Answer
 readAnswer o line =
-    must (sound line) 9 (must (answerOk (answerKind o) (frameOf line)) 10 (gives (answered (answerAt o (frameOf line)))))
+    must (isLine line) 9 (must (answerOk (answerKind o) (frameOf line)) 10 (gives (answerMeant (answerAt o (frameOf line)))))
 
 abbrev pub lines : Codec
 lines = record { speaks = spoken; askLine = askLine; answerLine = answerLine; readAsk = readAsk; readAnswer = readAnswer }

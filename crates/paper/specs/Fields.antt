@@ -78,9 +78,9 @@ itemBytes (n ∷ r ∷ []) = []
 itemBytes (n ∷ r ∷ x ∷ rest) = item n r x ++ itemBytes rest
 
 -- [5.6] the k items at the front of a frame
-unfoldable pub itemsIn : ℕ → List ℕ → List ℕ
-itemsIn zero f = []
-itemsIn (suc k) f = num 2 f ∷ num 4 (drop 2 f) ∷ num 8 (drop 6 f) ∷ itemsIn k (drop 14 f)
+unfoldable pub itemNumbers : ℕ → List ℕ → List ℕ
+itemNumbers zero f = []
+itemNumbers (suc k) f = num 2 f ∷ num 4 (drop 2 f) ∷ num 8 (drop 6 f) ∷ itemNumbers k (drop 14 f)
 
 -- [5.14] k items in room for sixteen, the unused ones 0
 unfoldable pub itemPlaces : ℕ → List ℕ → List ℕ

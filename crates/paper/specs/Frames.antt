@@ -40,14 +40,14 @@ frameOf (a ∷ []) = []
 frameOf (a ∷ b ∷ l) = (digit a % 16 * 16 + digit b % 16) ∷ frameOf l
 
 -- [8.9] pairs of digits with 0A behind them
-unfoldable pub ended : List ℕ → Bool
-ended [] = false
-ended (a ∷ []) = eqb a 10
-ended (a ∷ b ∷ l) = ltb (digit a) 16 && (ltb (digit b) 16 && ended l)
+unfoldable pub pairsEnded : List ℕ → Bool
+pairsEnded [] = false
+pairsEnded (a ∷ []) = eqb a 10
+pairsEnded (a ∷ b ∷ l) = ltb (digit a) 16 && (ltb (digit b) 16 && pairsEnded l)
 
 -- [8.9] 9 is given just where this is false: there is a pair at least, and the characters are not too many
-unfoldable pub sound : List ℕ → Bool
-sound l = ltb 1 (length l) && (leb (length l) longestAnswer && ended l)
+unfoldable pub isLine : List ℕ → Bool
+isLine l = ltb 1 (length l) && (leb (length l) longestAnswer && pairsEnded l)
 
 -- [5.12] the room o with the line of the frame f at its front, and the rest as it was
 unfoldable pub written : List ℕ → List ℕ → List ℕ

@@ -18,8 +18,8 @@ use Rattle.paper.specs.Orders.{Query}
 use Rattle.paper.specs.Outcomes.{Outcome, refused, gives, number}
 use Rattle.paper.specs.Frames.{lineOf}
 use Rattle.paper.specs.Ends.{Listing}
-use Rattle.paper.specs.Lists.{Held, held, openingHeld, askingHeld, takingHeld, put}
-use Rattle.paper.specs.Lines.{putLine, bareLine, askFits, askFrame, anAsk, noAsk, askOf, answerFits, answerFrame, anAnswer, noAnswer, answerOf, claimFits, claimFrame, aClaim, noClaim, claimOf}
+use Rattle.paper.specs.Lists.{Held, held, openingHeld, askingHeld, takingHeld, heldAfter}
+use Rattle.paper.specs.Lines.{putLine, bareLine, askFits, askFrame, anAsk, noAsk, readAsAsk, answerFits, answerFrame, anAnswer, noAnswer, readAsAnswer, claimFits, claimFrame, aClaim, noClaim, readAsClaim}
 use Rattle.paper.specs.Codec.{lines}
 use Rattle.paper.specs.Limits.{itemRoom, longestAsk, longestAnswer, longestClaim}
 use Rattle.paper.specs.EndExamples.{sampleAsk, sampleAnswer}
@@ -88,7 +88,7 @@ took s line = takingHeld lines s line
 
 -- the number that taking gives back, and what is held afterwards
 abbrev pub takes : Held → List ℕ → ℕ × Held
-takes s line = (number (took s line), put s (took s line))
+takes s line = (number (took s line), heldAfter s (took s line))
 
 -- ---- lines
 
@@ -219,18 +219,18 @@ pub record LinesMarked : Type 0 where
   pub claimWritten : writesClaim (negsuc 1 ∷ []) longestClaim ≡ gives (lineOf (claimBytes 3))
   pub claim12 : writesClaim (negsuc 1 ∷ []) (longestClaim - 1) ≡ refused 12
   pub claim10 : writesClaim wide (longestClaim - 1) ≡ refused 10
-  pub askRead : askOf sampleAsk ≡ anAsk askValue
-  pub askNot9 : askOf (askBytes 1 7 0 0 0 0 tooMany) ≡ noAsk 9
-  pub askNot10 : askOf (asks 1 7 0 0 0 0 tooMany) ≡ noAsk 10
-  pub askKind10 : askOf sampleAnswer ≡ noAsk 10
-  pub askKindNone10 : askOf (asks 0 7 0 0 0 0 2) ≡ noAsk 10
-  pub answerRead : answerOf Near sampleAnswer ≡ anAnswer answerValue
-  pub answerNot9 : answerOf Near noLine ≡ noAnswer 9
-  pub answerNot10 : answerOf Near (answers 7 0 5 0 0 0 tooMany overfull) ≡ noAnswer 10
-  pub answerKind10 : answerOf Near sampleAsk ≡ noAnswer 10
-  pub claimRead : claimOf (lineOf (claimBytes 3)) ≡ aClaim claimValue
-  pub claimNot9 : claimOf (claimBytes 1) ≡ noClaim 9
-  pub claimKind10 : claimOf (lineOf (claimBytes 1)) ≡ noClaim 10
+  pub askRead : readAsAsk sampleAsk ≡ anAsk askValue
+  pub askNot9 : readAsAsk (askBytes 1 7 0 0 0 0 tooMany) ≡ noAsk 9
+  pub askNot10 : readAsAsk (asks 1 7 0 0 0 0 tooMany) ≡ noAsk 10
+  pub askKind10 : readAsAsk sampleAnswer ≡ noAsk 10
+  pub askKindNone10 : readAsAsk (asks 0 7 0 0 0 0 2) ≡ noAsk 10
+  pub answerRead : readAsAnswer Near sampleAnswer ≡ anAnswer answerValue
+  pub answerNot9 : readAsAnswer Near noLine ≡ noAnswer 9
+  pub answerNot10 : readAsAnswer Near (answers 7 0 5 0 0 0 tooMany overfull) ≡ noAnswer 10
+  pub answerKind10 : readAsAnswer Near sampleAsk ≡ noAnswer 10
+  pub claimRead : readAsClaim (lineOf (claimBytes 3)) ≡ aClaim claimValue
+  pub claimNot9 : readAsClaim (claimBytes 1) ≡ noClaim 9
+  pub claimKind10 : readAsClaim (lineOf (claimBytes 1)) ≡ noClaim 10
 
 -- ---- the public calls together
 

@@ -1,5 +1,12 @@
 -- The three kinds of line. Each has its frame, the test that a writer puts to its fields, the test that a reader puts to a frame, and the
 -- value that a frame holds. The kinds of asks and answers are said once, by their order. Assumes nothing.
+--
+-- | kind   | fields in order, with their bytes                                                          | bytes         |
+-- |--------|--------------------------------------------------------------------------------------------|---------------|
+-- | ask    | kind 1, table 4, measure 1, d 1, probe 4d, reach 8, from 1, snapshot 2, mark 8 + 2, size 1  | 29 + 4d       |
+-- | answer | kind 1, table 4, measure 1, d 1, probe 4d, reach 8, from 1, snapshot 2, mark 8 + 2, last 1, | 30 + 4d + 14k |
+-- |        | item count 1, and for each of k items: number 2, reference 4, distance 8                   |               |
+-- | claim  | kind 1, table 4, measure 1, d 1, reference 4, point 4d                                     | 11 + 4d       |
 use Prim.Native.Nat.{ℕ, _+_, _*_}
 use mathlib.Core.Bool.{Bool, cond, _&&_, _||_}
 use mathlib.Core.List.{List, _++_}
@@ -9,8 +16,8 @@ use lib.IntN.{ℤ, pos}
 use Rattle.paper.specs.Points.{inRange}
 use Rattle.paper.specs.Orders.{Query}
 use Rattle.paper.specs.Outcomes.{Outcome, refused, gives, must, Promise}
-use Rattle.paper.specs.Frames.{be, num, lineOf, frameOf, sound}
-use Rattle.paper.specs.Fields.{head, coordBytes, coordsIn, places, front, scopeIn, scopeOk, itemBytes, itemsIn, itemPlaces, numbersOk, referencesOk}
+use Rattle.paper.specs.Frames.{be, num, lineOf, frameOf, isLine}
+use Rattle.paper.specs.Fields.{head, coordBytes, coordsIn, places, front, scopeIn, scopeOk, itemBytes, itemNumbers, itemPlaces, numbersOk, referencesOk}
 use Rattle.paper.specs.declared.orders.Order.{Order}
 use Rattle.paper.specs.declared.orders.Order.the-variants.{Near, Far}
 use Rattle.paper.specs.declared.queries.Query as queries
@@ -67,7 +74,7 @@ bareLine fits need f out = must fits 10 (must (leb need out) 12 (gives (lineOf f
 
 -- [9.15] a bare reader refuses by 9 and 10: by a kind's test, the value of its frame, and what stands beside a refusal
 unfoldable pub reading : {A : Type 0} → (List ℕ → Bool) → (List ℕ → A) → (ℕ → A) → List ℕ → A
-reading ok value none l = cond (sound l) (cond (ok (frameOf l)) (value (frameOf l)) (none 10)) (none 9)
+reading ok value none l = cond (isLine l) (cond (ok (frameOf l)) (value (frameOf l)) (none 10)) (none 9)
 
 -- [5.4] [8.10] a frame that begins with a head of kind k, in range; none is of kind 0
 unfoldable pub headOk : ℕ → List ℕ → Bool
@@ -135,8 +142,8 @@ unfoldable pub noAsk : ℕ → AskRead
 noAsk n = record { refusal = n; ask = record { query = noQuery; scope = noScope; size = 0 } }
 
 -- [9.15] what reading a line as an ask gives
-unfoldable pub askOf : List ℕ → AskRead
-askOf l = reading isAsk (λ f. anAsk (askAt f)) noAsk l
+unfoldable pub readAsAsk : List ℕ → AskRead
+readAsAsk l = reading isAsk (λ f. anAsk (askAt f)) noAsk l
 
 -- ---- answer
 
@@ -162,7 +169,7 @@ unfoldable pub answerOk : ℕ → List ℕ → Bool
 answerOk k f =
     headOk k f
     && (eqb (length f) (30 + 4 * num 1 (drop 6 f) + 14 * countIn f)
-    && (answerRanges (scopeIn (behind f)) (num 1 (drop 21 (behind f))) (countIn f) && numbersOk (itemsIn (countIn f) (drop 23 (behind f)))))
+    && (answerRanges (scopeIn (behind f)) (num 1 (drop 21 (behind f))) (countIn f) && numbersOk (itemNumbers (countIn f) (drop 23 (behind f)))))
 
 -- [5.6] the fields of an answer's frame
 unfoldable pub answerAt : Order → List ℕ → Answer
@@ -172,7 +179,7 @@ answerAt o f =
       scope = scopeIn (behind f);
       last = num 1 (drop 21 (behind f));
       count = countIn f;
-      items = itemPlaces (countIn f) (itemsIn (countIn f) (drop 23 (behind f)));
+      items = itemPlaces (countIn f) (itemNumbers (countIn f) (drop 23 (behind f)));
     }
 
 unfoldable pub anAnswer : Answer → AnswerRead
@@ -184,8 +191,8 @@ noAnswer n =
     record { refusal = n; answer = record { query = noQuery; scope = noScope; last = 0; count = 0; items = replicate itemRoom 0 } }
 
 -- [9.15] what reading a line as an answer in an order gives
-unfoldable pub answerOf : Order → List ℕ → AnswerRead
-answerOf o l = reading (answerOk (answerKind o)) (λ f. anAnswer (answerAt o f)) noAnswer l
+unfoldable pub readAsAnswer : Order → List ℕ → AnswerRead
+readAsAnswer o l = reading (answerOk (answerKind o)) (λ f. anAnswer (answerAt o f)) noAnswer l
 
 -- ---- claim
 
@@ -221,5 +228,5 @@ noClaim n =
     record { refusal = n; claim = record { table = 0; measure = 0; d = 0; reference = 0; coordinates = replicate mostPlaces (pos 0) } }
 
 -- [9.15] what reading a line as a claim gives
-unfoldable pub claimOf : List ℕ → ClaimRead
-claimOf l = reading claimOk (λ f. aClaim (claimAt f)) noClaim l
+unfoldable pub readAsClaim : List ℕ → ClaimRead
+readAsClaim l = reading claimOk (λ f. aClaim (claimAt f)) noClaim l

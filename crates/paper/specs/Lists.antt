@@ -104,5 +104,5 @@ abbrev pub Takes : lists.List → Outcome Listing → List ℕ → Taken → Lis
 Takes l o before r after = Promise (takenAs l) putItems o before r after
 
 -- what is held after a call
-unfoldable pub put : Held → Outcome Listing → Held
-put s o = held (takenAs (s .list) o .list) (leaves putItems o (s .room))
+unfoldable pub heldAfter : Held → Outcome Listing → Held
+heldAfter s o = held (takenAs (s .list) o .list) (leaves putItems o (s .room))

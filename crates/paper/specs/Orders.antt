@@ -13,7 +13,7 @@ use Rattle.paper.specs.declared.orders.Order.the-variants.{Near, Far}
 use Rattle.paper.specs.declared.orders.Place.{Place}
 use Rattle.paper.specs.declared.orders.Place.the-variants.{Start, After}
 use Rattle.paper.specs.declared.queries.Query as queries
-use Rattle.paper.specs.Points.{measureOf, distance, greatestOf, Claim, noClaim}
+use Rattle.paper.specs.Points.{measureOf, distance, greatestOf, Claim, zeroClaim}
 
 -- [2.6] what an item shows of a claim
 pub record Item : Type 0 where
@@ -67,8 +67,8 @@ unfoldable pub itemOf : Query → List Claim → ℕ → Item
 itemOf q cs k =
     record {
       number = k;
-      reference = getD cs k noClaim .reference;
-      distance = distance (measureOf (q .measure)) (q .d) (getD cs k noClaim .place) (q .probe);
+      reference = getD cs k zeroClaim .reference;
+      distance = distance (measureOf (q .measure)) (q .d) (getD cs k zeroClaim .place) (q .probe);
     }
 
 -- [2.4] [2.5] each claim within reach whose number is below the snapshot, once, in order

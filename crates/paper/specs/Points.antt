@@ -52,8 +52,8 @@ pub record Claim : Type 0 where
   pub reference : ℕ
   pub place : List ℤ
 
-abbrev pub noClaim : Claim
-noClaim = record { reference = 0; place = List.[] }
+abbrev pub zeroClaim : Claim
+zeroClaim = record { reference = 0; place = List.[] }
 
 -- [1.4] the point of claim k, where the claims' coordinates stand one after another
 unfoldable pub point : ℕ → List ℤ → ℕ → List ℤ

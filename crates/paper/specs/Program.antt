@@ -7,10 +7,10 @@ use lib.ListN.{take}
 use Rattle.paper.specs.declared.lines.ClaimLine.{ClaimLine}
 use Rattle.paper.specs.Points.{Claim}
 use Rattle.paper.specs.Outcomes.{Outcome, refused, gives, must, onto}
-use Rattle.paper.specs.Frames.{frameOf, sound}
+use Rattle.paper.specs.Frames.{frameOf, isLine}
 use Rattle.paper.specs.Lines.{isAsk, askAt, claimOk, claimAt}
 use Rattle.paper.specs.Ends.{Table, count, Ask, answerTo}
-use Rattle.paper.specs.Codec.{asked, answerLine}
+use Rattle.paper.specs.Codec.{askMeant, answerLine}
 use Rattle.paper.specs.Limits.{officeClaims}
 
 -- ---- one line
@@ -39,8 +39,8 @@ withClaim t c =
     record { number = t .number; measure = t .measure; d = t .d; capacity = t .capacity; claims = t .claims ++ (c ∷ []) }
 
 -- [10.6] [8.11] [8.3] a claim is tested for 11 and 3, and entered
-unfoldable pub entering : Table → ClaimLine → Outcome Table
-entering t c = must (ours t c) 11 (must (leb (count t + 1) (t .capacity)) 3 (gives (withClaim t (claimIn c))))
+unfoldable pub claimEntering : Table → ClaimLine → Outcome Table
+claimEntering t c = must (ours t c) 11 (must (leb (count t + 1) (t .capacity)) 3 (gives (withClaim t (claimIn c))))
 
 -- [10.6] [6.1] an ask is tested for 11, 7 and 8, and answered
 unfoldable pub replyTo : Table → Ask → Outcome (List ℕ)
@@ -81,12 +81,12 @@ askTurn b (gives line) = turn b line
 unfoldable pub frameTurn : Books → List ℕ → Turn
 frameTurn b f =
     cond (claimOk f)
-    (claimTurn b (entering (tableFor b (claimAt f)) (claimAt f)))
-    (cond (isAsk f) (askTurn b (reply b (asked (askAt f)))) (turn b (refusal 10)))
+    (claimTurn b (claimEntering (tableFor b (claimAt f)) (claimAt f)))
+    (cond (isAsk f) (askTurn b (reply b (askMeant (askAt f)))) (turn b (refusal 10)))
 
 -- [10.6] [10.8] what is no line is refused with 9, and so is one that is too long
 unfoldable pub lineTurn : Books → List ℕ → Turn
-lineTurn b line = cond (sound line) (frameTurn b (frameOf line)) (turn b (refusal 9))
+lineTurn b line = cond (isLine line) (frameTurn b (frameOf line)) (turn b (refusal 9))
 
 -- ---- the whole input
 
@@ -98,8 +98,8 @@ pub record Office : Type 0 where
   pub said : List ℕ
 
 -- a line is over
-unfoldable pub ended : Office → List ℕ → Office
-ended o l =
+unfoldable pub lineDone : Office → List ℕ → Office
+lineDone o l =
     record {
       books = lineTurn (o .books) l .books;
       held = [];
@@ -112,7 +112,7 @@ holding o h = record { books = o .books; held = h; left = o .left; said = o .sai
 
 -- [10.8] [10.10] a byte is read, where a line is left to read; a line reaches to its 0A
 unfoldable pub byte : Office → ℕ → Office
-byte o x = cond (eqb (o .left) 0) o (cond (eqb x 10) (ended o (o .held ++ (x ∷ []))) (holding o (o .held ++ (x ∷ []))))
+byte o x = cond (eqb (o .left) 0) o (cond (eqb x 10) (lineDone o (o .held ++ (x ∷ []))) (holding o (o .held ++ (x ∷ []))))
 
 -- [10.11] bytes are read, however they come
 unfoldable pub fed : Office → List ℕ → Office
@@ -122,16 +122,16 @@ fed o (x ∷ xs) = fed (byte o x) xs
 abbrev pub atEnd : ℕ → Office → List ℕ → Office
 atEnd zero o h = o
 atEnd (suc n) o [] = o
-atEnd (suc n) o (x ∷ h) = ended o (x ∷ h)
+atEnd (suc n) o (x ∷ h) = lineDone o (x ∷ h)
 
 -- [10.9] the input is over: bytes behind the last 0A are a line too
-unfoldable pub over : Office → Office
-over o = atEnd (o .left) o (o .held)
+unfoldable pub inputDone : Office → Office
+inputDone o = atEnd (o .left) o (o .held)
 
 -- [10.10] the office before its first byte, with all the lines that it may read
-unfoldable pub start : Office
-start = record { books = closed; held = []; left = 4294967295; said = [] }
+unfoldable pub officeStart : Office
+officeStart = record { books = closed; held = []; left = 4294967295; said = [] }
 
 -- what `office` writes, by what it reads
 unfoldable pub program : List ℕ → List ℕ
-program input = over (fed start input) .said
+program input = inputDone (fed officeStart input) .said

@@ -15,28 +15,28 @@ use Rattle.paper.specs.Limits.{mostClaims}
 abbrev pub fieldAt : List ℕ → ℕ → ℕ → ℕ
 fieldAt rooms m f = getD rooms (m * 6 + f) 0
 
-abbrev pub put : List ℕ → ℕ → ℕ → ℕ → List ℕ
-put rooms m f v = set rooms (m * 6 + f) v
+abbrev pub putField : List ℕ → ℕ → ℕ → ℕ → List ℕ
+putField rooms m f v = set rooms (m * 6 + f) v
 
-abbrev pub claimAt : List ℕ → ℕ → ℕ → ℕ
-claimAt rooms m s = fieldAt rooms m s - 1
+abbrev pub sideClaim : List ℕ → ℕ → ℕ → ℕ
+sideClaim rooms m s = fieldAt rooms m s - 1
 
 -- fields 1 to f of room w made 0
 unfoldable pub cleared : List ℕ → ℕ → ℕ → List ℕ
 cleared rooms w zero = rooms
-cleared rooms w (suc f) = put (cleared rooms w f) w (suc f) 0
+cleared rooms w (suc f) = putField (cleared rooms w f) w (suc f) 0
 
 -- [3.6] a new node in room w: claim k on its left, and 0 in all other fields
-unfoldable pub fresh : List ℕ → ℕ → ℕ → List ℕ
-fresh rooms w k = cleared (put rooms w 0 (k + 1)) w 5
+unfoldable pub newNode : List ℕ → ℕ → ℕ → List ℕ
+newNode rooms w k = cleared (putField rooms w 0 (k + 1)) w 5
 
 -- [3.8] the side that claim k goes below at a node with two claims: the nearer one, the left of two as near
 unfoldable pub nearSide : (ℕ → ℕ → ℕ) → List ℕ → ℕ → ℕ → ℕ
-nearSide e rooms m k = cond (leb (e (claimAt rooms m 0) k) (e (claimAt rooms m 1) k)) 0 1
+nearSide e rooms m k = cond (leb (e (sideClaim rooms m 0) k) (e (sideClaim rooms m 1) k)) 0 1
 
 -- [3.9] the far distance of side s raised, where it is smaller, to how far claim k is from the side's claim
 unfoldable pub raise : (ℕ → ℕ → ℕ) → List ℕ → ℕ → ℕ → ℕ → List ℕ
-raise e rooms m s k = put rooms m (2 + s) (max (fieldAt rooms m (2 + s)) (e (claimAt rooms m s) k))
+raise e rooms m s k = putField rooms m (2 + s) (max (fieldAt rooms m (2 + s)) (e (sideClaim rooms m s) k))
 
 -- rooms, with how many are in use
 pub record Grown : Type 0 where
@@ -52,14 +52,14 @@ unfoldable pub placed : ℕ → (ℕ → ℕ → ℕ) → ℕ → ℕ → ℕ �
 placed zero e used k m rooms = grown rooms used
 placed (suc times) e used k m rooms =
     cond (eqb (fieldAt rooms m 1) 0)
-    (grown (put rooms m 1 (k + 1)) used)
+    (grown (putField rooms m 1 (k + 1)) used)
     (cond (eqb (fieldAt rooms m (4 + nearSide e rooms m k)) 0)
-    (grown (fresh (put (raise e rooms m (nearSide e rooms m k) k) m (4 + nearSide e rooms m k) (used + 1)) used k) (used + 1))
+    (grown (newNode (putField (raise e rooms m (nearSide e rooms m k) k) m (4 + nearSide e rooms m k) (used + 1)) used k) (used + 1))
     (placed times e used k (fieldAt rooms m (4 + nearSide e rooms m k) - 1) (raise e rooms m (nearSide e rooms m k) k)))
 
 -- [3.5] claim k entered from the root, which the first claim makes
 unfoldable pub entered : (ℕ → ℕ → ℕ) → ℕ → ℕ → List ℕ → Grown
-entered e zero k rooms = grown (fresh rooms 0 k) 1
+entered e zero k rooms = grown (newNode rooms 0 k) 1
 entered e (suc u) k rooms = placed (suc u) e (suc u) k 0 rooms
 
 -- [3.12] claims 0 to n - 1 entered by rising number

@@ -1,4 +1,4 @@
 pub mod Written
-pub mod Turns
+pub mod OneLineServed
 pub mod Moves
 pub mod Session

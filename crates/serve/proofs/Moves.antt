@@ -11,8 +11,8 @@ use lib.ListN.{length, drop, length-append}
 use borrow.Author.Tests.{eq-eqb, ne-eqb}
 use lib.IntN.{ℤ}
 use Rattle.paper.specs.Tree.{Store, store}
-use Rattle.paper.specs.Program.{lineTurn, Office, ended, holding, byte, fed, atEnd, over}
-use Rattle.cut.specs.Cut.{Taken, taken, cutOf, lineIn, restIn, hasEnd, Kept}
+use Rattle.paper.specs.Program.{lineTurn, Office, lineDone, holding, byte, fed, atEnd, inputDone}
+use Rattle.cut.specs.Cut.{Taken, takenWith, cutOf, lineIn, restIn, hasEnd, Kept}
 use Rattle.cut.specs.declared.Piece.{Piece}
 use Rattle.cut.proofs.Laws.{Meant, cut-means, kept-none, cut-on}
 use Rattle.serve.specs.declared.feeding.Sitting.{Sitting}
@@ -24,8 +24,8 @@ use Rattle.paper.specs.Limits.{longestAnswer}
 -- ---- reading on
 
 fed-line : (xs : List ℕ) (o : Office) → 0 < o .left
-    → fed o xs ≡ cond (hasEnd xs) (fed (ended o (o .held ++ lineIn xs)) (restIn xs)) (holding o (o .held ++ lineIn xs))
-unfolding fed byte hasEnd lineIn restIn ended
+    → fed o xs ≡ cond (hasEnd xs) (fed (lineDone o (o .held ++ lineIn xs)) (restIn xs)) (holding o (o .held ++ lineIn xs))
+unfolding fed byte hasEnd lineIn restIn lineDone
 fed-line [] o h = rw append-nil
 fed-line (x ∷ xs) o h = go (ℕ-discrete x 10) (fed-line xs (holding o (o .held ++ (x ∷ []))) h)
   where
@@ -33,8 +33,8 @@ fed-line (x ∷ xs) o h = go (ℕ-discrete x 10) (fed-line xs (holding o (o .hel
     no0 = ne-eqb (o .left) 0 (λ q. omega arith)
 
     go : Dec (x ≡ 10)
-        → fed (holding o (o .held ++ (x ∷ []))) xs ≡ cond (hasEnd xs) (fed (ended o ((o .held ++ (x ∷ [])) ++ lineIn xs)) (restIn xs)) (holding o ((o .held ++ (x ∷ [])) ++ lineIn xs))
-        → fed o (x ∷ xs) ≡ cond (hasEnd (x ∷ xs)) (fed (ended o (o .held ++ lineIn (x ∷ xs))) (restIn (x ∷ xs))) (holding o (o .held ++ lineIn (x ∷ xs)))
+        → fed (holding o (o .held ++ (x ∷ []))) xs ≡ cond (hasEnd xs) (fed (lineDone o ((o .held ++ (x ∷ [])) ++ lineIn xs)) (restIn xs)) (holding o ((o .held ++ (x ∷ [])) ++ lineIn xs))
+        → fed o (x ∷ xs) ≡ cond (hasEnd (x ∷ xs)) (fed (lineDone o (o .held ++ lineIn (x ∷ xs))) (restIn (x ∷ xs))) (holding o (o .held ++ lineIn (x ∷ xs)))
     go (yes e) deep = rw (no0, eq-eqb x 10 e)
     go (no ne) deep = rw (no0, ne-eqb x 10 ne) (rw append-assoc at deep)
 
@@ -49,8 +49,8 @@ rest-none (x ∷ xs) h = go (eqb x 10) (rest-none xs) h
 
 -- what the cut left, where it was asked at the sitting d
 module _ (d : Sitting) (s : Store) (l l' chunk : List ℕ) (p : Piece) (len : length l ≡ longestAnswer)
-    (ens : taken l' p ≡ cutOf (length l) l (d .size) (d .at) (drop (d .at) chunk)) where
-  meant : (h : List ℕ) → Kept longestAnswer l (d .size) h → Meant longestAnswer chunk h (d .at) (drop (d .at) chunk) (taken l' p)
+    (ens : takenWith l' p ≡ cutOf (length l) l (d .size) (d .at) (drop (d .at) chunk)) where
+  meant : (h : List ℕ) → Kept longestAnswer l (d .size) h → Meant longestAnswer chunk h (d .at) (drop (d .at) chunk) (takenWith l' p)
   meant h k = rw (ens, len) (cut-means longestAnswer chunk (drop (d .at) chunk) l (d .size) (d .at) h refl k)
 
   pub turn-on : d .at < length chunk → d .at < p .at
@@ -79,7 +79,7 @@ module _ (d : Sitting) (s : Store) (l l' chunk : List ℕ) (p : Piece) (len : le
   pub moved-line : (o : Office) → 0 < d .left → p .whole ≡ true → (out out' : List ℕ) (s' : Store) (e : ℕ)
       → ((h : List ℕ) → Kept longestAnswer l' (p .size) h → Served (lineTurn (booksOf s) h) s' out (d .written) out' e) → length l' ≡ longestAnswer → Stands s l d o
       → Moved o chunk d out s' l' (record { table = s' .table; size = 0; left = d .left - 1; at = p .at; written = e }) out'
-  unfolding ended
+  unfolding lineDone
   moved-line o h w out out' s' e serves len' st =
       let xs : List ℕ = drop (d .at) chunk in
       let m = meant (o .held) (st .line) in
@@ -87,7 +87,7 @@ module _ (d : Sitting) (s : Store) (l l' chunk : List ℕ) (p : Piece) (len : le
       let f = fed-line xs o (omega (arith, st .left)) in
       let v : Served (lineTurn (o .books) (o .held ++ lineIn xs)) s' out (d .written) out' e = rw (st .books) at (serves (o .held ++ lineIn xs) (m .kept)) in
       record {
-        after = ended o (o .held ++ lineIn xs);
+        after = lineDone o (o .held ++ lineIn xs);
         stands = record { books = v .books; line = rw len' at (kept-none l'); left = omega (arith, st .left) };
         same = rw (m .rest) (sym (rw whole at f));
         more = lineTurn (o .books) (o .held ++ lineIn xs) .said;
@@ -156,23 +156,23 @@ later d₀ d at w h = ⊎-elim (λ e. rw (← e) h) (λ g. omega arith) w
 
 -- ---- the end of the input
 
-over-stop : (o : Office) → o .left ≡ 0 → over o ≡ o
-unfolding over
+over-stop : (o : Office) → o .left ≡ 0 → inputDone o ≡ o
+unfolding inputDone
 over-stop o h = rw h
 
-over-none : (o : Office) → o .held ≡ [] → over o ≡ o
-unfolding over
+over-none : (o : Office) → o .held ≡ [] → inputDone o ≡ o
+unfolding inputDone
 over-none o h = ap (λ (l : List ℕ). atEnd (o .left) o l) h ∙ go (o .left)
   where
     go : (n : ℕ) → atEnd n o [] ≡ o
     go zero = refl
     go (suc n) = refl
 
-over-some : (o : Office) → 0 < o .left → 0 < length (o .held) → over o ≡ ended o (o .held)
-unfolding over
+over-some : (o : Office) → 0 < o .left → 0 < length (o .held) → inputDone o ≡ lineDone o (o .held)
+unfolding inputDone
 over-some o h k = go (o .left) (o .held) h k
   where
-    go : (n : ℕ) (l : List ℕ) → 0 < n → 0 < length l → atEnd n o l ≡ ended o l
+    go : (n : ℕ) (l : List ℕ) → 0 < n → 0 < length l → atEnd n o l ≡ lineDone o l
     go zero l a b = absurd (omega arith)
     go (suc n) [] a b = absurd (omega arith)
     go (suc n) (x ∷ l) a b = refl
@@ -181,7 +181,7 @@ no-bytes : (l : List ℕ) → length l ≡ 0 → l ≡ []
 no-bytes [] h = refl
 no-bytes (x ∷ l) h = absurd (omega arith)
 
-ended-none : (o : Office) (out : List ℕ) (w : ℕ) → over o ≡ o → Ended o out w out w
+ended-none : (o : Office) (out : List ℕ) (w : ℕ) → inputDone o ≡ o → Ended o out w out w
 ended-none o out w e =
     record { more = []; said = rw e (sym (append-nil (o .said))); out = sym (wrote-none out w); written = omega arith }
 
@@ -194,7 +194,7 @@ module _ (s : Store) (l : List ℕ) (d : Sitting) (o : Office) (st : Stands s l 
 
   pub ended-line : 1 ≤ d .left → 1 ≤ d .size → (s' : Store) (out' : List ℕ) (e : ℕ)
       → ((h : List ℕ) → Kept longestAnswer l (d .size) h → Served (lineTurn (booksOf s) h) s' out (d .written) out' e) → Ended o out (d .written) out' e
-  unfolding ended
+  unfolding lineDone
   ended-line hl hs s' out' e serves =
       let v : Served (lineTurn (o .books) (o .held)) s' out (d .written) out' e = rw (st .books) at (serves (o .held) (st .line)) in
       let ov = over-some o (omega (arith, st .left)) (omega (arith, st .line .size)) in

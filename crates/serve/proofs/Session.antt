@@ -2,7 +2,7 @@
 use Prim.Native.Nat.{ℕ}
 use mathlib.Core.Path.{_≡_, refl, sym, ap, _∙_}
 use mathlib.Core.List.{List, [], _++_, append-nil, append-assoc}
-use Rattle.paper.specs.Program.{Office, fed, over, start, program}
+use Rattle.paper.specs.Program.{Office, fed, inputDone, officeStart, program}
 use Rattle.serve.proofs.Moves.{fed-more}
 
 -- from the office o the chunks of xs were read, and ys was written: as `feed` says of a chunk, by its `Moved`
@@ -21,7 +21,7 @@ session-said o none = sym (append-nil (o .said))
 session-said o (chunk {xs} {ys} c more after s e q) = q ∙ ap (λ (x : List ℕ). x ++ more) (session-said o s) ∙ append-assoc (o .said) ys more
 
 -- with what is written at the end of the input, as `finish` says by its `Ended`
-pub whole : {xs ys : List ℕ} {after : Office} (last : List ℕ) → Session start xs ys after → over after .said ≡ after .said ++ last → ys ++ last ≡ program xs
-unfolding program start
+pub whole : {xs ys : List ℕ} {after : Office} (last : List ℕ) → Session officeStart xs ys after → inputDone after .said ≡ after .said ++ last → ys ++ last ≡ program xs
+unfolding program officeStart
 whole {xs} {ys} {after} last se e =
-    sym (ap (λ (x : List ℕ). x ++ last) (session-said start se)) ∙ sym e ∙ ap (λ (x : Office). over x .said) (session-at start se)
+    sym (ap (λ (x : List ℕ). x ++ last) (session-said officeStart se)) ∙ sym e ∙ ap (λ (x : Office). inputDone x .said) (session-at officeStart se)

@@ -4,7 +4,7 @@ use mathlib.Core.Path.{_≡_}
 use mathlib.Core.List.{List, _++_}
 use lib.ListN.{length, drop}
 use Rattle.paper.specs.Tree.{Store}
-use Rattle.paper.specs.Program.{Office, fed, over}
+use Rattle.paper.specs.Program.{Office, fed, inputDone}
 use Rattle.cut.specs.Cut.{Kept}
 use Rattle.serve.specs.declared.feeding.Sitting.{Sitting}
 use Rattle.serve.specs.Serving.{wrote, booksOf, Ready}
@@ -40,6 +40,6 @@ pub record Moved (o : Office) (chunk : List ℕ) (d₀ : Sitting) (out₀ : List
 -- [10.9] the input is over for the office o, and what it then said is written
 pub record Ended (o : Office) (out₀ : List ℕ) (w : ℕ) (b : List ℕ) (v : ℕ) : Type 0 where
   pub more : List ℕ
-  pub said : over o .said ≡ o .said ++ more
+  pub said : inputDone o .said ≡ o .said ++ more
   pub out : b ≡ wrote out₀ w more
   pub written : v ≡ w + length more

@@ -1,10 +1,10 @@
 // [10.4] [10.7] An ask line: its answer line, or a refusal.
 ghost use lib.ListN.{length};
 ghost use Rattle.paper.specs.Tree.{lent};
-ghost use Rattle.paper.specs.Codec.{asked};
+ghost use Rattle.paper.specs.Codec.{askMeant};
 ghost use Rattle.paper.specs.Program.{reply, askTurn};
 ghost use Rattle.serve.specs.Serving.{Put, booksOf, Asking};
-use super::saying::refuse;
+use super::refusing::refuse;
 use paper::lines::Ask;
 use paper::lines::Wrote;
 use paper::tables::Table;
@@ -19,7 +19,7 @@ pub fn take_ask(
     at: usize,
 ) -> usize
     requires { ⌜ Asking (lent t references coordinates rooms) ask (length (now out)) at ⌝ }
-    ensures { λ r. ⌜ Put (askTurn (booksOf (lent t (references .entry) (coordinates .entry) (rooms .entry))) (reply (booksOf (lent t (references .entry) (coordinates .entry) (rooms .entry))) (asked ask)) .said) (now (out .entry)) at (now (out .exit)) r ⌝ }
+    ensures { λ r. ⌜ Put (askTurn (booksOf (lent t (references .entry) (coordinates .entry) (rooms .entry))) (reply (booksOf (lent t (references .entry) (coordinates .entry) (rooms .entry))) (askMeant ask)) .said) (now (out .entry)) at (now (out .exit)) r ⌝ }
 {
     if t.count == 0 {
         return refuse(out, at, 11);

@@ -2,9 +2,9 @@
 ghost use mathlib.Core.Path.{_≡_};
 ghost use lib.ListN.{length};
 ghost use Rattle.paper.specs.Tree.{lent};
-ghost use Rattle.paper.specs.Program.{tableFor, entering, claimTurn};
+ghost use Rattle.paper.specs.Program.{tableFor, claimEntering, claimTurn};
 ghost use Rattle.serve.specs.Serving.{booksOf, headerFor, Claiming, Served};
-use super::saying::refuse;
+use super::refusing::refuse;
 use checks::is_ours;
 use paper::lines::ClaimLine;
 use paper::tables::Table;
@@ -42,7 +42,7 @@ pub fn take_claim(
     at: usize,
 ) -> Step
     requires { ⌜ Claiming (lent t references coordinates rooms) c (length (now out)) at ⌝ }
-    ensures { λ r. ⌜ Served (claimTurn (booksOf (lent t (references .entry) (coordinates .entry) (rooms .entry))) (entering (tableFor (booksOf (lent t (references .entry) (coordinates .entry) (rooms .entry))) c) c)) (lent (r .table) (references .exit) (coordinates .exit) (rooms .exit)) (now (out .entry)) at (now (out .exit)) (r .at) ⌝ }
+    ensures { λ r. ⌜ Served (claimTurn (booksOf (lent t (references .entry) (coordinates .entry) (rooms .entry))) (claimEntering (tableFor (booksOf (lent t (references .entry) (coordinates .entry) (rooms .entry))) c) c)) (lent (r .table) (references .exit) (coordinates .exit) (rooms .exit)) (now (out .entry)) at (now (out .exit)) (r .at) ⌝ }
 {
     let header = header_for(t, c);
     if !is_ours(header, c.table, c.measure, c.d as usize) {

@@ -7,7 +7,7 @@ ghost use Rattle.paper.specs.Tree.{lent};
 ghost use Rattle.paper.specs.Program.{Office};
 ghost use Rattle.serve.specs.Feeding.{Stands, Set, Turning, Moved, Ended};
 ghost use Rattle.paper.specs.Limits.{longestAnswer};
-use super::heard::serve_cut;
+use super::one_line::serve_cut;
 use paper::limits::LONGEST_ANSWER;
 use paper::tables::Table;
 

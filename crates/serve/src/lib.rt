@@ -2,5 +2,5 @@
 mod asks;
 mod claims;
 pub mod feeding;
-mod heard;
-mod saying;
+mod one_line;
+mod refusing;

@@ -15,8 +15,8 @@ abbrev pub emptiedOf : Sitting → Sitting
 emptiedOf d = record { table = d .table; size = d .size; left = d .left; at = d .at; written = 0 }
 
 -- [10.1] [10.10] before the first byte
-abbrev pub opening : Sitting
-opening =
+abbrev pub sittingStart : Sitting
+sittingStart =
     record {
       table = record { number = 0; measure = 1; d = 1; capacity = officeClaims; count = 0; used = 0 };
       size = 0;

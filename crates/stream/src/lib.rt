@@ -18,7 +18,7 @@ ghost use lib.ListN.{length};
 ghost use Rattle.paper.specs.Tree.{lent};
 ghost use Rattle.paper.specs.Program.{Office, fed};
 ghost use Rattle.serve.specs.Feeding.{Set, Stands};
-ghost use Rattle.stream.specs.Stream.{anewOf, emptiedOf, opening, Reached, Roomy};
+ghost use Rattle.stream.specs.Stream.{anewOf, emptiedOf, sittingStart, Reached, Roomy};
 ghost use Rattle.paper.specs.Limits.{longestAnswer};
 
 // How a sitting stands at the start of a chunk.
@@ -122,7 +122,7 @@ fn once(
 
 // [10.1] [10.10] The sitting of an empty table. Its number, measure and d are those of the first claim, once there is one.
 fn open_sitting() -> Sitting
-    ensures { λ r. ⌜ r ≡ opening ⌝ }
+    ensures { λ r. ⌜ r ≡ sittingStart ⌝ }
 {
     Sitting {
         table: Table {

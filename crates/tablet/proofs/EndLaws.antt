@@ -23,11 +23,11 @@ use Rattle.paper.specs.Points.{inRange}
 use Rattle.paper.specs.Frames.{lineOf, frameOf}
 use Rattle.paper.specs.Frames as frames
 use Rattle.paper.specs.Fields.{inPlaces, scopeOk}
-use Rattle.paper.specs.Lines.{answerKind, spoken, queryFits, Writes, bareLine, reading, askFrame, askRanges, askFits, answerOk, answerAt, anAnswer, noAnswer, answerOf}
+use Rattle.paper.specs.Lines.{answerKind, spoken, queryFits, Writes, bareLine, reading, askFrame, askRanges, askFits, answerOk, answerAt, anAnswer, noAnswer, readAsAnswer}
 use Rattle.paper.specs.Ends.{Listing, sizeHolds, opening, presentPlace, presentAsk, soundIn, asking, taken, taking}
 use Rattle.paper.specs.Lists.{Takes, Held, held, listing, roomFor, heldWell, soundHeld, noList, openedAs, openingHeld, openedTold, askingHeld, takingHeld}
-use Rattle.lines.proofs.Ways.{writes-refused, bare-fits}
-use Rattle.paper.specs.Codec.{scopeOf, askLine, answered, lines}
+use Rattle.lines.proofs.WritersReaders.{writes-refused, bare-fits}
+use Rattle.paper.specs.Codec.{scopeOf, askLine, answerMeant, lines}
 use Rattle.paper.proofs.Tests.{and-first, and-second, and-both}
 use Rattle.paper.proofs.Reading.{answer-by-refusal}
 use Rattle.lines.proofs.Tests.{is-answer}
@@ -51,26 +51,26 @@ module _ (s : Held) (sound : soundHeld s ≡ true) where
   abbrev order : Order
   order = s .list .query .order
 
-  module _ (line : List ℕ) (x : AnswerRead) (xe : x ≡ answerOf order line) where
-    reads : takingHeld lines s line ≡ onto (must (eqb (x .refusal) 0) (x .refusal) (gives (answered (x .answer)))) (λ y. taken (roomFor s) (listing s) y)
+  module _ (line : List ℕ) (x : AnswerRead) (xe : x ≡ readAsAnswer order line) where
+    reads : takingHeld lines s line ≡ onto (must (eqb (x .refusal) 0) (x .refusal) (gives (answerMeant (x .answer)))) (λ y. taken (roomFor s) (listing s) y)
     unfolding takingHeld taking listing
     reads =
         must-go (heldWell (s .list .query)) 2 _ held-go
         ∙ must-go (soundIn (roomFor s) (listing s)) 2 _ in-go
         ∙ ap (λ r. onto r (λ y. taken (roomFor s) (listing s) y))
-        (answer-by-refusal order line ∙ sym (ap (λ (u : AnswerRead). must (eqb (u .refusal) 0) (u .refusal) (gives (answered (u .answer)))) xe))
+        (answer-by-refusal order line ∙ sym (ap (λ (u : AnswerRead). must (eqb (u .refusal) 0) (u .refusal) (gives (answerMeant (u .answer)))) xe))
 
     pub take-unread : (x .refusal ≡ 0 → ⊥) → takingHeld lines s line ≡ refused (x .refusal)
     take-unread h = reads ∙ ap (λ r. onto r (λ y. taken (roomFor s) (listing s) y)) (must-stop (eqb (x .refusal) 0) (x .refusal) _ (ne-eqb (x .refusal) 0 h))
 
-    pub take-read : x .refusal ≡ 0 → takingHeld lines s line ≡ taken (roomFor s) (listing s) (answered (x .answer))
+    pub take-read : x .refusal ≡ 0 → takingHeld lines s line ≡ taken (roomFor s) (listing s) (answerMeant (x .answer))
     take-read h = reads ∙ ap (λ r. onto r (λ y. taken (roomFor s) (listing s) y)) (must-go (eqb (x .refusal) 0) (x .refusal) _ (eq-eqb (x .refusal) 0 h))
 
 -- what reads has at most a page of items
-pub read-few : (o : Order) (line : List ℕ) (x : AnswerRead) → x ≡ answerOf o line → x .refusal ≡ 0 → x .answer .count ≤ mostPage
-unfolding answerOf reading
+pub read-few : (o : Order) (line : List ℕ) (x : AnswerRead) → x ≡ readAsAnswer o line → x .refusal ≡ 0 → x .answer .count ≤ mostPage
+unfolding readAsAnswer reading
 read-few o line x xe h =
-    few (go (frames.sound line) (answerOk (answerKind o) (frameOf line)) refl (sym (ap (λ (u : AnswerRead). u .refusal) xe) ∙ h)) (ap (λ (u : AnswerRead). u .answer .count) xe)
+    few (go (frames.isLine line) (answerOk (answerKind o) (frameOf line)) refl (sym (ap (λ (u : AnswerRead). u .refusal) xe) ∙ h)) (ap (λ (u : AnswerRead). u .answer .count) xe)
   where
     few : {m n : ℕ} → n ≤ mostPage → m ≡ n → m ≤ mostPage
     few p q = omega arith

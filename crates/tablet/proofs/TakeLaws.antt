@@ -22,7 +22,7 @@ use Rattle.paper.specs.Orders.{Item, noItem, queryIn, follows, snapshotOf, flat
 use Rattle.paper.specs.Ends.{every, rising, fitting, lastItem, presentPlace, sameProbe, sameQuery, samePlace, toPresent, pageHolds, startedWell, soundIn, joinedTo, taken, Listing}
 use Rattle.paper.specs.Lines.{spoken}
 use Rattle.paper.specs.Lists.{Takes, takenAs, putItems, held, itemsIn, listing, heldWell, soundHeld}
-use Rattle.paper.specs.Codec.{placeIn, scopeOf, answered}
+use Rattle.paper.specs.Codec.{placeIn, scopeOf, answerMeant}
 use Rattle.paper.specs.Outcomes.{Outcome, refused, gives, must}
 use Rattle.paper.specs.Points.{inRange}
 use Rattle.paper.proofs.Tests.{and-first, and-second, never}
@@ -145,13 +145,13 @@ module _ (l : lists.List) (room : List ℕ) where
   present-start s = rw s
 
   module _ (y : Answer) (a : Bool) (ae : a ≡ sameQuery (queryIn (l .query)) (queryIn (y .query))) where
-    pub present-query : not a ≡ true → false ≡ toPresent (listing (held l room)) (answered y)
-    unfolding toPresent listing answered
+    pub present-query : not a ≡ true → false ≡ toPresent (listing (held l room)) (answerMeant y)
+    unfolding toPresent listing answerMeant
     present-query h = rw (← ae, not-true a h)
 
     pub present-place : not a ≡ false → (p : Scope) → p ≡ scopeOf now-at (snapshotOf now-at 0)
-        → (r : Bool) → r ≡ samePlace (placeIn p) (placeIn (y .scope)) → r ≡ toPresent (listing (held l room)) (answered y)
-    unfolding toPresent listing answered
+        → (r : Bool) → r ≡ samePlace (placeIn p) (placeIn (y .scope)) → r ≡ toPresent (listing (held l room)) (answerMeant y)
+    unfolding toPresent listing answerMeant
     present-place h p pe r e =
         let b : placeIn p ≡ now-at = ap placeIn pe ∙ place-back now-at in
         e ∙ ap (λ (u : Place). samePlace u (placeIn (y .scope))) b ∙ rw (← ae, not-false a h)
@@ -163,8 +163,8 @@ module _ (y : Answer) (u : Place) (ue : u ≡ placeIn (y .scope)) (a : Bool)
   abbrev o : Order
   o = y .query .order
 
-  page-splits : pageHolds (answered y) ≡ a && (leb 1 (y .count) || eqb (y .last) 1)
-  unfolding pageHolds answered
+  page-splits : pageHolds (answerMeant y) ≡ a && (leb 1 (y .count) || eqb (y .last) 1)
+  unfolding pageHolds answerMeant
   page-splits =
       rw (ae, ue, pass-means o (placeIn (y .scope)) (y .query .reach) (y .scope .snapshot) (itemsIn (y .count) (y .items)), length-in (y .count) (y .items))
       (and-group (rising o (itemsIn (y .count) (y .items))) (every (follows o (placeIn (y .scope))) (itemsIn (y .count) (y .items)))
@@ -175,13 +175,13 @@ module _ (y : Answer) (u : Place) (ue : u ≡ placeIn (y .scope)) (a : Bool)
       and-group true false f e = refl
       and-group false w f e = refl
 
-  pub page-items : not a ≡ true → false ≡ pageHolds (answered y)
+  pub page-items : not a ≡ true → false ≡ pageHolds (answerMeant y)
   page-items h = rw (page-splits, not-true a h)
 
-  pub page-some : not a ≡ false → 1 ≤ y .count → true ≡ pageHolds (answered y)
+  pub page-some : not a ≡ false → 1 ≤ y .count → true ≡ pageHolds (answerMeant y)
   page-some h k = rw (page-splits, not-false a h, le-leb 1 (y .count) k)
 
-  pub page-none : not a ≡ false → y .count < 1 → eqb (y .last) 1 ≡ pageHolds (answered y)
+  pub page-none : not a ≡ false → y .count < 1 → eqb (y .last) 1 ≡ pageHolds (answerMeant y)
   page-none h k = rw (page-splits, not-false a h, lt-leb 1 (y .count) k)
 
 -- ---- taking
@@ -264,55 +264,55 @@ module _ (l : lists.List) (room : List ℕ) (y : Answer) where
   L = listing (held l room)
 
   abbrev call : Outcome Listing
-  call = taken (length room / 3) L (answered y)
+  call = taken (length room / 3) L (answerMeant y)
 
   pub take-16 : l .complete ≡ true → call ≡ refused 16
   unfolding taken listing
   take-16 h = must-stop (not (l .complete)) 16 _ (ap not h)
 
-  module _ (hc : l .complete ≡ false) (a : Bool) (ae : a ≡ toPresent L (answered y)) where
+  module _ (hc : l .complete ≡ false) (a : Bool) (ae : a ≡ toPresent L (answerMeant y)) where
     go-16 : not (l .complete) ≡ true
     go-16 = ap not hc
 
     pub take-13 : not a ≡ true → call ≡ refused 13
     unfolding taken listing
-    take-13 h = must-go (not (l .complete)) 16 _ go-16 ∙ must-stop (toPresent L (answered y)) 13 _ (sym ae ∙ not-true a h)
+    take-13 h = must-go (not (l .complete)) 16 _ go-16 ∙ must-stop (toPresent L (answerMeant y)) 13 _ (sym ae ∙ not-true a h)
 
-    module _ (ha : not a ≡ false) (b : Bool) (be : b ≡ pageHolds (answered y)) where
+    module _ (ha : not a ≡ false) (b : Bool) (be : b ≡ pageHolds (answerMeant y)) where
       pub take-14 : not b ≡ true → call ≡ refused 14
       unfolding taken listing
       take-14 h =
           must-go (not (l .complete)) 16 _ go-16
-          ∙ must-go (toPresent L (answered y)) 13 _ (sym ae ∙ not-false a ha)
-          ∙ must-stop (pageHolds (answered y)) 14 _ (sym be ∙ not-true b h)
+          ∙ must-go (toPresent L (answerMeant y)) 13 _ (sym ae ∙ not-false a ha)
+          ∙ must-stop (pageHolds (answerMeant y)) 14 _ (sym be ∙ not-true b h)
 
       module _ (hb : not b ≡ false) (few : l .count ≤ length room / 3) where
-        sum : length (L .items) + length (answered y .items) ≡ l .count + y .count
-        unfolding listing answered
+        sum : length (L .items) + length (answerMeant y .items) ≡ l .count + y .count
+        unfolding listing answerMeant
         sum = omega (arith, length-in (l .count) room, length-in (y .count) (y .items))
 
-        up-to-15 : call ≡ must (leb (length (L .items) + length (answered y .items)) (length room / 3)) 15 (gives (joinedTo L (answered y)))
+        up-to-15 : call ≡ must (leb (length (L .items) + length (answerMeant y .items)) (length room / 3)) 15 (gives (joinedTo L (answerMeant y)))
         unfolding taken listing
         up-to-15 =
             must-go (not (l .complete)) 16 _ go-16
-            ∙ must-go (toPresent L (answered y)) 13 _ (sym ae ∙ not-false a ha)
-            ∙ must-go (pageHolds (answered y)) 14 _ (sym be ∙ not-false b hb)
+            ∙ must-go (toPresent L (answerMeant y)) 13 _ (sym ae ∙ not-false a ha)
+            ∙ must-go (pageHolds (answerMeant y)) 14 _ (sym be ∙ not-false b hb)
 
         pub take-15 : length room / 3 - l .count < y .count → call ≡ refused 15
-        take-15 h = up-to-15 ∙ must-stop _ 15 _ (lt-leb (length (L .items) + length (answered y .items)) (length room / 3) (omega (arith, sum)))
+        take-15 h = up-to-15 ∙ must-stop _ 15 _ (lt-leb (length (L .items) + length (answerMeant y .items)) (length room / 3) (omega (arith, sum)))
 
-        pub take-joined : y .count ≤ length room / 3 - l .count → call ≡ gives (joinedTo L (answered y))
-        take-joined h = up-to-15 ∙ must-go _ 15 _ (le-leb (length (L .items) + length (answered y .items)) (length room / 3) (omega (arith, sum)))
+        pub take-joined : y .count ≤ length room / 3 - l .count → call ≡ gives (joinedTo L (answerMeant y))
+        take-joined h = up-to-15 ∙ must-go _ 15 _ (le-leb (length (L .items) + length (answerMeant y .items)) (length room / 3) (omega (arith, sum)))
 
   -- [7.7] the page is joined, and the rest of the room stays
-  pub joined-is : (x : Outcome Listing) (t : lists.List) (after : List ℕ) → x ≡ gives (joinedTo L (answered y))
+  pub joined-is : (x : Outcome Listing) (t : lists.List) (after : List ℕ) → x ≡ gives (joinedTo L (answerMeant y))
       → l .count * 3 + y .count * 3 ≤ length room → y .count * 3 ≤ length (y .items)
       → t ≡ joinedFields l y (y .count) → after ≡ paste room (l .count * 3) (y .items) (y .count * 3)
       → Takes l x room (record { refusal = 0; list = t }) after
-  unfolding joinedTo listing answered
+  unfolding joinedTo listing answerMeant
   joined-is x t after e h k te ae =
       let n : length (itemsIn (l .count) room ++ itemsIn (y .count) (y .items)) ≡ l .count + y .count =
       omega (arith, length-append (itemsIn (l .count) room) (itemsIn (y .count) (y .items)), length-in (l .count) room, length-in (y .count) (y .items)) in
-      promise-given (takenAs l) putItems x room (joinedTo L (answered y)) (record { refusal = 0; list = t }) after e
+      promise-given (takenAs l) putItems x room (joinedTo L (answerMeant y)) (record { refusal = 0; list = t }) after e
       (ap (λ (u : lists.List). record { refusal = 0; list = u }) te ∙ rw (← n))
       (ae ∙ sym (join-front room (y .items) (l .count) (y .count) h k))

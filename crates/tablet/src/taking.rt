@@ -6,7 +6,7 @@ ghost use lib.ListN.{length};
 ghost use lib.Seq.{paste};
 ghost use Rattle.paper.specs.Ends.{sameProbe, sameQuery, samePlace, toPresent, pageHolds, taken};
 ghost use Rattle.paper.specs.Lists.{Takes, held, listing, roomFor, soundHeld, takingHeld};
-ghost use Rattle.paper.specs.Codec.{placeIn, answered, lines};
+ghost use Rattle.paper.specs.Codec.{placeIn, answerMeant, lines};
 ghost use Rattle.tablet.specs.Holding.{Asks, joinedFields};
 ghost use Rattle.paper.specs.Orders.{queryIn};
 ghost use Rattle.paper.specs.Limits.{itemRoom, mostPage, mostPlaces};
@@ -71,7 +71,7 @@ fn same_query(p: Query, q: Query) -> bool
 // [7.5] [8.13] Whether an answer is to the list's present ask; page sizes are not compared.
 fn to_present(l: List, room: &[u64], y: Answer) -> bool
     requires { ⌜ Asks l (now room) ⌝ }
-    ensures { λ r. ⌜ r ≡ toPresent (listing (held l (now (room .entry)))) (answered y) ⌝ }
+    ensures { λ r. ⌜ r ≡ toPresent (listing (held l (now (room .entry)))) (answerMeant y) ⌝ }
 {
     let asked = l.query;
     let told = y.query;
@@ -86,7 +86,7 @@ fn to_present(l: List, room: &[u64], y: Answer) -> bool
 // [7.6] [8.14] Whether an answer's page rises, after the mark, within reach and below the snapshot, and is none only as the last.
 fn page_holds(y: Answer) -> bool
     requires { ⌜ y .count ≤ mostPage ⌝ }
-    ensures { λ r. ⌜ r ≡ pageHolds (answered y) ⌝ }
+    ensures { λ r. ⌜ r ≡ pageHolds (answerMeant y) ⌝ }
 {
     let items = y.items;
     let query = y.query;
@@ -141,7 +141,7 @@ fn joined(l: List, y: Answer, n: usize) -> List
 // [9.13] Takes an answer that was read into a sound list.
 pub fn take_answer(l: List, room: &mut [u64], y: Answer) -> Taken
     requires { ⌜ (soundHeld (held l (now room)) ≡ true) × (y .count ≤ mostPage) ⌝ }
-    ensures { λ r. ⌜ Takes l (taken (roomFor (held l (now (room .entry)))) (listing (held l (now (room .entry)))) (answered y)) (now (room .entry)) r (now (room .exit)) ⌝ }
+    ensures { λ r. ⌜ Takes l (taken (roomFor (held l (now (room .entry)))) (listing (held l (now (room .entry)))) (answerMeant y)) (now (room .entry)) r (now (room .exit)) ⌝ }
 {
     if l.complete {
         return refused(16, l);

@@ -12,7 +12,7 @@ use Rattle.paper.specs.Tree.{Store, fits, sound}
 use Rattle.paper.specs.Calls.{onTable, tableRefusal, aimed}
 use Rattle.paper.proofs.Outcomes.{must-stop, must-go, number-0, behind, stops}
 use Rattle.tree.specs.Soundness.{Good, Lent}
-use Rattle.tree.proofs.Known.{fits-fit, sound-good}
+use Rattle.tree.proofs.TestedTables.{fits-fit, sound-good}
 
 -- ---- 1 and 2
 

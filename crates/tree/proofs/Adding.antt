@@ -15,10 +15,10 @@ use Rattle.paper.specs.Tree.{grown, built, Store, store, apart, apartIn, refere
 use Rattle.paper.specs.Runs.{counted, nextGrown, added, addedRun}
 use Rattle.tree.specs.Rooms.{Enterable, IsBuilt}
 use Rattle.tree.specs.Soundness.{Good, Roomy}
-use Rattle.tree.proofs.Agree.{stays-built, enter-long}
-use Rattle.tree.proofs.Same.{build-ext}
+use Rattle.tree.proofs.RoomsInUse.{stays-built, enter-long}
+use Rattle.tree.proofs.SameDistances.{build-ext}
 use Rattle.tree.proofs.Places.{before-next}
-use Rattle.tree.proofs.Known.{good-few, good-tree, good-used}
+use Rattle.tree.proofs.TestedTables.{good-few, good-tree, good-used}
 
 -- distances look at the d numbers of each point alone
 

@@ -11,9 +11,9 @@ use lib.Dec.{lit<, leb}
 use mathlib.Core.Bool.{Bool, true, false, cond}
 use borrow.Author.Tests.{leb-true, leb-false}
 use lib.Seq.{getD-set-same, getD-set-other}
-use Rattle.paper.specs.Tree.{Grown, grown, fieldAt, put, claimAt, cleared, fresh, nearSide, raise, placed, entered}
+use Rattle.paper.specs.Tree.{Grown, grown, fieldAt, putField, sideClaim, cleared, newNode, nearSide, raise, placed, entered}
 use Rattle.tree.specs.Rooms.{Inside, RoomOk, Linked, Under, here, deeper, Holds, Neartree}
-use Rattle.tree.proofs.Turns.{other, still-linked, raise-length, side-small, placed-stop, placed-new, placed-down}
+use Rattle.tree.proofs.OneEntering.{other, still-linked, raise-length, side-small, placed-stop, placed-new, placed-down}
 
 pub record Grows (used : ℕ) (rooms rooms' : List ℕ) : Type 0 where
   pub held : (m s : ℕ) → m < used → s < 2 → (fieldAt rooms m s ≡ 0 → ⊥) → fieldAt rooms' m s ≡ fieldAt rooms m s
@@ -30,16 +30,16 @@ grows-trans used a b c g h =
 
 -- a store changes its own field alone
 pub put-cases : (rooms : List ℕ) (m f v n g : ℕ) → m * 6 + f < length rooms
-    → ((n * 6 + g ≡ m * 6 + f) × (fieldAt (put rooms m f v) n g ≡ v)) ⊎ (fieldAt (put rooms m f v) n g ≡ fieldAt rooms n g)
+    → ((n * 6 + g ≡ m * 6 + f) × (fieldAt (putField rooms m f v) n g ≡ v)) ⊎ (fieldAt (putField rooms m f v) n g ≡ fieldAt rooms n g)
 put-cases rooms m f v n g h = go (ℕ-discrete (n * 6 + g) (m * 6 + f))
   where
-    go : Dec (n * 6 + g ≡ m * 6 + f) → ((n * 6 + g ≡ m * 6 + f) × (fieldAt (put rooms m f v) n g ≡ v)) ⊎ (fieldAt (put rooms m f v) n g ≡ fieldAt rooms n g)
+    go : Dec (n * 6 + g ≡ m * 6 + f) → ((n * 6 + g ≡ m * 6 + f) × (fieldAt (putField rooms m f v) n g ≡ v)) ⊎ (fieldAt (putField rooms m f v) n g ≡ fieldAt rooms n g)
     go (yes p) = inl (p, rw p (getD-set-same rooms (m * 6 + f) v 0 h))
     go (no q) = inr (getD-set-other rooms (m * 6 + f) (n * 6 + g) v 0 q)
 
 -- a store where there was 0, or of a larger far distance, lets the rooms grow
 grows-put : (used : ℕ) (rooms : List ℕ) (m f v : ℕ) → m * 6 + f < length rooms → f < 6
-    → (f < 2 → fieldAt rooms m f ≡ 0) → (4 ≤ f → fieldAt rooms m f ≡ 0) → fieldAt rooms m f ≤ v → Grows used rooms (put rooms m f v)
+    → (f < 2 → fieldAt rooms m f ≡ 0) → (4 ≤ f → fieldAt rooms m f ≡ 0) → fieldAt rooms m f ≤ v → Grows used rooms (putField rooms m f v)
 grows-put used rooms m f v h hf zero-held zero-below less =
     record {
       held = λ n s hm hs no. ⊎-elim
@@ -75,30 +75,30 @@ cleared-is rooms w (suc g) x h hz hx = ⊎-elim
     (eq-or-lt-of-le hx)
 
 -- a new room leaves the others as they are
-pub fresh-other : (rooms : List ℕ) (w k m g : ℕ) → (m ≡ w → ⊥) → g < 6 → fieldAt (fresh rooms w k) m g ≡ fieldAt rooms m g
-unfolding fresh
+pub fresh-other : (rooms : List ℕ) (w k m g : ℕ) → (m ≡ w → ⊥) → g < 6 → fieldAt (newNode rooms w k) m g ≡ fieldAt rooms m g
+unfolding newNode
 fresh-other rooms w k m g hm hg =
-    cleared-other (put rooms w 0 (k + 1)) w 5 m g (λ y hz hy q. omega arith)
+    cleared-other (putField rooms w 0 (k + 1)) w 5 m g (λ y hz hy q. omega arith)
     ∙ getD-set-other rooms (w * 6 + 0) (m * 6 + g) (k + 1) 0 (λ q. omega arith)
 
-pub fresh-length : (rooms : List ℕ) (w k : ℕ) → length (fresh rooms w k) ≡ length rooms
-unfolding fresh
-fresh-length rooms w k = cleared-length (put rooms w 0 (k + 1)) w 5 ∙ length-set rooms (w * 6 + 0) (k + 1)
+pub fresh-length : (rooms : List ℕ) (w k : ℕ) → length (newNode rooms w k) ≡ length rooms
+unfolding newNode
+fresh-length rooms w k = cleared-length (putField rooms w 0 (k + 1)) w 5 ∙ length-set rooms (w * 6 + 0) (k + 1)
 
-pub fresh-left : (rooms : List ℕ) (w k : ℕ) → Inside rooms w → fieldAt (fresh rooms w k) w 0 ≡ k + 1
-unfolding fresh
+pub fresh-left : (rooms : List ℕ) (w k : ℕ) → Inside rooms w → fieldAt (newNode rooms w k) w 0 ≡ k + 1
+unfolding newNode
 fresh-left rooms w k h =
-    cleared-other (put rooms w 0 (k + 1)) w 5 w 0 (λ y hz hy q. omega arith) ∙ getD-set-same rooms (w * 6 + 0) (k + 1) 0 (omega arith)
+    cleared-other (putField rooms w 0 (k + 1)) w 5 w 0 (λ y hz hy q. omega arith) ∙ getD-set-same rooms (w * 6 + 0) (k + 1) 0 (omega arith)
 
-pub fresh-rest : (rooms : List ℕ) (w k g : ℕ) → Inside rooms w → 0 < g → g < 6 → fieldAt (fresh rooms w k) w g ≡ 0
-unfolding fresh
-fresh-rest rooms w k g h hz hg = cleared-is (put rooms w 0 (k + 1)) w 5 g (omega (arith, length-set rooms (w * 6 + 0) (k + 1))) hz (omega arith)
+pub fresh-rest : (rooms : List ℕ) (w k g : ℕ) → Inside rooms w → 0 < g → g < 6 → fieldAt (newNode rooms w k) w g ≡ 0
+unfolding newNode
+fresh-rest rooms w k g h hz hg = cleared-is (putField rooms w 0 (k + 1)) w 5 g (omega (arith, length-set rooms (w * 6 + 0) (k + 1))) hz (omega arith)
 
-fresh-small : (rooms : List ℕ) (w k g : ℕ) → Inside rooms w → g < 6 → fieldAt (fresh rooms w k) w g ≤ k + 1
+fresh-small : (rooms : List ℕ) (w k g : ℕ) → Inside rooms w → g < 6 → fieldAt (newNode rooms w k) w g ≤ k + 1
 fresh-small rooms w k zero h hg = let p = fresh-left rooms w k h in omega arith
 fresh-small rooms w k (suc g) h hg = let p = fresh-rest rooms w k (suc g) h (omega arith) hg in omega arith
 
-grows-fresh : (used : ℕ) (rooms : List ℕ) (k : ℕ) → Grows used rooms (fresh rooms used k)
+grows-fresh : (used : ℕ) (rooms : List ℕ) (k : ℕ) → Grows used rooms (newNode rooms used k)
 grows-fresh used rooms k =
     record {
       held = λ m s hm hs no. fresh-other rooms used k m s (λ q. omega arith) (omega arith);
@@ -128,10 +128,10 @@ above-holds used e rooms rooms' g m s c o w j hm hs p q p' near r h =
     }
 
 -- a claim stored on the right keeps them
-linked-right : (rooms : List ℕ) (used k m : ℕ) → m * 6 + 1 < length rooms → Linked rooms used k → Linked (put rooms m 1 (k + 1)) used (k + 1)
+linked-right : (rooms : List ℕ) (used k m : ℕ) → m * 6 + 1 < length rooms → Linked rooms used k → Linked (putField rooms m 1 (k + 1)) used (k + 1)
 unfolding Linked
 linked-right rooms used k m h lk w hw =
-    let keep : (g : ℕ) → g < 6 → (1 ≡ g → ⊥) → fieldAt (put rooms m 1 (k + 1)) w g ≡ fieldAt rooms w g =
+    let keep : (g : ℕ) → g < 6 → (1 ≡ g → ⊥) → fieldAt (putField rooms m 1 (k + 1)) w g ≡ fieldAt rooms w g =
     λ g hg ne. other rooms m 1 (k + 1) w g (lit< tt) hg ne in
     record {
       left = rw (keep 0 (lit< tt) (λ q. omega arith)) (lk w hw .left);
@@ -142,17 +142,17 @@ linked-right rooms used k m h lk w hw =
 
 -- so does a new room below a side
 linked-new : (rooms : List ℕ) (used k m s : ℕ) → m < used → s < 2 → used * 6 + 6 ≤ length rooms → Linked rooms used k
-    → Linked (fresh (put rooms m (4 + s) (used + 1)) used k) (used + 1) (k + 1)
+    → Linked (newNode (putField rooms m (4 + s) (used + 1)) used k) (used + 1) (k + 1)
 unfolding Linked
 linked-new rooms used k m s hm hs room lk w hw = ⊎-elim at-new at-old (eq-or-lt-of-le (omega arith))
   where
     rooms₂ : List ℕ
-    rooms₂ = put rooms m (4 + s) (used + 1)
+    rooms₂ = putField rooms m (4 + s) (used + 1)
 
     in-rooms₂ : Inside rooms₂ used
     in-rooms₂ = simp length-set (omega arith)
 
-    at-new : w ≡ used → RoomOk (fresh rooms₂ used k) (used + 1) (k + 1) w
+    at-new : w ≡ used → RoomOk (newNode rooms₂ used k) (used + 1) (k + 1) w
     at-new e = rw e (record {
       left = let p = fresh-left rooms₂ used k in-rooms₂ in omega arith;
       stored = λ z hz. fresh-small rooms₂ used k z in-rooms₂ (omega arith);
@@ -160,11 +160,11 @@ linked-new rooms used k m s hm hs room lk w hw = ⊎-elim at-new at-old (eq-or-l
       leads = λ z hz. let p = fresh-rest rooms₂ used k (4 + z) in-rooms₂ (omega arith) (omega arith) in omega arith;
     })
 
-    at-old : w < used → RoomOk (fresh rooms₂ used k) (used + 1) (k + 1) w
+    at-old : w < used → RoomOk (newNode rooms₂ used k) (used + 1) (k + 1) w
     at-old h =
-        let keep : (g : ℕ) → g < 6 → (4 + s ≡ g → ⊥) → fieldAt (fresh rooms₂ used k) w g ≡ fieldAt rooms w g =
+        let keep : (g : ℕ) → g < 6 → (4 + s ≡ g → ⊥) → fieldAt (newNode rooms₂ used k) w g ≡ fieldAt rooms w g =
         λ g hg ne. fresh-other rooms₂ used k w g (λ q. omega arith) hg ∙ other rooms m (4 + s) (used + 1) w g (omega arith) hg ne in
-        let cases : (z : ℕ) → z < 2 → ((w * 6 + (4 + z) ≡ m * 6 + (4 + s)) × (fieldAt (fresh rooms₂ used k) w (4 + z) ≡ used + 1)) ⊎ (fieldAt (fresh rooms₂ used k) w (4 + z) ≡ fieldAt rooms w (4 + z)) =
+        let cases : (z : ℕ) → z < 2 → ((w * 6 + (4 + z) ≡ m * 6 + (4 + s)) × (fieldAt (newNode rooms₂ used k) w (4 + z) ≡ used + 1)) ⊎ (fieldAt (newNode rooms₂ used k) w (4 + z) ≡ fieldAt rooms w (4 + z)) =
         λ z hz. ⊎-elim (λ p. inl (p .0, fresh-other rooms₂ used k w (4 + z) (λ q. omega arith) (omega arith) ∙ p .1)) (λ q. inr (fresh-other rooms₂ used k w (4 + z) (λ q. omega arith) (omega arith) ∙ q))
         (put-cases rooms m (4 + s) (used + 1) w (4 + z) (omega arith)) in
         record {
@@ -187,7 +187,7 @@ module _ (e : ℕ → ℕ → ℕ) (rooms : List ℕ) (m s k : ℕ) (hs : s < 2)
   raise-grows : (used : ℕ) → Grows used rooms (raise e rooms m s k)
   unfolding raise
   raise-grows used =
-      grows-put used rooms m (2 + s) (max (fieldAt rooms m (2 + s)) (e (claimAt rooms m s) k)) (omega arith) (omega arith)
+      grows-put used rooms m (2 + s) (max (fieldAt rooms m (2 + s)) (e (sideClaim rooms m s) k)) (omega arith) (omega arith)
       (λ h. absurd (omega arith)) (λ h. absurd (omega arith)) (omega arith)
 
   raise-keeps : (g : ℕ) → g < 6 → (2 + s ≡ g → ⊥) → fieldAt (raise e rooms m s k) m g ≡ fieldAt rooms m g
@@ -197,24 +197,24 @@ module _ (e : ℕ → ℕ → ℕ) (rooms : List ℕ) (m s k : ℕ) (hs : s < 2)
   raise-reaches : (c : ℕ) → fieldAt rooms m s ≡ c + 1 → e c k ≤ fieldAt (raise e rooms m s k) m (2 + s)
   unfolding raise
   raise-reaches c p =
-      let q : claimAt rooms m s ≡ c = omega arith in
-      let v : ℕ = max (fieldAt rooms m (2 + s)) (e (claimAt rooms m s) k) in
-      let at : fieldAt (put rooms m (2 + s) v) m (2 + s) ≡ v = getD-set-same rooms (m * 6 + (2 + s)) v 0 (omega arith) in
-      let r : e (claimAt rooms m s) k ≡ e c k = ap (λ (x : ℕ). e x k) q in
+      let q : sideClaim rooms m s ≡ c = omega arith in
+      let v : ℕ = max (fieldAt rooms m (2 + s)) (e (sideClaim rooms m s) k) in
+      let at : fieldAt (putField rooms m (2 + s) v) m (2 + s) ≡ v = getD-set-same rooms (m * 6 + (2 + s)) v 0 (omega arith) in
+      let r : e (sideClaim rooms m s) k ≡ e c k = ap (λ (x : ℕ). e x k) q in
       omega arith
 
 -- the side that claim k goes below is the nearer
-side-near : (e : ℕ → ℕ → ℕ) (rooms : List ℕ) (m k : ℕ) → e (claimAt rooms m (nearSide e rooms m k)) k + nearSide e rooms m k ≤ e (claimAt rooms m (1 - nearSide e rooms m k)) k
+side-near : (e : ℕ → ℕ → ℕ) (rooms : List ℕ) (m k : ℕ) → e (sideClaim rooms m (nearSide e rooms m k)) k + nearSide e rooms m k ≤ e (sideClaim rooms m (1 - nearSide e rooms m k)) k
 unfolding nearSide
-side-near e rooms m k = go (leb (e (claimAt rooms m 0) k) (e (claimAt rooms m 1) k)) refl
+side-near e rooms m k = go (leb (e (sideClaim rooms m 0) k) (e (sideClaim rooms m 1) k)) refl
   where
-    go : (u : Bool) → leb (e (claimAt rooms m 0) k) (e (claimAt rooms m 1) k) ≡ u → e (claimAt rooms m (cond u 0 1)) k + cond u 0 1 ≤ e (claimAt rooms m (1 - cond u 0 1)) k
-    go true p = omega (arith, leb-true (e (claimAt rooms m 0) k) (e (claimAt rooms m 1) k) p)
-    go false p = omega (arith, leb-false (e (claimAt rooms m 0) k) (e (claimAt rooms m 1) k) p)
+    go : (u : Bool) → leb (e (sideClaim rooms m 0) k) (e (sideClaim rooms m 1) k) ≡ u → e (sideClaim rooms m (cond u 0 1)) k + cond u 0 1 ≤ e (sideClaim rooms m (1 - cond u 0 1)) k
+    go true p = omega (arith, leb-true (e (sideClaim rooms m 0) k) (e (sideClaim rooms m 1) k) p)
+    go false p = omega (arith, leb-false (e (sideClaim rooms m 0) k) (e (sideClaim rooms m 1) k) p)
 
 -- the three ways through a room
 module _ (e : ℕ → ℕ → ℕ) (used k m : ℕ) (rooms : List ℕ) (hm : m < used) (room : used * 6 + 6 ≤ length rooms) (lk : Linked rooms used k) where
-  stop : fieldAt rooms m 1 ≡ 0 → Placed e used k m rooms (grown (put rooms m 1 (k + 1)) used)
+  stop : fieldAt rooms m 1 ≡ 0 → Placed e used k m rooms (grown (putField rooms m 1 (k + 1)) used)
   stop p =
       record {
         grows = grows-put used rooms m 1 (k + 1) (omega arith) (lit< tt) (λ h. p) (λ h. absurd (omega arith)) (omega arith);
@@ -226,33 +226,33 @@ module _ (e : ℕ → ℕ → ℕ) (used k m : ℕ) (rooms : List ℕ) (hm : m <
       }
 
   -- side s of a room has a claim
-  claimed : (s : ℕ) → s < 2 → (fieldAt rooms m 1 ≡ 0 → ⊥) → fieldAt rooms m s ≡ claimAt rooms m s + 1
+  claimed : (s : ℕ) → s < 2 → (fieldAt rooms m 1 ≡ 0 → ⊥) → fieldAt rooms m s ≡ sideClaim rooms m s + 1
   unfolding Linked
   claimed zero hs no1 = omega (arith, lk m hm .left)
   claimed (suc zero) hs no1 = omega arith
   claimed (suc (suc s)) hs no1 = absurd (omega arith)
 
-  module _ (s : ℕ) (hs : s < 2) (no1 : fieldAt rooms m 1 ≡ 0 → ⊥) (near : e (claimAt rooms m s) k + s ≤ e (claimAt rooms m (1 - s)) k) where
+  module _ (s : ℕ) (hs : s < 2) (no1 : fieldAt rooms m 1 ≡ 0 → ⊥) (near : e (sideClaim rooms m s) k + s ≤ e (sideClaim rooms m (1 - s)) k) where
     in-m : Inside rooms m
     in-m = omega arith
 
     new : fieldAt rooms m (4 + s) ≡ 0
-        → Placed e used k m rooms (grown (fresh (put (raise e rooms m s k) m (4 + s) (used + 1)) used k) (used + 1))
+        → Placed e used k m rooms (grown (newNode (putField (raise e rooms m s k) m (4 + s) (used + 1)) used k) (used + 1))
     new z =
         let rooms₁ : List ℕ = raise e rooms m s k in
-        let rooms₂ : List ℕ = put rooms₁ m (4 + s) (used + 1) in
+        let rooms₂ : List ℕ = putField rooms₁ m (4 + s) (used + 1) in
         let len₁ : length rooms₁ ≡ length rooms = raise-length e rooms m k s in
         let len₂ : length rooms₂ ≡ length rooms₁ = length-set rooms₁ (m * 6 + (4 + s)) (used + 1) in
         let z₁ : fieldAt rooms₁ m (4 + s) ≡ 0 = raise-keeps e rooms m s k hs in-m (4 + s) (omega arith) (λ q. omega arith) ∙ z in
         let g₂ : Grows used rooms₁ rooms₂ = grows-put used rooms₁ m (4 + s) (used + 1) (omega arith) (omega arith) (λ h. absurd (omega arith)) (λ h. z₁) (omega arith) in
-        let g₃ : Grows used rooms₂ (fresh rooms₂ used k) = grows-fresh used rooms₂ k in
-        let c : ℕ = claimAt rooms m s in
-        let held₁' : fieldAt rooms₁ m (1 - s) ≡ claimAt rooms m (1 - s) + 1 = raise-keeps e rooms m s k hs in-m (1 - s) (omega arith) (λ q. omega arith) ∙ claimed (1 - s) (omega arith) no1 in
+        let g₃ : Grows used rooms₂ (newNode rooms₂ used k) = grows-fresh used rooms₂ k in
+        let c : ℕ = sideClaim rooms m s in
+        let held₁' : fieldAt rooms₁ m (1 - s) ≡ sideClaim rooms m (1 - s) + 1 = raise-keeps e rooms m s k hs in-m (1 - s) (omega arith) (λ q. omega arith) ∙ claimed (1 - s) (omega arith) no1 in
         let held₁ : fieldAt rooms₁ m s ≡ c + 1 = raise-keeps e rooms m s k hs in-m s (omega arith) (λ q. omega arith) ∙ claimed s hs no1 in
         record {
           grows = grows-trans used rooms rooms₁ _ (raise-grows e rooms m s k hs in-m used) (grows-trans used rooms₁ rooms₂ _ g₂ g₃);
           linked = linked-new rooms₁ used k m s hm hs (omega arith) (still-linked e rooms m k s used k hs lk);
-          holds = above-holds used e rooms₂ (fresh rooms₂ used k) g₃ m s c _ used k hm hs
+          holds = above-holds used e rooms₂ (newNode rooms₂ used k) g₃ m s c _ used k hm hs
               (g₂ .held m s hm hs (λ q. omega arith) ∙ held₁)
               (le-trans (raise-reaches e rooms m s k hs in-m c (claimed s hs no1)) (g₂ .far m s hm hs))
               (g₂ .held m (1 - s) hm (omega arith) (λ q. omega arith) ∙ held₁') near
@@ -266,7 +266,7 @@ module _ (e : ℕ → ℕ → ℕ) (used k m : ℕ) (rooms : List ℕ) (hm : m <
     down : (w : ℕ) (out : Grown) → fieldAt rooms m (4 + s) ≡ w + 1 → Placed e used k w (raise e rooms m s k) out → Placed e used k m rooms out
     down w out r deep =
         let rooms₁ : List ℕ = raise e rooms m s k in
-        let c : ℕ = claimAt rooms m s in
+        let c : ℕ = sideClaim rooms m s in
         record {
           grows = grows-trans used rooms rooms₁ _ (raise-grows e rooms m s k hs in-m used) (deep .grows);
           linked = deep .linked;

@@ -12,7 +12,7 @@ use Rattle.paper.specs.Tree.{Store, fits, sound, claimsFrom, claimsIn}
 use Rattle.paper.specs.Runs.{addedRun, enterCall}
 use Rattle.paper.proofs.Outcomes.{must-go, must-other, number-0, same-given}
 use Rattle.tree.specs.Soundness.{Good, Roomy}
-use Rattle.tree.proofs.Known.{fits-fit, fit-fits, sound-good, good-sound, good-used}
+use Rattle.tree.proofs.TestedTables.{fits-fit, fit-fits, sound-good, good-sound, good-used}
 use Rattle.tree.proofs.Adding.{run-claims, run-good}
 
 -- nothing refuses the run

@@ -1,7 +1,7 @@
 // Entering one claim, from the root.
 ghost use mathlib.Core.Path.{_≡_};
 ghost use Prim.Native.Nat.{_+_, _<_, max};
-ghost use Rattle.paper.specs.Tree.{fieldAt, put, claimAt, nearSide, entered, apart};
+ghost use Rattle.paper.specs.Tree.{fieldAt, putField, sideClaim, nearSide, entered, apart};
 ghost use Rattle.tree.specs.Rooms.{Inside, HasClaim, Located, Enterable};
 use super::rooms::field;
 use super::rooms::make;
@@ -54,7 +54,7 @@ fn larger(a: u64, b: u64) -> u64
 // [3.9] Has the far distance of side s of room m reach as far as `distance`.
 fn widen(rooms: &mut [u64], m: usize, s: usize, distance: u64)
     requires { ⌜ (s < 2) × Inside (now rooms) m ⌝ }
-    ensures { λ _. ⌜ now (rooms .exit) ≡ put (now (rooms .entry)) m (2 + s) (max (fieldAt (now (rooms .entry)) m (2 + s)) distance) ⌝ }
+    ensures { λ _. ⌜ now (rooms .exit) ≡ putField (now (rooms .entry)) m (2 + s) (max (fieldAt (now (rooms .entry)) m (2 + s)) distance) ⌝ }
 {
     let far = field(rooms, m, 2 + s);
     store(rooms, m, 2 + s, larger(far, distance));

@@ -24,7 +24,7 @@ use Rattle.paper.specs.Orders.{Item, Query, startMark, itemOf, listed, follows,
 use Rattle.paper.specs.Tree.{Store, claimsFrom, claimsIn}
 use Rattle.paper.specs.Calls.{tableQuery}
 use Rattle.tree.specs.Soundness.{Good}
-use Rattle.tree.proofs.Known.{lent-located, good-tree}
+use Rattle.tree.proofs.TestedTables.{lent-located, good-tree}
 use Rattle.tree.proofs.Places.{located-at, claims-length}
 use Rattle.keep.specs.declared.Asked.{Asked}
 use Rattle.keep.specs.Skips.{admitted}

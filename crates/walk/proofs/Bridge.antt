@@ -15,13 +15,13 @@ use Rattle.paper.specs.declared.orders.Order.{Order}
 use Rattle.paper.specs.declared.orders.Place.{Place}
 use Rattle.paper.specs.declared.points.Measure.{Measure}
 use Rattle.paper.specs.declared.tables.Table.{Table}
-use Rattle.paper.specs.Points.{measureOf, distance, Claim, noClaim, point}
+use Rattle.paper.specs.Points.{measureOf, distance, Claim, zeroClaim, point}
 use Rattle.paper.specs.Orders.{Item, Query, rank, earlier, itemOf, listed, follows, rest, snapshotOf, following, pageOf, flat, fronted}
-use Rattle.paper.specs.Orders.{insert as put}
+use Rattle.paper.specs.Orders.{insertBy as put}
 use Rattle.paper.specs.Tree.{claimsFrom, referenceAt}
 use Rattle.paper.specs.Calls.{tableQuery}
 use Rattle.tree.proofs.Places.{claims-length}
-use Rattle.keep.specs.Page.{ranks, sooner, insert, sortedOf, firstSorted, items, Filled}
+use Rattle.keep.specs.Page.{ranks, sooner, insertBy, sortedOf, firstSorted, items, Filled}
 use Rattle.keep.specs.Kept.{key, Rising, none, more}
 use Rattle.keep.proofs.Keeping.{sooner-true, sooner-false, key-sooner, key-differs, scan-rising}
 use Rattle.keep.proofs.Placing.{before-ranks}
@@ -46,8 +46,8 @@ sooner-turned rank j k false hj hk ne p =
 module _ (o : Order) (ref dist : ℕ → ℕ) where
   -- a claim behind all of l, put in its place among the numbers and among the items
   put-numbers : (ok : ℕ → Bool) (k s lo : ℕ) (l : List ℕ) → k < 2 ^ 64 → Rising (ranks o dist) ok k s lo l
-      → put o (itemAt ref dist k) (map (itemAt ref dist) l) ≡ map (itemAt ref dist) (insert (ranks o dist) k l)
-  unfolding put insert
+      → put o (itemAt ref dist k) (map (itemAt ref dist) l) ≡ map (itemAt ref dist) (insertBy (ranks o dist) k l)
+  unfolding put insertBy
   put-numbers ok k s lo [] hk none = refl
   put-numbers ok k (suc s) lo (x ∷ l) hk (more a b c d) =
       go (sooner (ranks o dist) x k) refl
@@ -55,9 +55,9 @@ module _ (o : Order) (ref dist : ℕ → ℕ) where
       (put-numbers ok k s (key (ranks o dist) x + 1) l hk d)
     where
       go : (u : Bool) → sooner (ranks o dist) x k ≡ u → cond u (sooner (ranks o dist) k x ≡ false) (sooner (ranks o dist) k x ≡ true)
-          → put o (itemAt ref dist k) (map (itemAt ref dist) l) ≡ map (itemAt ref dist) (insert (ranks o dist) k l)
+          → put o (itemAt ref dist k) (map (itemAt ref dist) l) ≡ map (itemAt ref dist) (insertBy (ranks o dist) k l)
           → cond (earlier o (itemAt ref dist k) (itemAt ref dist x)) (itemAt ref dist k ∷ itemAt ref dist x ∷ map (itemAt ref dist) l) (itemAt ref dist x ∷ put o (itemAt ref dist k) (map (itemAt ref dist) l))
-          ≡ map (itemAt ref dist) (cond u (x ∷ insert (ranks o dist) k l) (cond (eqb x k) (x ∷ l) (k ∷ x ∷ l)))
+          ≡ map (itemAt ref dist) (cond u (x ∷ insertBy (ranks o dist) k l) (cond (eqb x k) (x ∷ l) (k ∷ x ∷ l)))
       go true p q ih = rw (before-ranks o (dist k) k (dist x) x, q, ih)
       go false p q ih = rw (before-ranks o (dist k) k (dist x) x, q, ne-eqb x k (λ e. omega arith))
 
@@ -74,12 +74,12 @@ module _ (q : Query) (cs : List Claim) (p : Place) (ref dist : ℕ → ℕ) (n :
   unfolding listed rest sortedOf
   listed-rest zero h = refl
   listed-rest (suc k) h =
-      subst (λ (a : Item). rest (q .order) p (cond (leb (a .distance) (q .reach)) (put (q .order) a (listed q cs k)) (listed q cs k)) ≡ map (itemAt ref dist) (cond (okIn q p ref dist k) (insert (ranks (q .order) dist) k (Sorted k)) (Sorted k)))
+      subst (λ (a : Item). rest (q .order) p (cond (leb (a .distance) (q .reach)) (put (q .order) a (listed q cs k)) (listed q cs k)) ≡ map (itemAt ref dist) (cond (okIn q p ref dist k) (insertBy (ranks (q .order) dist) k (Sorted k)) (Sorted k)))
       (sym (agree k h)) (go (leb (dist k) (q .reach)) (follows (q .order) p (itemAt ref dist k)) refl refl (listed-rest k (omega arith)))
     where
       go : (u v : Bool) → leb (dist k) (q .reach) ≡ u → follows (q .order) p (itemAt ref dist k) ≡ v
           → rest (q .order) p (listed q cs k) ≡ map (itemAt ref dist) (Sorted k)
-          → rest (q .order) p (cond u (put (q .order) (itemAt ref dist k) (listed q cs k)) (listed q cs k)) ≡ map (itemAt ref dist) (cond (u && v) (insert (ranks (q .order) dist) k (Sorted k)) (Sorted k))
+          → rest (q .order) p (cond u (put (q .order) (itemAt ref dist k) (listed q cs k)) (listed q cs k)) ≡ map (itemAt ref dist) (cond (u && v) (insertBy (ranks (q .order) dist) k (Sorted k)) (Sorted k))
       go true true a b ih =
           rest-insert (q .order) p (itemAt ref dist k) (listed q cs k)
           ∙ rw (b, ih) (put-numbers (q .order) ref dist (okIn q p ref dist) k k zero (Sorted k) (omega arith) (scan-rising (ranks (q .order) dist) (okIn q p ref dist) k k (le-refl k) (omega arith)))
@@ -114,15 +114,15 @@ flat-items ref dist (k ∷ l) = rw (flat-items ref dist l)
 
 -- the claims of the lent memory
 pub claims-at : (d n : ℕ) (references : List ℕ) (coordinates : List ℤ) (k : ℕ) → k < n
-    → getD (claimsFrom d n references coordinates) k noClaim ≡ record { reference = getD references k 0; place = point d coordinates k }
+    → getD (claimsFrom d n references coordinates) k zeroClaim ≡ record { reference = getD references k 0; place = point d coordinates k }
 unfolding claimsFrom
 claims-at d zero references coordinates k h = absurd (omega arith)
 claims-at d (suc n) references coordinates k h =
     ⊎-elim
-    (λ e. let z : k ≡ n = omega arith in rw z (getD-at (claimsFrom d n references coordinates) _ [] noClaim n (claims-length d n references coordinates)))
+    (λ e. let z : k ≡ n = omega arith in rw z (getD-at (claimsFrom d n references coordinates) _ [] zeroClaim n (claims-length d n references coordinates)))
     (λ l.
     let l' : k < n = omega arith in
-    List·getD-append (claimsFrom d n references coordinates) _ noClaim k (rw (claims-length d n references coordinates) l')
+    List·getD-append (claimsFrom d n references coordinates) _ zeroClaim k (rw (claims-length d n references coordinates) l')
     ∙ claims-at d n references coordinates k l')
     (eq-or-lt-of-le h)
 

@@ -1,5 +1,5 @@
 pub mod Skipping
-pub mod Ways
+pub mod NodesAndSides
 pub mod Bridge
 pub mod Farthest
 pub mod Answers

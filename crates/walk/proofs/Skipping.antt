@@ -13,7 +13,7 @@ use Rattle.paper.specs.declared.points.Measure.{Measure}
 use Rattle.paper.specs.Points.{distance}
 use Rattle.paper.specs.Orders.{rank, before}
 use Rattle.paper.specs.Tree.{apart}
-use Rattle.measure.proofs.Laws.{distance-sym, distance-triangle}
+use Rattle.measure.proofs.Metric.{distance-sym, distance-triangle}
 use Rattle.keep.specs.declared.Asked.{Asked}
 use Rattle.keep.specs.Skips.{admitted, capOf, halfOf, beyondOf, passedOf}
 use Rattle.paper.proofs.Tests.{no-way}

@@ -1,7 +1,7 @@
 -- `scan_beside::drawn` meets its contract: the snapshot is that of the whole table, or below it. Assumes nothing.
 use lib.Dec.{lit<}
 use borrow.Author.Needs.{needs}
-use Rattle.scan_beside.proofs.Laws.{start-drawn, mark-drawn}
+use Rattle.scan_beside.proofs.DrawnQuestions.{start-drawn, mark-drawn}
 use Rattle.scan_beside.proofs.drawn.Statement.{statement}
 use Rattle.scan_beside.proofs.drawn.Tie as tie
 

@@ -1,5 +1,5 @@
 -- `scan_beside::firsts_beside` is safe. Assumes nothing.
-use Rattle.scan_beside.proofs.Laws.{start-scanned}
+use Rattle.scan_beside.proofs.DrawnQuestions.{start-scanned}
 use Rattle.scan_beside.proofs.firsts_beside.Statement.{statement}
 use Rattle.scan_beside.proofs.firsts_beside.Tie as tie
 

@@ -1,7 +1,7 @@
 -- `scan_beside::page_beside` is safe. Assumes nothing.
 use mathlib.Core.Path.{refl}
 use borrow.Author.Needs.{needs}
-use Rattle.scan_beside.proofs.Laws.{drawn-scanned, pageable}
+use Rattle.scan_beside.proofs.DrawnQuestions.{drawn-scanned, pageable}
 use Rattle.scan_beside.proofs.page_beside.Statement.{statement}
 use Rattle.scan_beside.proofs.page_beside.Tie as tie
 

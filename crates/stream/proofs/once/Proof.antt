@@ -1,5 +1,5 @@
 -- `stream::once` meets its contract: the input is over, or a chunk of it was taken. Assumes nothing.
-use Rattle.stream.proofs.Laws.{reached-none}
+use Rattle.stream.proofs.ProgramLoops.{reached-none}
 use borrow.Author.Needs.{needs}
 use Rattle.stream.proofs.once.Statement.{statement}
 use Rattle.stream.proofs.once.Tie as tie

@@ -4,7 +4,7 @@ use mathlib.Core.Path.{_≡_, ap}
 use native.Mathlib.Omega.{arith}
 use lib.ListN.{length}
 use Rattle.serve.specs.declared.feeding.Sitting.{Sitting}
-use Rattle.stream.proofs.Laws.{Pumping, pumping-start, pumping-more, pump-turning, reading-done, stands-anew}
+use Rattle.stream.proofs.ProgramLoops.{Pumping, pumping-start, pumping-more, pump-turning, reading-done, stands-anew}
 use Rattle.stream.proofs.pump.Statement.{statement}
 use Rattle.stream.proofs.pump.Tie as tie
 

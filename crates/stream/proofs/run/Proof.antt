@@ -3,7 +3,7 @@ use Prim.Native.Nat.{_≤_}
 use mathlib.Core.Path.{_≡_, refl, _∙_}
 use native.Mathlib.Omega.{arith}
 use lib.ListN.{length}
-use Rattle.stream.proofs.Laws.{Running, running-start, reached-more, ready-anew}
+use Rattle.stream.proofs.ProgramLoops.{Running, running-start, reached-more, ready-anew}
 use Rattle.stream.proofs.run.Statement.{statement}
 use Rattle.stream.proofs.run.Tie as tie
 use Rattle.paper.specs.Limits.{longestAnswer}

@@ -3,14 +3,14 @@ use Prim.Native.Nat.{_-_}
 use mathlib.Core.Path.{_≡_, refl}
 use lib.ListN.{length}
 use Rattle.paper.specs.Tree.{store}
-use Rattle.batch.specs.Batch.{start, batchOf}
+use Rattle.batch.specs.Batch.{batchStart, batchOf}
 use Rattle.batch.proofs.Steps.{goes-is}
 use Rattle.batch.proofs.Loops.{Going, going-start, going-on, going-less, going-done}
 use Rattle.batch.proofs.turns.answer_lines.Statement.{statement}
 use Rattle.batch.proofs.turns.answer_lines.Tie as tie
 
 abbrev Inv-loop : tie.InvT-loop
-Inv-loop t references coordinates rooms asks outcomes₀ out₀ d₀ outcomes out d = Going (store t references coordinates rooms) asks (start outcomes₀ out₀) (batchOf d outcomes out) × (d .refusal ≡ 0)
+Inv-loop t references coordinates rooms asks outcomes₀ out₀ d₀ outcomes out d = Going (store t references coordinates rooms) asks (batchStart outcomes₀ out₀) (batchOf d outcomes out) × (d .refusal ≡ 0)
 
 abbrev μ-loop : tie.MeasureT-loop
 μ-loop t references coordinates rooms asks outcomes₀ out₀ d₀ outcomes out d = length asks - d .used

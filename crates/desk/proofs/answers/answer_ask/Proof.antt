@@ -1,6 +1,6 @@
 -- `desk::answers::answer_ask` meets its contract: 11, or the answer to an ask that is about this table. Assumes nothing.
 use Rattle.paper.specs.Tree.{store}
-use Rattle.desk.proofs.Ways.{ask-11, ask-here, ask-ready}
+use Rattle.desk.proofs.AnswerToAsk.{ask-11, ask-here, ask-ready}
 use borrow.Author.Needs.{needs}
 use Rattle.desk.proofs.answers.answer_ask.Statement.{statement}
 use Rattle.desk.proofs.answers.answer_ask.Tie as tie

@@ -6,7 +6,7 @@ use lib.ListN.{length}
 use lib.Seq.{length-take-le}
 use Rattle.paper.specs.Tree.{store}
 use Rattle.desk.proofs.Telling.{markable}
-use Rattle.desk.proofs.Ways.{stored-at, here-7, here-stored, here-8, here-page}
+use Rattle.desk.proofs.AnswerToAsk.{stored-at, here-7, here-stored, here-8, here-page}
 use borrow.Author.Needs.{needs}
 use Rattle.desk.proofs.answers.answer_here.Statement.{statement}
 use Rattle.desk.proofs.answers.answer_here.Tie as tie

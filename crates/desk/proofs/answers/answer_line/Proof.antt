@@ -1,6 +1,6 @@
 -- `desk::answers::answer_line` meets its contract: the reader's number, or the answer to its ask. Assumes nothing.
 use Rattle.paper.specs.Tree.{store}
-use Rattle.desk.proofs.Ways.{read-is, line-refused, line-answered}
+use Rattle.desk.proofs.AnswerToAsk.{read-is, line-refused, line-answered}
 use borrow.Author.Needs.{needs}
 use Rattle.desk.proofs.answers.answer_line.Statement.{statement}
 use Rattle.desk.proofs.answers.answer_line.Tie as tie

@@ -10,23 +10,23 @@ use lib.Seq.{take-at}
 use borrow.Author.Needs.{needs}
 use borrow.Author.Tests.{ltb-true, not-true, not-false}
 use Rattle.paper.specs.Limits.{longestAnswer}
-use Rattle.paper.specs.Frames.{frameOf, ended, sound}
+use Rattle.paper.specs.Frames.{frameOf, pairsEnded, isLine}
 use Rattle.paper.proofs.Tests.{and-first}
 use Rattle.digits.specs.Places.{Framed}
-use Rattle.digits.proofs.Laws.{length-frame, held-all, sound-size}
+use Rattle.digits.proofs.NumbersAndFrames.{length-frame, held-all, sound-size}
 use Rattle.digits.proofs.hex.frame_of.Statement.{statement}
 use Rattle.digits.proofs.hex.frame_of.Tie as tie
 
 -- a line that is not sound
-refuses : (l after : List ℕ) → sound l ≡ false → Framed l after 0
+refuses : (l after : List ℕ) → isLine l ≡ false → Framed l after 0
 refuses l after e = record { sure = λ h. absurd (omega arith); none = λ h. e; frame = λ h. absurd (omega arith); few = omega arith }
 
 -- a sound one
-some : (l : List ℕ) → sound l ≡ true → 1 < length l
-unfolding sound
-some l e = ltb-true 1 (length l) (and-first (ltb 1 (length l)) (leb (length l) longestAnswer && ended l) e)
+some : (l : List ℕ) → isLine l ≡ true → 1 < length l
+unfolding isLine
+some l e = ltb-true 1 (length l) (and-first (ltb 1 (length l)) (leb (length l) longestAnswer && pairsEnded l) e)
 
-frames : (l o x : List ℕ) (r : ℕ) → sound l ≡ true → r ≡ length l / 2 → x ≡ frameOf l ++ drop r o → Framed l x r
+frames : (l o x : List ℕ) (r : ℕ) → isLine l ≡ true → r ≡ length l / 2 → x ≡ frameOf l ++ drop r o → Framed l x r
 frames l o x r s e q =
     record {
       sure = λ h. s;

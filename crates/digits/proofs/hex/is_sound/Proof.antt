@@ -5,16 +5,16 @@ use mathlib.Core.List.{List}
 use lib.ListN.{length, getD}
 use borrow.Author.Tests.{le-leb, lt-leb, lt-ltb, le-ltb}
 use borrow.Author.Count.{below-more}
-use Rattle.paper.specs.Frames.{digit, ended, sound}
-use Rattle.digits.proofs.Laws.{ended-even, ended-bad, ended-good}
+use Rattle.paper.specs.Frames.{digit, pairsEnded, isLine}
+use Rattle.digits.proofs.NumbersAndFrames.{ended-even, ended-bad, ended-good}
 use borrow.Author.Needs.{needs}
 use Rattle.digits.proofs.hex.is_sound.Statement.{statement}
 use Rattle.digits.proofs.hex.is_sound.Tie as tie
 use Rattle.paper.specs.Limits.{longestAnswer}
 
 -- a line whose length is in range
-sized : (l : List ℕ) → 2 ≤ length l → length l ≤ longestAnswer → sound l ≡ ended l
-unfolding sound
+sized : (l : List ℕ) → 2 ≤ length l → length l ≤ longestAnswer → isLine l ≡ pairsEnded l
+unfolding isLine
 sized l p q = rw (lt-ltb 1 (length l) (omega arith), le-leb (length l) longestAnswer q)
 
 -- what is known at the loop's test: the characters before i are digits
@@ -23,7 +23,7 @@ record Digits (l : List ℕ) (n last i : ℕ) : Type 0 where
   pub behind : last + 1 ≡ n
   pub even : last % 2 ≡ 0
   pub within : i ≤ last
-  pub said : sound l ≡ ended l
+  pub said : isLine l ≡ pairsEnded l
   pub known : (k : ℕ) → k < i → digit (getD l k 0) < 16
 
 abbrev Inv-loop : tie.InvT-loop
@@ -33,11 +33,11 @@ abbrev μ-loop : tie.MeasureT-loop
 μ-loop line n last i₀ i = last - i
 
 returns : tie.Need-returns Inv-loop μ-loop
-unfolding sound
+unfolding isLine
 returns c = simp (le-ltb 1 (length (c .before .before .args .line .now)) (omega arith))
 
 returns-2 : tie.Need-returns-2 Inv-loop μ-loop
-unfolding sound
+unfolding isLine
 returns-2 c =
     let n = length (c .before .before .before .args .line .now) in
     simp (lt-ltb 1 n (omega arith), lt-leb n longestAnswer (omega arith))

@@ -8,22 +8,22 @@ use lib.ListN.{getD, drop}
 use lib.Seq.{getD-drop}
 use borrow.Author.Needs.{needs}
 use Rattle.paper.specs.Frames.{num}
-use Rattle.digits.specs.Places.{held}
+use Rattle.digits.specs.Places.{frameIn}
 use Rattle.digits.proofs.numbers.number.Statement.{statement}
 use Rattle.digits.proofs.numbers.number.Tie as tie
 
 seven : (i : ℕ) → i < 8 → 256 ^ i ≤ 72057594037927936
 seven i h = pow-le-pow-right {n = 256} (omega arith) {i = i} {j = 7} (omega arith)
 
-step : (s : List ℕ) (at i : ℕ) → num (i + 1) (drop at (held s)) ≡ num i (drop at (held s)) * 256 + getD s (at + i) 0
-unfolding num held
+step : (s : List ℕ) (at i : ℕ) → num (i + 1) (drop at (frameIn s)) ≡ num i (drop at (frameIn s)) * 256 + getD s (at + i) 0
+unfolding num frameIn
 step s at i = rw (add-one, getD-drop)
 
 more : (a b i : ℕ) → a < 256 ^ i → b < 256 → a * 256 + b < 256 ^ (i + 1)
 more a b i h k = rw (add-one, pow-suc) (omega arith)
 
 abbrev Inv-loop : tie.InvT-loop
-Inv-loop src at w acc₀ i₀ acc i = (i ≤ w) × ((acc ≡ num i (drop at (held src))) × (acc < 256 ^ i))
+Inv-loop src at w acc₀ i₀ acc i = (i ≤ w) × ((acc ≡ num i (drop at (frameIn src))) × (acc < 256 ^ i))
 
 abbrev μ-loop : tie.MeasureT-loop
 μ-loop src at w acc₀ i₀ acc i = w - i
@@ -36,11 +36,11 @@ mul-acc : tie.Need-mul-acc Inv-loop μ-loop
 mul-acc c = omega (arith, seven (c .before .loop .i) (omega arith))
 
 add-acc : tie.Need-add-acc Inv-loop μ-loop
-unfolding held
+unfolding frameIn
 add-acc c = omega arith
 
 shared-slice-read-acc : tie.Need-shared-slice-read-acc Inv-loop μ-loop
-unfolding held
+unfolding frameIn
 shared-slice-read-acc c = omega arith
 
 cast-acc : tie.Need-cast-acc Inv-loop μ-loop

@@ -5,14 +5,14 @@ use mathlib.Core.List.{List}
 use lib.ListN.{length, set, length-set}
 use borrow.Author.Needs.{needs}
 use Rattle.paper.specs.Frames.{be, glyph}
-use Rattle.digits.specs.Places.{over}
-use Rattle.digits.proofs.Laws.{over-nil, over-last, length-be}
+use Rattle.digits.specs.Places.{overlaid}
+use Rattle.digits.proofs.NumbersAndFrames.{over-nil, over-last, length-be}
 use Rattle.digits.proofs.numbers.put.Statement.{statement}
 use Rattle.digits.proofs.numbers.put.Tie as tie
 
 -- a turn stores the last byte that is left to write
 step : (o : List ℕ) (at i rest hi lo : ℕ) → 0 < i → 2 * (at + i) ≤ length o → hi ≡ glyph (rest % 256 / 16) → lo ≡ glyph (rest % 256 % 16)
-    → over (set (set o (2 * (at + (i - 1))) hi) (2 * (at + (i - 1)) + 1) lo) at (be (i - 1) (rest / 256)) ≡ over o at (be i rest)
+    → overlaid (set (set o (2 * (at + (i - 1))) hi) (2 * (at + (i - 1)) + 1) lo) at (be (i - 1) (rest / 256)) ≡ overlaid o at (be i rest)
 unfolding be
 step o at zero rest hi lo p h e1 e2 = absurd (omega arith)
 step o at (suc j) rest hi lo p h e1 e2 =
@@ -21,7 +21,7 @@ step o at (suc j) rest hi lo p h e1 e2 =
     rw (e, e1, e2) (sym (over-last o at (be j (rest / 256)) (rest % 256) (2 * (at + j)) (rw l refl) (omega arith)))
 
 abbrev Inv-loop : tie.InvT-loop
-Inv-loop out₀ at w n i₀ rest₀ out i rest = (i ≤ w) × ((length out ≡ length out₀) × (over out at (be i rest) ≡ over out₀ at (be w n)))
+Inv-loop out₀ at w n i₀ rest₀ out i rest = (i ≤ w) × ((length out ≡ length out₀) × (overlaid out at (be i rest) ≡ overlaid out₀ at (be w n)))
 
 abbrev μ-loop : tie.MeasureT-loop
 μ-loop out₀ at w n i₀ rest₀ out i rest = i
@@ -76,7 +76,7 @@ returns c =
     let l = c .before .loop in
     let a = c .before .before .before .args in
     let e : l .i ≡ 0 = omega arith in
-    sym (over-nil (l .out) (a .at)) ∙ ap (λ (k : ℕ). over (l .out) (a .at) (be k (l .rest))) (sym e) ∙ l .inv .1 .1
+    sym (over-nil (l .out) (a .at)) ∙ ap (λ (k : ℕ). overlaid (l .out) (a .at) (be k (l .rest))) (sym e) ∙ l .inv .1 .1
 
 pub put-spec : {M : Type 1} → statement M
 put-spec =

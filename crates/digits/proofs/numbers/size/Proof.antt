@@ -1,11 +1,11 @@
 use mathlib.Core.Path.{refl}
 use Rattle.paper.specs.Frames.{}
-use Rattle.digits.specs.Places.{held}
+use Rattle.digits.specs.Places.{frameIn}
 use Rattle.digits.proofs.numbers.size.Statement.{statement}
 use Rattle.digits.proofs.numbers.size.Tie as tie
 
 returns : tie.Need-returns
-unfolding held
+unfolding frameIn
 returns c = refl
 
 pub size-spec : {M : Type 1} → statement M

@@ -5,9 +5,9 @@ use mathlib.Core.List.{_++_}
 use lib.ListN.{drop, replicate}
 use lib.Seq.{drop-drop}
 use Rattle.paper.specs.Frames.{num}
-use Rattle.digits.specs.Places.{held}
-use Rattle.digits.proofs.Laws.{held-le}
-use Rattle.paper.specs.Fields.{itemsIn, itemPlaces}
+use Rattle.digits.specs.Places.{frameIn}
+use Rattle.digits.proofs.NumbersAndFrames.{held-le}
+use Rattle.paper.specs.Fields.{itemNumbers, itemPlaces}
 use Rattle.fields.proofs.ItemLaws.{places-step}
 use borrow.Author.Needs.{needs}
 use Rattle.fields.proofs.items.items_at.Statement.{statement}
@@ -15,13 +15,13 @@ use Rattle.fields.proofs.items.items_at.Tie as tie
 use Rattle.paper.specs.Limits.{itemRoom}
 
 abbrev Inv-loop : tie.InvT-loop
-Inv-loop src at k found₀ i₀ found i = (i ≤ k) × (found ≡ itemsIn i (drop at (held src)) ++ replicate (itemRoom - 3 * i) 0)
+Inv-loop src at k found₀ i₀ found i = (i ≤ k) × (found ≡ itemNumbers i (drop at (frameIn src)) ++ replicate (itemRoom - 3 * i) 0)
 
 abbrev μ-loop : tie.MeasureT-loop
 μ-loop src at k found₀ i₀ found i = k - i
 
 loop-holds : tie.Need-loop-holds Inv-loop μ-loop
-unfolding itemsIn
+unfolding itemNumbers
 loop-holds c = (search needs, refl)
 
 mul-j : tie.Need-mul-j Inv-loop μ-loop
@@ -82,7 +82,7 @@ loop-again : tie.Need-loop-again Inv-loop μ-loop
 loop-again c =
     let l = c .before .before .before .before .loop in
     let a = c .before .before .before .before .before .before .args in
-    let f = held (a .src .now) in
+    let f = frameIn (a .src .now) in
     let i = l .i in
     let e1 : c .before .before .number .result ≡ num 2 (drop (14 * l .i) (drop (a .at) f)) = c .before .before .number .ensures .value ∙ rw drop-drop in
     let q2 : a .at + 14 * l .i + 2 ≡ a .at + (14 * l .i + 2) = omega arith in

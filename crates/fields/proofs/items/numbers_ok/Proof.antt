@@ -6,17 +6,17 @@ use mathlib.Core.List.{List}
 use lib.ListN.{drop}
 use lib.Seq.{drop-drop}
 use Rattle.paper.specs.Frames.{num}
-use Rattle.paper.specs.Fields.{itemsIn, numbersOk}
-use Rattle.digits.specs.Places.{held}
-use Rattle.digits.proofs.Laws.{held-le}
+use Rattle.paper.specs.Fields.{itemNumbers, numbersOk}
+use Rattle.digits.specs.Places.{frameIn}
+use Rattle.digits.proofs.NumbersAndFrames.{held-le}
 use Rattle.fields.proofs.ItemLaws.{number-more, number-bad}
 use borrow.Author.Needs.{needs}
 use Rattle.fields.proofs.items.numbers_ok.Statement.{statement}
 use Rattle.fields.proofs.items.numbers_ok.Tie as tie
 
 -- none is left, and all are
-none : (k : ℕ) (g : List ℕ) → k ≤ 0 → numbersOk (itemsIn k g) ≡ true
-unfolding itemsIn numbersOk
+none : (k : ℕ) (g : List ℕ) → k ≤ 0 → numbersOk (itemNumbers k g) ≡ true
+unfolding itemNumbers numbersOk
 none zero g h = refl
 none (suc k) g h = absurd (omega arith)
 
@@ -24,7 +24,7 @@ all : (k : ℕ) → k ≡ k - 0
 all k = omega arith
 
 abbrev Inv-loop : tie.InvT-loop
-Inv-loop src at k i₀ i = (i ≤ k) × (numbersOk (itemsIn k (drop at (held src))) ≡ numbersOk (itemsIn (k - i) (drop (14 * i) (drop at (held src)))))
+Inv-loop src at k i₀ i = (i ≤ k) × (numbersOk (itemNumbers k (drop at (frameIn src))) ≡ numbersOk (itemNumbers (k - i) (drop (14 * i) (drop at (frameIn src)))))
 
 abbrev μ-loop : tie.MeasureT-loop
 μ-loop src at k i₀ i = k - i
@@ -45,7 +45,7 @@ returns : tie.Need-returns Inv-loop μ-loop
 returns c =
     let a = c .before .before .before .before .before .args in
     let l = c .before .before .before .loop in
-    let g = drop (a .at) (held (a .src .now)) in
+    let g = drop (a .at) (frameIn (a .src .now)) in
     let v : c .before .number .result ≡ num 2 (drop (14 * l .i) g) = c .before .number .ensures .value ∙ rw drop-drop in
     sym (l .inv .1 ∙ number-bad (a .k) (l .i) g (omega arith) (omega arith))
 
@@ -59,7 +59,7 @@ loop-again : tie.Need-loop-again Inv-loop μ-loop
 loop-again c =
     let a = c .before .before .before .before .before .args in
     let l = c .before .before .before .loop in
-    let g = drop (a .at) (held (a .src .now)) in
+    let g = drop (a .at) (frameIn (a .src .now)) in
     let v : c .before .number .result ≡ num 2 (drop (14 * l .i) g) = c .before .number .ensures .value ∙ rw drop-drop in
     (search needs, l .inv .1 ∙ number-more (a .k) (l .i) g (omega arith) (omega arith))
 

@@ -4,8 +4,8 @@ use native.Mathlib.Nat.{add-zero}
 use mathlib.Core.Path.{_≡_, refl, sym, ap, _∙_}
 use mathlib.Core.List.{List}
 use lib.ListN.{length, drop, drop-of-length-le}
-use Rattle.digits.specs.Places.{over}
-use Rattle.digits.proofs.Laws.{over-nil}
+use Rattle.digits.specs.Places.{overlaid}
+use Rattle.digits.proofs.NumbersAndFrames.{over-nil}
 use Rattle.paper.specs.Fields.{itemBytes}
 use Rattle.fields.proofs.ItemLaws.{item-step}
 use borrow.Author.Needs.{needs}
@@ -13,7 +13,7 @@ use Rattle.fields.proofs.items.put_items.Statement.{statement}
 use Rattle.fields.proofs.items.put_items.Tie as tie
 
 abbrev Inv-loop : tie.InvT-loop
-Inv-loop out₀ at items k i₀ out i = (i ≤ k) × ((length out ≡ length out₀) × (over out (at + 14 * i) (itemBytes (drop (3 * i) items)) ≡ over out₀ at (itemBytes items)))
+Inv-loop out₀ at items k i₀ out i = (i ≤ k) × ((length out ≡ length out₀) × (overlaid out (at + 14 * i) (itemBytes (drop (3 * i) items)) ≡ overlaid out₀ at (itemBytes items)))
 
 abbrev μ-loop : tie.MeasureT-loop
 μ-loop out₀ at items k i₀ out i = k - i
@@ -84,7 +84,7 @@ returns c =
     let l = c .before .loop in
     let a = c .before .before .before .before .args in
     sym (over-nil (l .out) (a .at + 14 * l .i))
-    ∙ ap (λ (ns : List ℕ). over (l .out) (a .at + 14 * l .i) (itemBytes ns)) (sym (drop-of-length-le (a .items .now) {i = 3 * l .i} (omega arith)))
+    ∙ ap (λ (ns : List ℕ). overlaid (l .out) (a .at + 14 * l .i) (itemBytes ns)) (sym (drop-of-length-le (a .items .now) {i = 3 * l .i} (omega arith)))
     ∙ l .inv .1 .1
 
 pub put-items-spec : {M : Type 1} → statement M

@@ -10,15 +10,15 @@ use mir.Val.{ofZ}
 use mir.Facts.{toZ-ofZ}
 use borrow.Author.Needs.{needs}
 use Rattle.paper.specs.Frames.{be}
-use Rattle.digits.specs.Places.{over}
-use Rattle.digits.proofs.Laws.{over-nil}
+use Rattle.digits.specs.Places.{overlaid}
+use Rattle.digits.proofs.NumbersAndFrames.{over-nil}
 use Rattle.paper.specs.Fields.{coordBytes}
 use Rattle.fields.proofs.PartLaws.{coord-step}
 use Rattle.fields.proofs.parts.put_coords.Statement.{statement}
 use Rattle.fields.proofs.parts.put_coords.Tie as tie
 
 abbrev Inv-loop : tie.InvT-loop
-Inv-loop out₀ at coords i₀ out i = (i ≤ length coords) × ((length out ≡ length out₀) × (over out (at + 4 * i) (coordBytes (drop i coords)) ≡ over out₀ at (coordBytes coords)))
+Inv-loop out₀ at coords i₀ out i = (i ≤ length coords) × ((length out ≡ length out₀) × (overlaid out (at + 4 * i) (coordBytes (drop i coords)) ≡ overlaid out₀ at (coordBytes coords)))
 
 abbrev μ-loop : tie.MeasureT-loop
 μ-loop out₀ at coords i₀ out i = length coords - i
@@ -61,7 +61,7 @@ loop-again c =
     let z = getD (a .coords .now) (l .i) (pos 0) in
     let e : c .before .before .before .pattern .result ≡ ofZ w32 z =
     c .before .before .before .pattern .ensures ∙ ap (ofZ w32) (toZ-ofZ {w = w32} {z = z} (record { sfits = c .before .before .before .before .pattern-arg .given })) in
-    let p : o ≡ over (l .out) (a .at + 4 * l .i) (be 4 (ofZ w32 z)) = c .before .before .put .ensures ∙ ap (λ (k : ℕ). over (l .out) (a .at + 4 * l .i) (be 4 k)) e in (
+    let p : o ≡ overlaid (l .out) (a .at + 4 * l .i) (be 4 (ofZ w32 z)) = c .before .before .put .ensures ∙ ap (λ (k : ℕ). overlaid (l .out) (a .at + 4 * l .i) (be 4 k)) e in (
       search needs,
       (
         search needs,
@@ -78,7 +78,7 @@ returns c =
     let l = c .before .loop in
     let a = c .before .before .before .args in
     let e : l .i ≡ length (a .coords .now) = omega arith in
-    sym (over-nil (l .out) (a .at + 4 * l .i)) ∙ ap (λ (cs : List ℤ). over (l .out) (a .at + 4 * l .i) (coordBytes cs)) (sym (drop-of-length-le (a .coords .now) {i = l .i} (omega arith))) ∙ l .inv .1 .1
+    sym (over-nil (l .out) (a .at + 4 * l .i)) ∙ ap (λ (cs : List ℤ). overlaid (l .out) (a .at + 4 * l .i) (coordBytes cs)) (sym (drop-of-length-le (a .coords .now) {i = l .i} (omega arith))) ∙ l .inv .1 .1
 
 pub put-coords-spec : {M : Type 1} → statement M
 put-coords-spec =

@@ -1,6 +1,6 @@
 use native.Mathlib.Omega.{arith}
 use lib.Seq.{drop-drop}
-use Rattle.digits.proofs.Laws.{held-le}
+use Rattle.digits.proofs.NumbersAndFrames.{held-le}
 use Rattle.paper.specs.Fields.{scopeIn}
 use borrow.Author.Needs.{needs}
 use Rattle.fields.proofs.parts.scope_at.Statement.{statement}

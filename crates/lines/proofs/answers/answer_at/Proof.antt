@@ -6,19 +6,19 @@ use lib.ListN.{drop}
 use Rattle.paper.specs.declared.queries.Query as queries
 use Rattle.paper.specs.Frames.{num}
 use Rattle.paper.specs.Lines.{queryAt, countIn}
-use Rattle.digits.specs.Places.{held}
+use Rattle.digits.specs.Places.{frameIn}
 use Rattle.lines.proofs.Tests.{is-answer, answer-begun, answer-value, count-at}
 use borrow.Author.Needs.{needs}
 use Rattle.lines.proofs.answers.answer_at.Statement.{statement}
 use Rattle.lines.proofs.answers.answer_at.Tie as tie
 
 query-at-requires : tie.Need-query-at-requires
-query-at-requires c κs = answer-begun (c .before .pre .kind) (held (c .before .args .src .now)) (c .before .pre .test)
+query-at-requires c κs = answer-begun (c .before .pre .kind) (frameIn (c .before .args .src .now)) (c .before .pre .test)
 
 mul-at : tie.Need-mul-at
 unfolding queryAt
 mul-at c =
-    let f = held (c .before .before .before .args .src .now) in
+    let f = frameIn (c .before .before .before .args .src .now) in
     let w = is-answer (c .before .before .before .pre .kind) f (c .before .before .before .pre .test) in
     let e : c .before .query-at .result .d ≡ num 1 (drop 6 f) = ap (λ (x : queries.Query). x .d) (c .before .query-at .ensures) in
     omega (arith, w .headed .range .narrow)
@@ -26,7 +26,7 @@ mul-at c =
 add-at : tie.Need-add-at
 unfolding queryAt
 add-at c =
-    let f = held (c .before .before .before .args .src .now) in
+    let f = frameIn (c .before .before .before .args .src .now) in
     let w = is-answer (c .before .before .before .pre .kind) f (c .before .before .before .pre .test) in
     let e : c .before .query-at .result .d ≡ num 1 (drop 6 f) = ap (λ (x : queries.Query). x .d) (c .before .query-at .ensures) in
     omega (arith, w .headed .range .narrow)
@@ -37,7 +37,7 @@ sub-scope-at c = search needs
 scope-at-requires : tie.Need-scope-at-requires
 unfolding queryAt
 scope-at-requires c κs =
-    let f = held (c .before .before .before .args .src .now) in
+    let f = frameIn (c .before .before .before .args .src .now) in
     let w = is-answer (c .before .before .before .pre .kind) f (c .before .before .before .pre .test) in
     let e : c .before .query-at .result .d ≡ num 1 (drop 6 f) = ap (λ (x : queries.Query). x .d) (c .before .query-at .ensures) in
     omega arith
@@ -45,7 +45,7 @@ scope-at-requires c κs =
 add-number : tie.Need-add-number
 unfolding queryAt
 add-number c =
-    let f = held (c .before .before .before .before .args .src .now) in
+    let f = frameIn (c .before .before .before .before .args .src .now) in
     let w = is-answer (c .before .before .before .before .pre .kind) f (c .before .before .before .before .pre .test) in
     let e : c .before .before .query-at .result .d ≡ num 1 (drop 6 f) = ap (λ (x : queries.Query). x .d) (c .before .before .query-at .ensures) in
     omega (arith, w .headed .range .narrow)
@@ -53,7 +53,7 @@ add-number c =
 number-requires : tie.Need-number-requires
 unfolding queryAt
 number-requires c κs =
-    let f = held (c .before .before .before .before .args .src .now) in
+    let f = frameIn (c .before .before .before .before .args .src .now) in
     let w = is-answer (c .before .before .before .before .pre .kind) f (c .before .before .before .before .pre .test) in
     let e : c .before .before .query-at .result .d ≡ num 1 (drop 6 f) = ap (λ (x : queries.Query). x .d) (c .before .before .query-at .ensures) in
     omega arith
@@ -61,7 +61,7 @@ number-requires c κs =
 add-items-at : tie.Need-add-items-at
 unfolding queryAt
 add-items-at c =
-    let f = held (c .before .before .before .before .before .args .src .now) in
+    let f = frameIn (c .before .before .before .before .before .args .src .now) in
     let w = is-answer (c .before .before .before .before .before .pre .kind) f (c .before .before .before .before .before .pre .test) in
     let e : c .before .before .before .query-at .result .d ≡ num 1 (drop 6 f) = ap (λ (x : queries.Query). x .d) (c .before .before .before .query-at .ensures) in
     omega (arith, w .headed .range .narrow)
@@ -69,7 +69,7 @@ add-items-at c =
 items-at-requires : tie.Need-items-at-requires
 unfolding queryAt
 items-at-requires c κs =
-    let f = held (c .before .before .before .before .before .args .src .now) in
+    let f = frameIn (c .before .before .before .before .before .args .src .now) in
     let w = is-answer (c .before .before .before .before .before .pre .kind) f (c .before .before .before .before .before .pre .test) in
     let e : c .before .before .before .query-at .result .d ≡ num 1 (drop 6 f) = ap (λ (x : queries.Query). x .d) (c .before .before .before .query-at .ensures) in
     let q : countIn f ≡ c .number .result = count-at f (28 + 4 * c .before .before .before .query-at .result .d) (omega arith) ∙ sym (c .number .ensures .value) in
@@ -78,7 +78,7 @@ items-at-requires c κs =
 number-requires-2 : tie.Need-number-requires-2
 unfolding queryAt
 number-requires-2 c κs =
-    let f = held (c .before .before .before .before .before .before .args .src .now) in
+    let f = frameIn (c .before .before .before .before .before .before .args .src .now) in
     let w = is-answer (c .before .before .before .before .before .before .pre .kind) f (c .before .before .before .before .before .before .pre .test) in
     let e : c .before .before .before .before .query-at .result .d ≡ num 1 (drop 6 f) = ap (λ (x : queries.Query). x .d) (c .before .before .before .before .query-at .ensures) in
     omega arith
@@ -91,7 +91,7 @@ cast-t12 c = search needs
 
 returns : tie.Need-returns
 returns c =
-    answer-value (c .before .before .before .before .before .before .before .args .order) (held (c .before .before .before .before .before .before .before .args .src .now)) (c .before .before .before .before .before .query-at .result) _ _ (c .number2 .result) (c .before .before .number .result) _ (c .before .before .before .before .before .query-at .ensures) refl (c .before .before .before .scope-at .ensures) (c .number2 .ensures .value) (c .before .before .number .ensures .value) (c .before .items-at .ensures)
+    answer-value (c .before .before .before .before .before .before .before .args .order) (frameIn (c .before .before .before .before .before .before .before .args .src .now)) (c .before .before .before .before .before .query-at .result) _ _ (c .number2 .result) (c .before .before .number .result) _ (c .before .before .before .before .before .query-at .ensures) refl (c .before .before .before .scope-at .ensures) (c .number2 .ensures .value) (c .before .before .number .ensures .value) (c .before .items-at .ensures)
 
 pub answer-at-spec : {M : Type 1} → statement M
 answer-at-spec =

@@ -2,7 +2,7 @@ use Prim.Native.Nat.{_+_, _*_}
 use native.Mathlib.Omega.{arith}
 use mathlib.Core.Path.{_≡_, sym, _∙_}
 use Rattle.paper.specs.Lines.{answerOk, countIn}
-use Rattle.digits.specs.Places.{held}
+use Rattle.digits.specs.Places.{frameIn}
 use Rattle.paper.proofs.Tests.{refuted}
 use Rattle.lines.proofs.Tests.{is-answer, answer-rule, count-at}
 use borrow.Author.Needs.{needs}
@@ -14,7 +14,7 @@ size-requires c κs = search needs
 
 returns : tie.Need-returns
 returns c =
-    let f = held (c .before .before .before .args .src .now) in
+    let f = frameIn (c .before .before .before .args .src .now) in
     sym (refuted (answerOk (c .before .before .before .args .kind) f) (λ e. let p = is-answer (c .before .before .before .args .kind) f e in omega arith))
 
 head-ok-requires : tie.Need-head-ok-requires
@@ -34,7 +34,7 @@ add-if3 c = search needs
 
 returns-2 : tie.Need-returns-2
 returns-2 c =
-    let f = held (c .before .before .before .before .before .before .before .args .src .now) in
+    let f = frameIn (c .before .before .before .before .before .before .before .args .src .now) in
     sym (refuted (answerOk (c .before .before .before .before .before .before .before .args .kind) f) (λ e. let p = is-answer (c .before .before .before .before .before .before .before .args .kind) f e in omega arith))
 
 add-number : tie.Need-add-number
@@ -57,13 +57,13 @@ tail-ok-requires c κs = search needs
 
 returns-3 : tie.Need-returns-3
 returns-3 c =
-    let f = held (c .before .before .before .before .before .before .before .before .before .before .args .src .now) in
+    let f = frameIn (c .before .before .before .before .before .before .before .before .before .before .args .src .now) in
     c .tail-ok .ensures
     ∙ sym (answer-rule (c .before .before .before .before .before .before .before .before .before .before .args .kind) f (28 + 4 * c .before .before .before .before .number .result) (c .before .before .number2 .result) (sym (c .before .before .before .before .before .before .head-ok .ensures) ∙ c .before .before .before .before .before .if2 .taken) (omega arith) (c .before .before .number2 .ensures .value) (omega arith))
 
 returns-4 : tie.Need-returns-4
 returns-4 c =
-    let f = held (c .before .before .before .before .before .before .before .before .before .args .src .now) in
+    let f = frameIn (c .before .before .before .before .before .before .before .before .before .args .src .now) in
     sym (refuted (answerOk (c .before .before .before .before .before .before .before .before .before .args .kind) f) (λ e.
     let p = is-answer (c .before .before .before .before .before .before .before .before .before .args .kind) f e in
     let q : countIn f ≡ c .before .number2 .result = count-at f (28 + 4 * c .before .before .before .number .result) (omega arith) ∙ sym (c .before .number2 .ensures .value) in

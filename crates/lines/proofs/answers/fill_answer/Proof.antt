@@ -7,10 +7,10 @@ use lib.Seq.{length-take-le}
 use Rattle.paper.specs.Orders.{queryIn}
 use Rattle.paper.specs.Fields.{front}
 use Rattle.paper.specs.Lines.{answerKind, answerFrame}
-use Rattle.digits.specs.Places.{over}
-use Rattle.digits.proofs.Laws.{length-line}
+use Rattle.digits.specs.Places.{overlaid}
+use Rattle.digits.proofs.NumbersAndFrames.{length-line}
 use Rattle.fields.proofs.PartLaws.{over-to, length-front}
-use Rattle.lines.proofs.Ways.{finish}
+use Rattle.lines.proofs.WritersReaders.{finish}
 use Rattle.lines.proofs.Tests.{length-answer}
 use borrow.Author.Needs.{needs}
 use Rattle.lines.proofs.answers.fill_answer.Statement.{statement}
@@ -66,8 +66,8 @@ returns c =
     let lb = length-front (answerKind (a .q .order)) q (a .p) in
     let l = length-answer q (a .p) (a .last) (a .count) (a .items .now) (c .before .before .before .before .before .before .before .before .before .before .before .pre .1 .0) in
     let ll = length-line f in
-    let w : c .before .before .before .before .before .before .put-front .last .0 ≡ over (a .out .now) 0 b = c .before .before .before .before .before .before .put-front .ensures ∙ ap (λ (k : ℕ). over (a .out .now) 0 (front k q (a .p))) (c .before .before .before .before .before .before .before .answer-kind .ensures) in
-    let e : c .before .before .put-tail .last .0 ≡ over (a .out .now) 0 f =
+    let w : c .before .before .before .before .before .before .put-front .last .0 ≡ overlaid (a .out .now) 0 b = c .before .before .before .before .before .before .put-front .ensures ∙ ap (λ (k : ℕ). overlaid (a .out .now) 0 (front k q (a .p))) (c .before .before .before .before .before .before .before .answer-kind .ensures) in
+    let e : c .before .before .put-tail .last .0 ≡ overlaid (a .out .now) 0 f =
     c .before .before .put-tail .ensures ∙ sym (over-to (a .out .now) (c .before .before .before .before .before .before .put-front .last .0) 0 (28 + 4 * a .q .d) b _ (omega arith) (omega arith) w) in
     (omega arith, rw e (finish (a .out .now) f (60 + 8 * a .q .d + 28 * a .count) (omega arith) (omega arith)))
 

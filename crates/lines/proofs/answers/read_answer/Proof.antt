@@ -2,10 +2,10 @@
 use mathlib.Core.Path.{_≡_, sym, ap, _∙_}
 use native.Mathlib.Omega.{arith}
 use lib.ListN.{take, length-take}
-use Rattle.digits.specs.Places.{held}
-use Rattle.lines.proofs.Ways.{way-9, way-10, way-read}
+use Rattle.digits.specs.Places.{frameIn}
+use Rattle.lines.proofs.WritersReaders.{way-9, way-10, way-read}
 use Prim.Native.Nat.{ℕ}
-use Rattle.paper.specs.Lines.{answerKind, answerOf, answerOk, answerAt, anAnswer, noAnswer}
+use Rattle.paper.specs.Lines.{answerKind, readAsAnswer, answerOk, answerAt, anAnswer, noAnswer}
 use borrow.Author.Needs.{needs}
 use Rattle.lines.proofs.answers.read_answer.Statement.{statement}
 use Rattle.lines.proofs.answers.read_answer.Tie as tie
@@ -20,7 +20,7 @@ no-answer-requires : tie.Need-no-answer-requires
 no-answer-requires c κs = search needs
 
 returns : tie.Need-returns
-unfolding answerOf
+unfolding readAsAnswer
 returns c = c .no-answer .ensures ∙ way-9 (answerOk (answerKind (c .before .before .before .before .before .before .args .order))) (λ f. anAnswer (answerAt (c .before .before .before .before .before .before .args .order) f)) noAnswer (c .before .before .before .before .before .before .args .line .now) (c .before .before .before .frame-of .last .1 .0) (c .before .before .before .frame-of .result) (c .before .before .before .frame-of .ensures) (c .before .if1 .taken)
 
 array-share-prefix-frame : tie.Need-array-share-prefix-frame
@@ -39,15 +39,15 @@ answer-at-requires : tie.Need-answer-at-requires
 answer-at-requires c κs = record { kind = c .before .before .answer-kind .result; test = sym (c .before .answer-ok .ensures) ∙ c .if2 .taken }
 
 returns-2 : tie.Need-returns-2
-unfolding answerOf anAnswer
-returns-2 c = ap anAnswer (c .answer-at .ensures) ∙ way-read (answerOk (answerKind (c .before .before .before .before .before .before .before .before .before .before .args .order))) (λ f. anAnswer (answerAt (c .before .before .before .before .before .before .before .before .before .before .args .order) f)) noAnswer (c .before .before .before .before .before .before .before .before .before .before .args .line .now) (c .before .before .before .before .before .before .before .frame-of .last .1 .0) (c .before .before .before .before .before .before .before .frame-of .result) (c .before .before .before .before .before .before .before .frame-of .ensures) (c .before .before .before .before .before .if1 .left) (sym (c .before .before .answer-ok .ensures ∙ ap (λ (k : ℕ). answerOk k (held (take (c .before .before .before .before .before .before .before .frame-of .result) (c .before .before .before .before .before .before .before .frame-of .last .1 .0)))) (c .before .before .before .answer-kind .ensures)) ∙ c .before .if2 .taken)
+unfolding readAsAnswer anAnswer
+returns-2 c = ap anAnswer (c .answer-at .ensures) ∙ way-read (answerOk (answerKind (c .before .before .before .before .before .before .before .before .before .before .args .order))) (λ f. anAnswer (answerAt (c .before .before .before .before .before .before .before .before .before .before .args .order) f)) noAnswer (c .before .before .before .before .before .before .before .before .before .before .args .line .now) (c .before .before .before .before .before .before .before .frame-of .last .1 .0) (c .before .before .before .before .before .before .before .frame-of .result) (c .before .before .before .before .before .before .before .frame-of .ensures) (c .before .before .before .before .before .if1 .left) (sym (c .before .before .answer-ok .ensures ∙ ap (λ (k : ℕ). answerOk k (frameIn (take (c .before .before .before .before .before .before .before .frame-of .result) (c .before .before .before .before .before .before .before .frame-of .last .1 .0)))) (c .before .before .before .answer-kind .ensures)) ∙ c .before .if2 .taken)
 
 no-answer-requires-2 : tie.Need-no-answer-requires-2
 no-answer-requires-2 c κs = search needs
 
 returns-3 : tie.Need-returns-3
-unfolding answerOf
-returns-3 c = c .no-answer2 .ensures ∙ way-10 (answerOk (answerKind (c .before .before .before .before .before .before .before .before .before .before .args .order))) (λ f. anAnswer (answerAt (c .before .before .before .before .before .before .before .before .before .before .args .order) f)) noAnswer (c .before .before .before .before .before .before .before .before .before .before .args .line .now) (c .before .before .before .before .before .before .before .frame-of .last .1 .0) (c .before .before .before .before .before .before .before .frame-of .result) (c .before .before .before .before .before .before .before .frame-of .ensures) (c .before .before .before .before .before .if1 .left) (sym (c .before .before .answer-ok .ensures ∙ ap (λ (k : ℕ). answerOk k (held (take (c .before .before .before .before .before .before .before .frame-of .result) (c .before .before .before .before .before .before .before .frame-of .last .1 .0)))) (c .before .before .before .answer-kind .ensures)) ∙ c .before .if2 .left)
+unfolding readAsAnswer
+returns-3 c = c .no-answer2 .ensures ∙ way-10 (answerOk (answerKind (c .before .before .before .before .before .before .before .before .before .before .args .order))) (λ f. anAnswer (answerAt (c .before .before .before .before .before .before .before .before .before .before .args .order) f)) noAnswer (c .before .before .before .before .before .before .before .before .before .before .args .line .now) (c .before .before .before .before .before .before .before .frame-of .last .1 .0) (c .before .before .before .before .before .before .before .frame-of .result) (c .before .before .before .before .before .before .before .frame-of .ensures) (c .before .before .before .before .before .if1 .left) (sym (c .before .before .answer-ok .ensures ∙ ap (λ (k : ℕ). answerOk k (frameIn (take (c .before .before .before .before .before .before .before .frame-of .result) (c .before .before .before .before .before .before .before .frame-of .last .1 .0)))) (c .before .before .before .answer-kind .ensures)) ∙ c .before .if2 .left)
 
 pub read-answer-spec : {M : Type 1} → statement M
 read-answer-spec =

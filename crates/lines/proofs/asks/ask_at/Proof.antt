@@ -6,25 +6,25 @@ use lib.ListN.{drop}
 use Rattle.paper.specs.declared.queries.Query as queries
 use Rattle.paper.specs.Frames.{num}
 use Rattle.paper.specs.Lines.{askKind, askOrder, queryAt}
-use Rattle.digits.specs.Places.{held}
+use Rattle.digits.specs.Places.{frameIn}
 use Rattle.lines.proofs.Tests.{any-ask, ask-begun, ask-value}
 use borrow.Author.Needs.{needs}
 use Rattle.lines.proofs.asks.ask_at.Statement.{statement}
 use Rattle.lines.proofs.asks.ask_at.Tie as tie
 
 kind-requires : tie.Need-kind-requires
-kind-requires c κs = let w = any-ask (held (c .before .args .src .now)) (c .before .pre) in omega arith
+kind-requires c κs = let w = any-ask (frameIn (c .before .args .src .now)) (c .before .pre) in omega arith
 
 ask-order-requires : tie.Need-ask-order-requires
 ask-order-requires c κs = search needs
 
 query-at-requires : tie.Need-query-at-requires
-query-at-requires c κs = let f = held (c .before .before .before .args .src .now) in ask-begun (askKind (askOrder (num 1 f))) f (any-ask f (c .before .before .before .pre))
+query-at-requires c κs = let f = frameIn (c .before .before .before .args .src .now) in ask-begun (askKind (askOrder (num 1 f))) f (any-ask f (c .before .before .before .pre))
 
 mul-at : tie.Need-mul-at
 unfolding queryAt
 mul-at c =
-    let f = held (c .before .before .before .before .before .args .src .now) in
+    let f = frameIn (c .before .before .before .before .before .args .src .now) in
     let w = any-ask f (c .before .before .before .before .before .pre) in
     let e : c .before .query-at .result .d ≡ num 1 (drop 6 f) = ap (λ (x : queries.Query). x .d) (c .before .query-at .ensures) in
     omega (arith, w .headed .range .narrow)
@@ -32,7 +32,7 @@ mul-at c =
 add-at : tie.Need-add-at
 unfolding queryAt
 add-at c =
-    let f = held (c .before .before .before .before .before .args .src .now) in
+    let f = frameIn (c .before .before .before .before .before .args .src .now) in
     let w = any-ask f (c .before .before .before .before .before .pre) in
     let e : c .before .query-at .result .d ≡ num 1 (drop 6 f) = ap (λ (x : queries.Query). x .d) (c .before .query-at .ensures) in
     omega (arith, w .headed .range .narrow)
@@ -40,7 +40,7 @@ add-at c =
 scope-at-requires : tie.Need-scope-at-requires
 unfolding queryAt
 scope-at-requires c κs =
-    let f = held (c .before .before .before .before .before .args .src .now) in
+    let f = frameIn (c .before .before .before .before .before .args .src .now) in
     let w = any-ask f (c .before .before .before .before .before .pre) in
     let e : c .before .query-at .result .d ≡ num 1 (drop 6 f) = ap (λ (x : queries.Query). x .d) (c .before .query-at .ensures) in
     omega arith
@@ -48,7 +48,7 @@ scope-at-requires c κs =
 add-number : tie.Need-add-number
 unfolding queryAt
 add-number c =
-    let f = held (c .before .before .before .before .before .before .args .src .now) in
+    let f = frameIn (c .before .before .before .before .before .before .args .src .now) in
     let w = any-ask f (c .before .before .before .before .before .before .pre) in
     let e : c .before .before .query-at .result .d ≡ num 1 (drop 6 f) = ap (λ (x : queries.Query). x .d) (c .before .before .query-at .ensures) in
     omega (arith, w .headed .range .narrow)
@@ -56,7 +56,7 @@ add-number c =
 number-requires : tie.Need-number-requires
 unfolding queryAt
 number-requires c κs =
-    let f = held (c .before .before .before .before .before .before .args .src .now) in
+    let f = frameIn (c .before .before .before .before .before .before .args .src .now) in
     let w = any-ask f (c .before .before .before .before .before .before .pre) in
     let e : c .before .before .query-at .result .d ≡ num 1 (drop 6 f) = ap (λ (x : queries.Query). x .d) (c .before .before .query-at .ensures) in
     omega arith
@@ -66,7 +66,7 @@ cast-t8 c = search needs
 
 returns : tie.Need-returns
 returns c =
-    let f = held (c .before .before .before .before .before .before .before .args .src .now) in
+    let f = frameIn (c .before .before .before .before .before .before .before .args .src .now) in
     ask-value f (c .before .before .before .query-at .result) _ _ (c .number .result) (c .before .before .before .query-at .ensures ∙ rw (c .before .before .before .before .ask-order .ensures, c .before .before .before .before .before .kind .ensures)) refl (c .before .scope-at .ensures) (c .number .ensures .value)
 
 pub ask-at-spec : {M : Type 1} → statement M

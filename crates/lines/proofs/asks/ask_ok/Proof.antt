@@ -3,7 +3,7 @@ use native.Mathlib.Omega.{arith}
 use mathlib.Core.Path.{sym, ap, _∙_}
 use Rattle.paper.specs.declared.orders.Order.{Order}
 use Rattle.paper.specs.Lines.{askKind, askOrder, askOk, isAsk}
-use Rattle.digits.specs.Places.{held}
+use Rattle.digits.specs.Places.{frameIn}
 use Rattle.paper.proofs.Tests.{refuted}
 use Rattle.lines.proofs.Tests.{any-ask}
 use borrow.Author.Needs.{needs}
@@ -15,7 +15,7 @@ size-requires c κs = search needs
 
 returns : tie.Need-returns
 returns c =
-    let f = held (c .before .before .before .args .src .now) in
+    let f = frameIn (c .before .before .before .args .src .now) in
     sym (refuted (isAsk f) (λ e. let w = any-ask f e in omega arith))
 
 kind-requires : tie.Need-kind-requires

@@ -1,7 +1,7 @@
 use native.Mathlib.Omega.{arith}
 use mathlib.Core.Path.{sym, _∙_}
 use Rattle.paper.specs.Lines.{askOk}
-use Rattle.digits.specs.Places.{held}
+use Rattle.digits.specs.Places.{frameIn}
 use Rattle.paper.proofs.Tests.{refuted}
 use Rattle.lines.proofs.Tests.{is-ask, ask-rule}
 use borrow.Author.Needs.{needs}
@@ -13,7 +13,7 @@ size-requires c κs = search needs
 
 returns : tie.Need-returns
 returns c =
-    let f = held (c .before .before .before .args .src .now) in
+    let f = frameIn (c .before .before .before .args .src .now) in
     sym (refuted (askOk (c .before .before .before .args .kind) f) (λ e. let p = is-ask (c .before .before .before .args .kind) f e in omega arith))
 
 head-ok-requires : tie.Need-head-ok-requires
@@ -48,13 +48,13 @@ ask-ranges-requires c κs = search needs
 
 returns-2 : tie.Need-returns-2
 returns-2 c =
-    let f = held (c .before .before .before .before .before .before .before .before .before .before .args .src .now) in
+    let f = frameIn (c .before .before .before .before .before .before .before .before .before .before .args .src .now) in
     rw (ask-rule (c .before .before .before .before .before .before .before .before .before .before .args .kind) f (c .before .before .before .before .number .result) (sym (c .before .before .before .before .before .before .head-ok .ensures) ∙ c .before .before .before .before .before .if2 .taken) (c .before .before .before .before .number .ensures .value) (omega arith), ← c .before .before .scope-at .ensures, ← c .before .number2 .ensures .value)
     (c .ask-ranges .ensures)
 
 returns-3 : tie.Need-returns-3
 returns-3 c =
-    let f = held (c .before .before .before .before .before .before .before .args .src .now) in
+    let f = frameIn (c .before .before .before .before .before .before .before .args .src .now) in
     sym (refuted (askOk (c .before .before .before .before .before .before .before .args .kind) f) (λ e. let p = is-ask (c .before .before .before .before .before .before .before .args .kind) f e in c .if3 .left (omega arith)))
 
 returns-4 : tie.Need-returns-4

@@ -2,8 +2,8 @@
 use mathlib.Core.Path.{_≡_, sym, ap, _∙_}
 use native.Mathlib.Omega.{arith}
 use lib.ListN.{length-take}
-use Rattle.lines.proofs.Ways.{way-9, way-10, way-read}
-use Rattle.paper.specs.Lines.{askOf, isAsk, askAt, anAsk, noAsk}
+use Rattle.lines.proofs.WritersReaders.{way-9, way-10, way-read}
+use Rattle.paper.specs.Lines.{readAsAsk, isAsk, askAt, anAsk, noAsk}
 use borrow.Author.Needs.{needs}
 use Rattle.lines.proofs.asks.read_ask.Statement.{statement}
 use Rattle.lines.proofs.asks.read_ask.Tie as tie
@@ -18,7 +18,7 @@ no-ask-requires : tie.Need-no-ask-requires
 no-ask-requires c κs = search needs
 
 returns : tie.Need-returns
-unfolding askOf
+unfolding readAsAsk
 returns c = c .no-ask .ensures ∙ way-9 isAsk (λ f. anAsk (askAt f)) noAsk (c .before .before .before .before .before .before .args .line .now) (c .before .before .before .frame-of .last .1 .0) (c .before .before .before .frame-of .result) (c .before .before .before .frame-of .ensures) (c .before .if1 .taken)
 
 array-share-prefix-frame : tie.Need-array-share-prefix-frame
@@ -34,14 +34,14 @@ ask-at-requires : tie.Need-ask-at-requires
 ask-at-requires c κs = sym (c .before .ask-ok .ensures) ∙ c .if2 .taken
 
 returns-2 : tie.Need-returns-2
-unfolding askOf anAsk
+unfolding readAsAsk anAsk
 returns-2 c = ap anAsk (c .ask-at .ensures) ∙ way-read isAsk (λ f. anAsk (askAt f)) noAsk (c .before .before .before .before .before .before .before .before .before .args .line .now) (c .before .before .before .before .before .before .frame-of .last .1 .0) (c .before .before .before .before .before .before .frame-of .result) (c .before .before .before .before .before .before .frame-of .ensures) (c .before .before .before .before .if1 .left) (sym (c .before .before .ask-ok .ensures) ∙ c .before .if2 .taken)
 
 no-ask-requires-2 : tie.Need-no-ask-requires-2
 no-ask-requires-2 c κs = search needs
 
 returns-3 : tie.Need-returns-3
-unfolding askOf
+unfolding readAsAsk
 returns-3 c = c .no-ask2 .ensures ∙ way-10 isAsk (λ f. anAsk (askAt f)) noAsk (c .before .before .before .before .before .before .before .before .before .args .line .now) (c .before .before .before .before .before .before .frame-of .last .1 .0) (c .before .before .before .before .before .before .frame-of .result) (c .before .before .before .before .before .before .frame-of .ensures) (c .before .before .before .before .if1 .left) (sym (c .before .before .ask-ok .ensures) ∙ c .before .if2 .left)
 
 pub read-ask-spec : {M : Type 1} → statement M

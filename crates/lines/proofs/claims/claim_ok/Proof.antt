@@ -1,7 +1,7 @@
 use native.Mathlib.Omega.{arith}
 use mathlib.Core.Path.{sym}
 use Rattle.paper.specs.Lines.{claimOk}
-use Rattle.digits.specs.Places.{held}
+use Rattle.digits.specs.Places.{frameIn}
 use Rattle.paper.proofs.Tests.{refuted}
 use Rattle.lines.proofs.Tests.{is-claim}
 use borrow.Author.Needs.{needs}
@@ -13,7 +13,7 @@ size-requires c κs = search needs
 
 returns : tie.Need-returns
 returns c =
-    let f = held (c .before .before .before .args .src .now) in
+    let f = frameIn (c .before .before .before .args .src .now) in
     sym (refuted (claimOk f) (λ e. let p = is-claim f e in omega arith))
 
 head-ok-requires : tie.Need-head-ok-requires

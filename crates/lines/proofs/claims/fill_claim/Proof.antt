@@ -4,10 +4,10 @@ use mathlib.Core.Path.{_≡_, sym, _∙_}
 use lib.ListN.{length, length-set}
 use Rattle.paper.specs.Fields.{head}
 use Rattle.paper.specs.Lines.{claimFrame}
-use Rattle.digits.specs.Places.{over}
-use Rattle.digits.proofs.Laws.{length-line}
+use Rattle.digits.specs.Places.{overlaid}
+use Rattle.digits.proofs.NumbersAndFrames.{length-line}
 use Rattle.fields.proofs.PartLaws.{over-be, over-to, length-head}
-use Rattle.lines.proofs.Ways.{finish}
+use Rattle.lines.proofs.WritersReaders.{finish}
 use Rattle.lines.proofs.Tests.{length-claim}
 use borrow.Author.Needs.{needs}
 use Rattle.lines.proofs.claims.fill_claim.Statement.{statement}
@@ -48,7 +48,7 @@ returns c =
     let lh = length-head 3 (a .table) (a .measure) (a .d) in
     let l = length-claim (a .table) (a .measure) (a .d) (a .reference) cs in
     let ll = length-line f in
-    let e : c .before .before .put-coords .last .0 ≡ over (a .out .now) 0 f =
+    let e : c .before .before .put-coords .last .0 ≡ overlaid (a .out .now) 0 f =
     c .before .before .put-coords .ensures
     ∙ sym (
     over-to (a .out .now) (p1 .last .0) 0 7 (head 3 (a .table) (a .measure) (a .d)) _ (omega arith) (omega arith) (p1 .ensures)

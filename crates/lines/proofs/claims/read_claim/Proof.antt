@@ -2,8 +2,8 @@
 use mathlib.Core.Path.{sym, ap, _∙_}
 use native.Mathlib.Omega.{arith}
 use lib.ListN.{length-take}
-use Rattle.paper.specs.Lines.{claimOf, claimOk, claimAt, aClaim, noClaim}
-use Rattle.lines.proofs.Ways.{way-9, way-10, way-read}
+use Rattle.paper.specs.Lines.{readAsClaim, claimOk, claimAt, aClaim, noClaim}
+use Rattle.lines.proofs.WritersReaders.{way-9, way-10, way-read}
 use borrow.Author.Needs.{needs}
 use Rattle.lines.proofs.claims.read_claim.Statement.{statement}
 use Rattle.lines.proofs.claims.read_claim.Tie as tie
@@ -18,7 +18,7 @@ no-claim-requires : tie.Need-no-claim-requires
 no-claim-requires c κs = search needs
 
 returns : tie.Need-returns
-unfolding claimOf
+unfolding readAsClaim
 returns c = c .no-claim .ensures ∙ way-9 claimOk (λ f. aClaim (claimAt f)) noClaim (c .before .before .before .before .before .before .args .line .now) (c .before .before .before .frame-of .last .1 .0) (c .before .before .before .frame-of .result) (c .before .before .before .frame-of .ensures) (c .before .if1 .taken)
 
 array-share-prefix-frame : tie.Need-array-share-prefix-frame
@@ -34,14 +34,14 @@ claim-at-requires : tie.Need-claim-at-requires
 claim-at-requires c κs = sym (c .before .claim-ok .ensures) ∙ c .if2 .taken
 
 returns-2 : tie.Need-returns-2
-unfolding claimOf aClaim
+unfolding readAsClaim aClaim
 returns-2 c = ap aClaim (c .claim-at .ensures) ∙ way-read claimOk (λ f. aClaim (claimAt f)) noClaim (c .before .before .before .before .before .before .before .before .before .args .line .now) (c .before .before .before .before .before .before .frame-of .last .1 .0) (c .before .before .before .before .before .before .frame-of .result) (c .before .before .before .before .before .before .frame-of .ensures) (c .before .before .before .before .if1 .left) (sym (c .before .before .claim-ok .ensures) ∙ c .before .if2 .taken)
 
 no-claim-requires-2 : tie.Need-no-claim-requires-2
 no-claim-requires-2 c κs = search needs
 
 returns-3 : tie.Need-returns-3
-unfolding claimOf
+unfolding readAsClaim
 returns-3 c = c .no-claim2 .ensures ∙ way-10 claimOk (λ f. aClaim (claimAt f)) noClaim (c .before .before .before .before .before .before .before .before .before .args .line .now) (c .before .before .before .before .before .before .frame-of .last .1 .0) (c .before .before .before .before .before .before .frame-of .result) (c .before .before .before .before .before .before .frame-of .ensures) (c .before .before .before .before .if1 .left) (sym (c .before .before .claim-ok .ensures) ∙ c .before .if2 .left)
 
 pub read-claim-spec : {M : Type 1} → statement M

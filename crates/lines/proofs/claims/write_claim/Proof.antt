@@ -1,6 +1,6 @@
 use native.Mathlib.Omega.{arith}
 use mathlib.Core.Path.{sym, _∙_}
-use Rattle.lines.proofs.Ways.{wrote-line, refused-12, refused-10}
+use Rattle.lines.proofs.WritersReaders.{wrote-line, refused-12, refused-10}
 use Rattle.lines.proofs.Tests.{claim-fits}
 use borrow.Author.Needs.{needs}
 use Rattle.lines.proofs.claims.write_claim.Statement.{statement}

@@ -1,6 +1,6 @@
 -- `many::counts::many_refusal` meets its contract: the table's refusal, then 5. Assumes nothing.
 use Rattle.paper.specs.Tree.{store}
-use Rattle.many.proofs.Ways.{many-table, many-wide, many-5, many-0}
+use Rattle.many.proofs.FirstsOfMany.{many-table, many-wide, many-5, many-0}
 use borrow.Author.Needs.{needs}
 use Rattle.many.proofs.counts.many_refusal.Statement.{statement}
 use Rattle.many.proofs.counts.many_refusal.Tie as tie

@@ -1,7 +1,7 @@
 -- `many::firsts::farthest_each` meets its contract: refused before anything is written, or answered question after question. Assumes nothing.
 use Rattle.paper.specs.Tree.{store}
 use Rattle.many.specs.Many.{farthestAt}
-use Rattle.many.proofs.Ways.{firsts-refused, firsts-12, firsts-many, firsts-answered}
+use Rattle.many.proofs.FirstsOfMany.{firsts-refused, firsts-12, firsts-many, firsts-answered}
 use borrow.Author.Needs.{needs}
 use Rattle.many.proofs.firsts.farthest_each.Statement.{statement}
 use Rattle.many.proofs.firsts.farthest_each.Tie as tie

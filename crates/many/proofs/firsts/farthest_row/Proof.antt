@@ -5,7 +5,7 @@ use Rattle.paper.specs.declared.orders.Order.the-variants.{Near}
 use Rattle.paper.specs.Orders.{farthestOf}
 use Rattle.paper.specs.Tree.{store, claimsIn}
 use Rattle.paper.specs.Calls.{tableQuery}
-use Rattle.many.proofs.Ways.{row-answerable, row-found}
+use Rattle.many.proofs.FirstsOfMany.{row-answerable, row-found}
 use borrow.Author.Needs.{needs}
 use Rattle.many.proofs.firsts.farthest_row.Statement.{statement}
 use Rattle.many.proofs.firsts.farthest_row.Tie as tie

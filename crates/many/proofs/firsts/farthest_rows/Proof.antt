@@ -3,7 +3,7 @@ use Prim.Native.Nat.{_-_}
 use native.Mathlib.Omega.{arith}
 use Rattle.paper.specs.Tree.{store}
 use Rattle.many.specs.Rows.{putFound}
-use Rattle.many.proofs.Ways.{Going, going-start, going-on, going-done, one-of}
+use Rattle.many.proofs.FirstsOfMany.{Going, going-start, going-on, going-done, one-of}
 use Rattle.many.specs.Many.{farthestAt}
 use Rattle.many.proofs.firsts.farthest_rows.Statement.{statement}
 use Rattle.many.proofs.firsts.farthest_rows.Tie as tie

@@ -2,7 +2,7 @@
 use lib.ListN.{length}
 use Rattle.paper.specs.Tree.{store}
 use Rattle.many.specs.Many.{nearestAt}
-use Rattle.many.proofs.Ways.{firsts-refused, firsts-12, firsts-many, firsts-answered}
+use Rattle.many.proofs.FirstsOfMany.{firsts-refused, firsts-12, firsts-many, firsts-answered}
 use borrow.Author.Needs.{needs}
 use Rattle.many.proofs.firsts.nearest_each.Statement.{statement}
 use Rattle.many.proofs.firsts.nearest_each.Tie as tie

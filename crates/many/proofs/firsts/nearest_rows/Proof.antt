@@ -4,7 +4,7 @@ use native.Mathlib.Omega.{arith}
 use lib.ListN.{length}
 use Rattle.paper.specs.Tree.{store}
 use Rattle.many.specs.Rows.{putFound}
-use Rattle.many.proofs.Ways.{Going, going-start, going-on, going-done, one-of}
+use Rattle.many.proofs.FirstsOfMany.{Going, going-start, going-on, going-done, one-of}
 use Rattle.many.specs.Many.{nearestAt}
 use Rattle.many.proofs.firsts.nearest_rows.Statement.{statement}
 use Rattle.many.proofs.firsts.nearest_rows.Tie as tie

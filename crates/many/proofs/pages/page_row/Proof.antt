@@ -6,7 +6,7 @@ use Rattle.paper.specs.declared.orders.Order.the-variants.{Near}
 use Rattle.paper.specs.declared.orders.Place.{Place}
 use Rattle.paper.specs.Tree.{store}
 use Rattle.paper.specs.Calls.{pageCall}
-use Rattle.many.proofs.PageWays.{row-askable, page-row-is}
+use Rattle.many.proofs.PagesOfMany.{row-askable, page-row-is}
 use borrow.Author.Needs.{needs}
 use Rattle.many.proofs.pages.page_row.Statement.{statement}
 use Rattle.many.proofs.pages.page_row.Tie as tie

@@ -1,7 +1,7 @@
 -- `many::pages::pages_each` meets its contract: refused before anything is written, or answered question after question. Assumes nothing.
 use Rattle.paper.specs.Tree.{store}
 use Rattle.many.specs.Pages.{bothRooms}
-use Rattle.many.proofs.PageWays.{pages-refused, pages-all, pages-done}
+use Rattle.many.proofs.PagesOfMany.{pages-refused, pages-all, pages-done}
 use borrow.Author.Needs.{needs}
 use Rattle.many.proofs.pages.pages_each.Statement.{statement}
 use Rattle.many.proofs.pages.pages_each.Tie as tie

@@ -2,7 +2,7 @@
 use native.Mathlib.Omega.{arith}
 use Prim.Native.Nat.{_≤_}
 use Rattle.paper.specs.Tree.{store}
-use Rattle.many.proofs.PageWays.{pages-many, pages-5, pages-6, pages-some, pages-small, pages-12, pages-12-items, pages-0}
+use Rattle.many.proofs.PagesOfMany.{pages-many, pages-5, pages-6, pages-some, pages-small, pages-12, pages-12-items, pages-0}
 use borrow.Author.Needs.{needs}
 use Rattle.many.proofs.pages.pages_refusal.Statement.{statement}
 use Rattle.many.proofs.pages.pages_refusal.Tie as tie

@@ -2,7 +2,7 @@
 use mathlib.Core.Path.{sym, _∙_}
 use borrow.Author.Tests.{not-false}
 use Rattle.paper.specs.Lists.{held}
-use Rattle.nearby.proofs.CallLaws.{take-unsound}
+use Rattle.nearby.proofs.QuestionsAndLists.{take-unsound}
 use borrow.Author.Needs.{needs}
 use Rattle.nearby.proofs.lists.take.Statement.{statement}
 use Rattle.nearby.proofs.lists.take.Tie as tie

@@ -2,7 +2,7 @@
 use mathlib.Core.Path.{sym, _∙_}
 use borrow.Author.Tests.{not-false}
 use Rattle.paper.specs.Lists.{held}
-use Rattle.nearby.proofs.CallLaws.{ask-unsound}
+use Rattle.nearby.proofs.QuestionsAndLists.{ask-unsound}
 use borrow.Author.Needs.{needs}
 use Rattle.nearby.proofs.lists.write_ask.Statement.{statement}
 use Rattle.nearby.proofs.lists.write_ask.Tie as tie

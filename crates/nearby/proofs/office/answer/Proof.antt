@@ -1,6 +1,6 @@
 -- `nearby::office::answer` meets its contract: 12, 1, 2, and then the office's end. Assumes nothing.
 use Rattle.paper.specs.Tree.{store}
-use Rattle.nearby.proofs.CallLaws.{office-12, office-refused, office-open, office-answers}
+use Rattle.nearby.proofs.QuestionsAndLists.{office-12, office-refused, office-open, office-answers}
 use borrow.Author.Needs.{needs}
 use Rattle.nearby.proofs.office.answer.Statement.{statement}
 use Rattle.nearby.proofs.office.answer.Tie as tie

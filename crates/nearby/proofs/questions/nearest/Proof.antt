@@ -5,7 +5,7 @@ use Rattle.paper.specs.Tree.{store, claimsIn}
 use Rattle.paper.specs.Calls.{tableQuery, nearestCall}
 use Rattle.walk.proofs.Answers.{good-answerable}
 use Rattle.tested.proofs.TableLaws.{table-good}
-use Rattle.nearby.proofs.CallLaws.{ask-refused, ask-5, ask-answered}
+use Rattle.nearby.proofs.QuestionsAndLists.{ask-refused, ask-5, ask-answered}
 use borrow.Author.Needs.{needs}
 use Rattle.nearby.proofs.questions.nearest.Statement.{statement}
 use Rattle.nearby.proofs.questions.nearest.Tie as tie

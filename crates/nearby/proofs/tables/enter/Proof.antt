@@ -1,7 +1,7 @@
 -- `nearby::tables::enter` meets its contract: refused before anything is written, or entered whole. Assumes nothing.
 use Rattle.paper.specs.Tree.{store}
 use Rattle.tree.proofs.RunLaws.{enters-roomy}
-use Rattle.nearby.proofs.RunWays.{enter-refused, enter-done}
+use Rattle.nearby.proofs.TablesAndRuns.{enter-refused, enter-done}
 use borrow.Author.Needs.{needs}
 use Rattle.nearby.proofs.tables.enter.Statement.{statement}
 use Rattle.nearby.proofs.tables.enter.Tie as tie

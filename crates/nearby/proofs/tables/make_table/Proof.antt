@@ -1,5 +1,5 @@
 -- `nearby::tables::make_table` meets its contract. Assumes nothing.
-use Rattle.nearby.proofs.RunWays.{made-1, made-table}
+use Rattle.nearby.proofs.TablesAndRuns.{made-1, made-table}
 use borrow.Author.Needs.{needs}
 use Rattle.nearby.proofs.tables.make_table.Statement.{statement}
 use Rattle.nearby.proofs.tables.make_table.Tie as tie

@@ -1,6 +1,6 @@
 -- `nearby::tables::run_refusal` meets its contract: one law for each way through it. Assumes nothing.
 use Rattle.paper.specs.Tree.{store}
-use Rattle.nearby.proofs.RunWays.{run-refused, run-wide, run-count, run-used, run-5, run-3, run-4, run-0}
+use Rattle.nearby.proofs.TablesAndRuns.{run-refused, run-wide, run-count, run-used, run-5, run-3, run-4, run-0}
 use borrow.Author.Needs.{needs}
 use Rattle.nearby.proofs.tables.run_refusal.Statement.{statement}
 use Rattle.nearby.proofs.tables.run_refusal.Tie as tie

@@ -5,8 +5,8 @@ use Rattle.paper.specs.Orders.{Query}
 use Rattle.paper.specs.declared.lines.Scope.{Scope}
 use Rattle.paper.specs.Lines.{wroteOf, putLine, bareLine, askFits, askFrame}
 use Rattle.paper.specs.Limits.{longestAsk}
-use Rattle.c_values.specs.Values.{nearQuery, scopeIn, writtenOf}
-use Rattle.lines.proofs.Ways.{refused-10}
+use Rattle.c_values.specs.Values.{nearQuery, scopeFrom, writtenOf}
+use Rattle.lines.proofs.WritersReaders.{refused-10}
 use Rattle.nearby_c.proofs.Exports.{shown-as, line-from, ask-misplaced, placed, placed-query}
 use borrow.Author.Needs.{needs}
 use Rattle.nearby_c.proofs.bare.nearby_write_ask_line.Statement.{statement}
@@ -21,12 +21,12 @@ line-of-requires c κs = search needs
 returns : tie.Need-returns
 returns c =
     let a = c .before .before .before .before .args in
-    shown-as writtenOf wroteOf putLine _ _ _ _ _ (refused-10 _ _ _ _ (ask-misplaced (nearQuery (a .table) (a .measure) (a .d) (a .probe .now) (a .p .reach)) (scopeIn (a .p)) _ (c .before .before .placeable .ensures) (c .before .if1 .taken) (a .size))) (c .line-of .ensures)
+    shown-as writtenOf wroteOf putLine _ _ _ _ _ (refused-10 _ _ _ _ (ask-misplaced (nearQuery (a .table) (a .measure) (a .d) (a .probe .now) (a .p .reach)) (scopeFrom (a .p)) _ (c .before .before .placeable .ensures) (c .before .if1 .taken) (a .size))) (c .line-of .ensures)
 
 query-of-requires : tie.Need-query-of-requires
 query-of-requires c κs =
     let a = c .before .before .before .args in
-    placed (nearQuery (a .table) (a .measure) (a .d) (a .probe .now) (a .p .reach)) (scopeIn (a .p)) _ (c .before .placeable .ensures) (c .if1 .left)
+    placed (nearQuery (a .table) (a .measure) (a .d) (a .probe .now) (a .p .reach)) (scopeFrom (a .p)) _ (c .before .placeable .ensures) (c .if1 .left)
 
 scope-in-requires : tie.Need-scope-in-requires
 scope-in-requires c κs = search needs
@@ -43,8 +43,8 @@ same-length c = search needs
 returns-2 : tie.Need-returns-2
 returns-2 c =
     let a = c .before .before .before .before .before .before .before .before .before .before .args in
-    line-from (λ (q : Query) (p : Scope). bareLine (askFits q p (a .size)) longestAsk (askFrame q p (a .size)) (length (a .out .now))) (nearQuery (a .table) (a .measure) (a .d) (a .probe .now) (a .p .reach)) _ (scopeIn (a .p)) _ _ _ _ _
-    (placed-query (nearQuery (a .table) (a .measure) (a .d) (a .probe .now) (a .p .reach)) (scopeIn (a .p)) _ (c .before .before .before .before .before .before .before .before .placeable .ensures) (c .before .before .before .before .before .before .before .if1 .left) _ (c .before .before .before .before .before .before .query-of .ensures)) (c .before .before .before .before .before .scope-in .ensures) (c .before .before .before .write-ask-line .ensures) (c .line-of2 .ensures)
+    line-from (λ (q : Query) (p : Scope). bareLine (askFits q p (a .size)) longestAsk (askFrame q p (a .size)) (length (a .out .now))) (nearQuery (a .table) (a .measure) (a .d) (a .probe .now) (a .p .reach)) _ (scopeFrom (a .p)) _ _ _ _ _
+    (placed-query (nearQuery (a .table) (a .measure) (a .d) (a .probe .now) (a .p .reach)) (scopeFrom (a .p)) _ (c .before .before .before .before .before .before .before .before .placeable .ensures) (c .before .before .before .before .before .before .before .if1 .left) _ (c .before .before .before .before .before .before .query-of .ensures)) (c .before .before .before .before .before .scope-in .ensures) (c .before .before .before .write-ask-line .ensures) (c .line-of2 .ensures)
 
 pub nearby-write-ask-line-spec : {M : Type 1} → statement M
 nearby-write-ask-line-spec =

@@ -5,7 +5,7 @@ use native.Mathlib.Omega.{arith}
 use borrow.Author.Tests.{not-false}
 use Rattle.paper.specs.Tree.{Store, fits}
 use Rattle.tree.specs.Soundness.{Fit}
-use Rattle.tree.proofs.Known.{fits-fit, sound-good}
+use Rattle.tree.proofs.TestedTables.{fits-fit, sound-good}
 use Rattle.walk.proofs.Answers.{good-answerable}
 use borrow.Author.Needs.{needs}
 use Rattle.scan_beside.proofs.checked.closed.Statement.{statement}

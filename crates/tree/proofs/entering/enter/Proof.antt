@@ -5,8 +5,8 @@ use mathlib.Core.Path.{_≡_, sym, ap, _∙_}
 use mathlib.Core.List.{List}
 use native.Mathlib.Omega.{arith}
 use lib.Dec.{lit<}
-use Rattle.paper.specs.Tree.{Grown, fieldAt, fresh, raise, apart}
-use Rattle.tree.proofs.Turns.{Going, going-start, entered-first, going-claim, going-stop, going-new, going-rises, going-down, side-small, raised}
+use Rattle.paper.specs.Tree.{Grown, fieldAt, newNode, raise, apart}
+use Rattle.tree.proofs.OneEntering.{Going, going-start, entered-first, going-claim, going-stop, going-new, going-rises, going-down, side-small, raised}
 use Rattle.tree.proofs.entering.enter.Statement.{statement}
 use Rattle.tree.proofs.entering.enter.Tie as tie
 
@@ -110,7 +110,7 @@ returns-3 c =
     let w = c .before .before .before .before .before .before .before .before .before .before .before in
     let a = c .before .before .before .before .before .before .before .before .before .before .before .before .before .before .before .before .before .before .before .before .before .before .before .args in
     let e = going-new _ _ _ _ _ _ (c .before .before .before .before .before .before .before .before .before .before .before .before .before .before .before .before .before .before .before .before .loop .inv) _ _ _ (full w) (c .before .before .before .before .before .before .before .before .before .before .before .before .before .before .before .nearer .ensures .0) (c .before .before .before .before .before .before .before .before .before .before .before .before .before .field2 .ensures) (lifted w) (c .before .before .before .before .before .before .before .before .if3 .taken) in
-    (c .before .before .make2 .ensures ∙ ap (λ (x : List ℕ). fresh x (a .used) (a .k)) (c .before .before .before .before .before .before .store2 .ensures) ∙ sym (ap (λ (x : Grown). x .rooms) e), sym (ap (λ (x : Grown). x .used) e))
+    (c .before .before .make2 .ensures ∙ ap (λ (x : List ℕ). newNode x (a .used) (a .k)) (c .before .before .before .before .before .before .store2 .ensures) ∙ sym (ap (λ (x : Grown). x .rooms) e), sym (ap (λ (x : Grown). x .used) e))
 
 sub-m : tie.Need-sub-m Inv-loop μ-loop
 sub-m c = omega arith

@@ -1,6 +1,6 @@
 -- `tree::entering::nearer` meets its contract. Assumes nothing.
 use borrow.Author.Needs.{needs}
-use Rattle.tree.proofs.Turns.{near-left, near-right}
+use Rattle.tree.proofs.OneEntering.{near-left, near-right}
 use Rattle.tree.proofs.entering.nearer.Statement.{statement}
 use Rattle.tree.proofs.entering.nearer.Tie as tie
 

@@ -2,7 +2,7 @@
 use borrow.Author.Needs.{needs}
 use Prim.Native.Nat.{ℕ, _+_}
 use mathlib.Core.Path.{ap, _∙_}
-use Rattle.paper.specs.Tree.{put}
+use Rattle.paper.specs.Tree.{putField}
 use Rattle.tree.proofs.entering.widen.Statement.{statement}
 use Rattle.tree.proofs.entering.widen.Tie as tie
 
@@ -27,7 +27,7 @@ same-length c = search needs
 returns : tie.Need-returns
 returns c =
     let a = c .before .before .before .before .before .before .before .before .args in
-    c .before .before .store .ensures ∙ ap (λ (v : ℕ). put (a .rooms .now) (a .m) (2 + a .s) v) (rw (c .before .before .before .before .before .field .ensures) at (c .before .before .before .larger .ensures))
+    c .before .before .store .ensures ∙ ap (λ (v : ℕ). putField (a .rooms .now) (a .m) (2 + a .s) v) (rw (c .before .before .before .before .before .field .ensures) at (c .before .before .before .larger .ensures))
 
 pub widen-spec : {M : Type 1} → statement M
 widen-spec =

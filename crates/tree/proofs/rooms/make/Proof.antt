@@ -5,7 +5,7 @@ use mathlib.Core.List.{List}
 use native.Mathlib.Omega.{arith}
 use native.Mathlib.Numerals.{add-one}
 use lib.ListN.{length}
-use Rattle.paper.specs.Tree.{put, cleared, fresh}
+use Rattle.paper.specs.Tree.{putField, cleared, newNode}
 use Rattle.tree.proofs.rooms.make.Statement.{statement}
 use Rattle.tree.proofs.rooms.make.Tie as tie
 
@@ -19,12 +19,12 @@ none : (rooms : List ℕ) (w : ℕ) → rooms ≡ cleared rooms w 0
 unfolding cleared
 none rooms w = refl
 
-more : (rooms now next : List ℕ) (w f : ℕ) → now ≡ cleared rooms w f → next ≡ put now w (f + 1) 0 → next ≡ cleared rooms w (f + 1)
+more : (rooms now next : List ℕ) (w f : ℕ) → now ≡ cleared rooms w f → next ≡ putField now w (f + 1) 0 → next ≡ cleared rooms w (f + 1)
 unfolding cleared
 more rooms now next w f e h = rw (add-one f, ← e) (rw (add-one f) at h)
 
-whole : (rooms first last : List ℕ) (w k f : ℕ) → first ≡ put rooms w 0 (k + 1) → last ≡ cleared first w f → f ≡ 5 → last ≡ fresh rooms w k
-unfolding fresh
+whole : (rooms first last : List ℕ) (w k f : ℕ) → first ≡ putField rooms w 0 (k + 1) → last ≡ cleared first w f → f ≡ 5 → last ≡ newNode rooms w k
+unfolding newNode
 whole rooms first last w k f e h q = h ∙ ap (λ (n : ℕ). cleared first w n) q ∙ ap (λ (l : List ℕ). cleared l w 5) e
 
 add-store : tie.Need-add-store Inv-loop μ-loop

@@ -5,7 +5,7 @@ use borrow.Author.Needs.{needs}
 use borrow.Author.Tests.{le-leb, lt-leb, not-true, not-false}
 use Rattle.paper.specs.Tree.{fits}
 use Rattle.paper.proofs.Ranges.{range-is}
-use Rattle.tree.proofs.Known.{few-places}
+use Rattle.tree.proofs.TestedTables.{few-places}
 use Rattle.tree.proofs.soundness.is_fit.Statement.{statement}
 use Rattle.tree.proofs.soundness.is_fit.Tie as tie
 

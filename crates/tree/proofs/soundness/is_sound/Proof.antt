@@ -6,7 +6,7 @@ use borrow.Author.Needs.{needs}
 use lib.ListN.{length, replicate, length-replicate}
 use lib.Dec.{lit≤}
 use Rattle.paper.specs.Tree.{store}
-use Rattle.tree.proofs.Known.{lent-located, sound-over, sound-other, sound-last, rebuild-few}
+use Rattle.tree.proofs.TestedTables.{lent-located, sound-over, sound-other, sound-last, rebuild-few}
 use Rattle.tree.proofs.soundness.is_sound.Statement.{statement}
 use Rattle.tree.proofs.soundness.is_sound.Tie as tie
 use Rattle.paper.specs.Limits.{mostClaims, scratchRoom}

@@ -4,7 +4,7 @@ use mathlib.Core.Path.{_≡_, refl, _∙_}
 use native.Mathlib.Omega.{arith}
 use lib.ListN.{length}
 use Rattle.paper.specs.Tree.{grown, built, apart}
-use Rattle.tree.proofs.Known.{rebuild-start, rebuild-ready, rebuild-next}
+use Rattle.tree.proofs.TestedTables.{rebuild-start, rebuild-ready, rebuild-next}
 use Rattle.tree.proofs.soundness.rebuild.Statement.{statement}
 use Rattle.tree.proofs.soundness.rebuild.Tie as tie
 

@@ -20,7 +20,7 @@ use Rattle.paper.specs.Codec.{lines}
 use Rattle.paper.specs.Calls.{tableRefusal, aimed, nearestShown, officeCall}
 use Rattle.paper.specs.Lines.{Writes}
 use Rattle.desk.specs.Desk.{Open}
-use Rattle.lines.proofs.Ways.{writes-refused}
+use Rattle.lines.proofs.WritersReaders.{writes-refused}
 use Rattle.paper.proofs.Outcomes.{must-stop, must-go}
 use Rattle.tablet.proofs.TakeLaws.{takes-refused}
 use Rattle.tested.proofs.TableLaws.{table-refused, table-good, table-goes, aim-stops, aim-goes}

@@ -17,15 +17,15 @@ use Rattle.paper.specs.declared.queries.Query as queries
 use Rattle.paper.specs.Orders.{Query, queryIn, snapshotOf, snapshotHolds, markHolds}
 use Rattle.paper.specs.Tree.{Store, claimsIn}
 use Rattle.paper.specs.Outcomes.{refused, gives, must, onto}
-use Rattle.paper.specs.Frames.{num, frameOf, sound}
+use Rattle.paper.specs.Frames.{num, frameOf, isLine}
 use Rattle.paper.specs.Fields.{scopeIn, scopeOk}
-use Rattle.paper.specs.Lines.{Writes, behind, queryAt, askRanges, isAsk, askAt, anAsk, noAsk, askOf, reading}
+use Rattle.paper.specs.Lines.{Writes, behind, queryAt, askRanges, isAsk, askAt, anAsk, noAsk, readAsAsk, reading}
 use Rattle.paper.specs.Ends.{Ask, tableOf, matches, answerOf, answerTo, served}
 use Rattle.paper.specs.Ends as Ends
-use Rattle.paper.specs.Codec.{placeIn, asked, answerLine, readAsk, lines}
+use Rattle.paper.specs.Codec.{placeIn, askMeant, answerLine, readAsk, lines}
 use Rattle.paper.specs.Program.{replyTo}
 use Rattle.paper.proofs.Tests.{and-first, and-second}
-use Rattle.lines.proofs.Ways.{writes-refused}
+use Rattle.lines.proofs.WritersReaders.{writes-refused}
 use Rattle.lines.proofs.Tests.{any-ask}
 use Rattle.paper.specs.Calls.{tableQuery}
 use Rattle.tree.proofs.Places.{claims-length}
@@ -82,15 +82,15 @@ module _ (s : Store) (a : lines-Ask.Ask) (b : Bool)
   unfolding matches
   matches-is = sym is
 
-  pub ask-11 : (before : List ℕ) → not b ≡ true → Writes (replyTo (tableOf s) (asked a)) before (Refused 11) before
-  unfolding replyTo answerTo asked
+  pub ask-11 : (before : List ℕ) → not b ≡ true → Writes (replyTo (tableOf s) (askMeant a)) before (Refused 11) before
+  unfolding replyTo answerTo askMeant
   ask-11 before t = writes-refused _ 11 before (rw (matches-is, not-true b t))
 
   module _ (t : not b ≡ false) where
     pub ask-here : (before : List ℕ) (w : Wrote) (after : List ℕ) → Writes (pageReply (tableOf s) (askIn (a .query) (a .scope) (a .size))) before w after
-        → Writes (replyTo (tableOf s) (asked a)) before w after
-    unfolding asked
-    ask-here before w after x = rw (reply-here (tableOf s) (asked a) (matches-is ∙ not-false b t)) x
+        → Writes (replyTo (tableOf s) (askMeant a)) before w after
+    unfolding askMeant
+    ask-here before w after x = rw (reply-here (tableOf s) (askMeant a) (matches-is ∙ not-false b t)) x
 
     pub ask-ready : (out : ℕ) → Answering s a out → Asking s (a .query) (a .scope) (a .size) out
     ask-ready out h = record { isOpen = h .isOpen; ask = h .ask; ours = matches-is ∙ not-false b t }
@@ -117,13 +117,13 @@ ask-given f e =
 pub record Reads (line : List ℕ) (r : AskRead) : Type 0 where
   pub refuses : (r .refusal ≡ 0 → ⊥) → readAsk line ≡ refused (r .refusal)
   pub given : r .refusal ≡ 0 → Given (r .ask)
-  pub reads : r .refusal ≡ 0 → readAsk line ≡ gives (asked (r .ask))
+  pub reads : r .refusal ≡ 0 → readAsk line ≡ gives (askMeant (r .ask))
 
-pub read-is : (line : List ℕ) (r : AskRead) → r ≡ askOf line → Reads line r
-unfolding askOf reading anAsk noAsk readAsk
-read-is line r e = rw e (go (sound line) (isAsk (frameOf line)) refl refl)
+pub read-is : (line : List ℕ) (r : AskRead) → r ≡ readAsAsk line → Reads line r
+unfolding readAsAsk reading anAsk noAsk readAsk
+read-is line r e = rw e (go (isLine line) (isAsk (frameOf line)) refl refl)
   where
-    go : (b c : Bool) → sound line ≡ b → isAsk (frameOf line) ≡ c → Reads line (askOf line)
+    go : (b c : Bool) → isLine line ≡ b → isAsk (frameOf line) ≡ c → Reads line (readAsAsk line)
     go true true p q = rw (p, q) (record { refuses = λ n. absurd (n refl); given = λ z. ask-given (frameOf line) q; reads = λ z. rw (p, q) })
     go true false p q = rw (p, q) (record { refuses = λ n. rw (p, q); given = λ z. absurd (omega arith); reads = λ z. absurd (omega arith) })
     go false c p q = rw p (record { refuses = λ n. rw p; given = λ z. absurd (omega arith); reads = λ z. absurd (omega arith) })
@@ -134,6 +134,6 @@ module _ (s : Store) (line : List ℕ) (r : AskRead) (is : Reads line r) where
   line-refused before n = writes-refused _ (r .refusal) before (rw (is .refuses n))
 
   pub line-answered : (before : List ℕ) (w : Wrote) (after : List ℕ) → r .refusal ≡ 0
-      → Writes (replyTo (tableOf s) (asked (r .ask))) before w after → Writes (served lines (tableOf s) line) before w after
+      → Writes (replyTo (tableOf s) (askMeant (r .ask))) before w after → Writes (served lines (tableOf s) line) before w after
   unfolding served replyTo
   line-answered before w after z x = rw (is .reads z) x

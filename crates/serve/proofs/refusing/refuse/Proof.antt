@@ -1,9 +1,9 @@
--- `serve::saying::refuse` meets its contract: one digit, or two. Assumes nothing.
+-- `serve::refusing::refuse` meets its contract: one digit, or two. Assumes nothing.
 use mathlib.Core.Path.{refl}
 use Rattle.serve.proofs.Written.{refuse-one, refuse-two}
 use borrow.Author.Needs.{needs}
-use Rattle.serve.proofs.saying.refuse.Statement.{statement}
-use Rattle.serve.proofs.saying.refuse.Tie as tie
+use Rattle.serve.proofs.refusing.refuse.Statement.{statement}
+use Rattle.serve.proofs.refusing.refuse.Tie as tie
 
 add-t7 : tie.Need-add-t7
 add-t7 c = search needs

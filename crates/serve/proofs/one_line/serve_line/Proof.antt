@@ -1,12 +1,12 @@
--- `serve::heard::serve_line` meets its contract: 9, or what its frame leads to. Assumes nothing.
+-- `serve::one_line::serve_line` meets its contract: 9, or what its frame leads to. Assumes nothing.
 use native.Mathlib.Omega.{arith}
 use Prim.Native.Nat.{_<_}
 use lib.ListN.{length-take}
 use Rattle.paper.specs.Tree.{store}
-use Rattle.serve.proofs.Turns.{line-9, line-frame}
+use Rattle.serve.proofs.OneLineServed.{line-9, line-frame}
 use borrow.Author.Needs.{needs}
-use Rattle.serve.proofs.heard.serve_line.Statement.{statement}
-use Rattle.serve.proofs.heard.serve_line.Tie as tie
+use Rattle.serve.proofs.one_line.serve_line.Statement.{statement}
+use Rattle.serve.proofs.one_line.serve_line.Tie as tie
 
 slice-aggregate-frame-of : tie.Need-slice-aggregate-frame-of
 slice-aggregate-frame-of c = search needs

@@ -19,12 +19,12 @@ use Rattle.paper.specs.Orders.{snapshotHolds, markHolds}
 use Rattle.paper.specs.Tree.{Store, store, built, claimsFrom, claimsIn}
 use Rattle.paper.specs.Runs.{added}
 use Rattle.paper.specs.Outcomes.{Outcome, refused, gives, must, onto}
-use Rattle.paper.specs.Frames.{frameOf, sound}
+use Rattle.paper.specs.Frames.{frameOf, isLine}
 use Rattle.paper.specs.Lines.{isAsk, askAt, claimOk, claimAt}
 use Rattle.paper.specs.Ends.{Ask, tableOf, matches, answerOf, answerTo}
 use Rattle.paper.specs.Ends as Ends
-use Rattle.paper.specs.Codec.{asked, answerLine}
-use Rattle.paper.specs.Program.{Books, closed, opened, tableFor, ours, claimIn, withClaim, entering, replyTo, reply, refusal, turn, claimTurn, askTurn, frameTurn, lineTurn}
+use Rattle.paper.specs.Codec.{askMeant, answerLine}
+use Rattle.paper.specs.Program.{Books, closed, opened, tableFor, ours, claimIn, withClaim, claimEntering, replyTo, reply, refusal, turn, claimTurn, askTurn, frameTurn, lineTurn}
 use Rattle.paper.proofs.Tests.{and-second}
 use Rattle.tree.specs.Rooms.{IsBuilt}
 use Rattle.tree.specs.Soundness.{Roomy}
@@ -199,20 +199,20 @@ module _ (s : Store) (c : ClaimLine) (r : Ready s) (i : InRange (c .measure) (c 
   count-is : length (claimsIn (headed s h)) ≡ h .count
   count-is = claims-length (h .d) (h .count) (s .references) (s .coordinates)
 
-  claim-refused : (n : ℕ) (l : List ℕ) (e : ℕ) → entering (tableFor (booksOf s) c) c ≡ refused n → Put (refusal n) out at l e
-      → Served (claimTurn (booksOf s) (entering (tableFor (booksOf s) c) c)) s out at l e
+  claim-refused : (n : ℕ) (l : List ℕ) (e : ℕ) → claimEntering (tableFor (booksOf s) c) c ≡ refused n → Put (refusal n) out at l e
+      → Served (claimTurn (booksOf s) (claimEntering (tableFor (booksOf s) c) c)) s out at l e
   unfolding claimTurn
   claim-refused n l e q p = rw q (record { books = refl; ready = r; said = p })
 
   pub claim-11 : not b ≡ true → (l : List ℕ) (e : ℕ) → Put (refusal 11) out at l e
-      → Served (claimTurn (booksOf s) (entering (tableFor (booksOf s) c) c)) s out at l e
-  unfolding entering
+      → Served (claimTurn (booksOf s) (claimEntering (tableFor (booksOf s) c) c)) s out at l e
+  unfolding claimEntering
   claim-11 t l e p = claim-refused 11 l e (rw (ours-is, not-true b t)) p
 
   module _ (t : not b ≡ false) where
     pub claim-3 : h .capacity ≤ h .count → (l : List ℕ) (e : ℕ) → Put (refusal 3) out at l e
-        → Served (claimTurn (booksOf s) (entering (tableFor (booksOf s) c) c)) s out at l e
-    unfolding entering
+        → Served (claimTurn (booksOf s) (claimEntering (tableFor (booksOf s) c) c)) s out at l e
+    unfolding claimEntering
     claim-3 full l e p =
         let z : leb (length (claimsIn (headed s h)) + 1) (h .capacity) ≡ false = lt-leb (length (claimsIn (headed s h)) + 1) (h .capacity) (omega (arith, count-is)) in
         claim-refused 3 l e (rw (ours-is, not-false b t, table-is, z)) p
@@ -246,8 +246,8 @@ module _ (s : Store) (c : ClaimLine) (r : Ready s) (i : InRange (c .measure) (c 
           let y = x ∙ ap (λ (l : List ℤ). claimsIn (headed s h) ++ (record { reference = c .reference; place = l } ∷ [])) place-is in
           λ j. record { number = k .number j; measure = k .measure j; d = k .d j; capacity = k .capacity j; claims = y j }
 
-      entering-gives : entering (tableFor (booksOf s) c) c ≡ gives (withClaim (tableOf (headed s h)) (claimIn c))
-      unfolding entering
+      entering-gives : claimEntering (tableFor (booksOf s) c) c ≡ gives (withClaim (tableOf (headed s h)) (claimIn c))
+      unfolding claimEntering
       entering-gives =
           let z : leb (length (claimsIn (headed s h)) + 1) (h .capacity) ≡ true = le-leb (length (claimsIn (headed s h)) + 1) (h .capacity) (omega (arith, count-is)) in
           rw (ours-is, not-false b t, table-is, z)
@@ -262,7 +262,7 @@ module _ (s : Store) (c : ClaimLine) (r : Ready s) (i : InRange (c .measure) (c 
           }
 
       pub claim-in : (x : Store) → x ≡ added (headed s h) (c .reference) Point → at ≤ length out
-          → Served (claimTurn (booksOf s) (entering (tableFor (booksOf s) c) c)) x out at out at
+          → Served (claimTurn (booksOf s) (claimEntering (tableFor (booksOf s) c) c)) x out at out at
       unfolding claimTurn
       claim-in x e inside =
           let k : added (headed s h) (c .reference) Point .table .count ≡ h .count + 1 = added-kept (headed s h) (c .reference) Point .count in
@@ -291,34 +291,34 @@ refused-turn s n out at l e r p = record { books = refl; ready = r; said = p }
 
 module _ (s : Store) (f : List ℕ) (out : List ℕ) (at : ℕ) (l : List ℕ) (e : ℕ) where
   pub frame-claim : (x : Store) (c : ClaimLine) → claimOk f ≡ true → c ≡ claimAt f
-      → Served (claimTurn (booksOf s) (entering (tableFor (booksOf s) c) c)) x out at l e → Served (frameTurn (booksOf s) f) x out at l e
+      → Served (claimTurn (booksOf s) (claimEntering (tableFor (booksOf s) c) c)) x out at l e → Served (frameTurn (booksOf s) f) x out at l e
   unfolding frameTurn
   frame-claim x c q is v = rw q (rw is at v)
 
   pub frame-ask : (a : lines-Ask.Ask) → Ready s → claimOk f ≡ false → isAsk f ≡ true → a ≡ askAt f
-      → Put (askTurn (booksOf s) (reply (booksOf s) (asked a)) .said) out at l e → Served (frameTurn (booksOf s) f) s out at l e
+      → Put (askTurn (booksOf s) (reply (booksOf s) (askMeant a)) .said) out at l e → Served (frameTurn (booksOf s) f) s out at l e
   unfolding frameTurn
   frame-ask a r p q is v =
-      rw (p, q) (record { books = ask-books (booksOf s) (reply (booksOf s) (asked (askAt f))); ready = r; said = rw is at v })
+      rw (p, q) (record { books = ask-books (booksOf s) (reply (booksOf s) (askMeant (askAt f))); ready = r; said = rw is at v })
 
   pub frame-none : Ready s → claimOk f ≡ false → isAsk f ≡ false → Put (refusal 10) out at l e → Served (frameTurn (booksOf s) f) s out at l e
   unfolding frameTurn
   frame-none r p q v = rw (p, q) (refused-turn s 10 out at l e r v)
 
 module _ (s : Store) (line : List ℕ) (out : List ℕ) (at : ℕ) (l : List ℕ) (e : ℕ) where
-  pub line-9 : Ready s → sound line ≡ false → Put (refusal 9) out at l e → Served (lineTurn (booksOf s) line) s out at l e
+  pub line-9 : Ready s → isLine line ≡ false → Put (refusal 9) out at l e → Served (lineTurn (booksOf s) line) s out at l e
   unfolding lineTurn
   line-9 r q p = rw q (refused-turn s 9 out at l e r p)
 
-  pub line-frame : (x : Store) (f : List ℕ) → sound line ≡ true → f ≡ frameOf line → Served (frameTurn (booksOf s) f) x out at l e
+  pub line-frame : (x : Store) (f : List ℕ) → isLine line ≡ true → f ≡ frameOf line → Served (frameTurn (booksOf s) f) x out at l e
       → Served (lineTurn (booksOf s) line) x out at l e
   unfolding lineTurn
   line-frame x f q p v = rw (q, ← p) v
 
 -- ---- the line that was cut
 
-sound-long : (h : List ℕ) → longestAnswer < length h → sound h ≡ false
-unfolding sound
+sound-long : (h : List ℕ) → longestAnswer < length h → isLine h ≡ false
+unfolding isLine
 sound-long h o = rw (lt-leb (length h) longestAnswer o) (go (leb 2 (length h)))
   where
     go : (b : Bool) → (b && false) ≡ false

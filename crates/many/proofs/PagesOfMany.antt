@@ -25,8 +25,8 @@ use Rattle.rows.specs.Answers.{pageRow}
 use Rattle.rows.specs.Places.{placeAt}
 use Rattle.many.specs.Rows.{row, each, instead}
 use Rattle.many.specs.Counts.{manyRefusal}
-use Rattle.many.specs.Pages.{pageAt, putOutcome, putItems, Rooms, bothRooms, onPages, pagesRefusal, pagesEach, OnePage, AllPages}
-use Rattle.many.proofs.Ways.{part-point, part-length, many-refused, many-goes}
+use Rattle.many.specs.Pages.{pageAt, putOutcome, putPageItems, Rooms, bothRooms, onPages, pagesRefusal, pagesEach, OnePage, AllPages}
+use Rattle.many.proofs.FirstsOfMany.{part-point, part-length, many-refused, many-goes}
 use Rattle.paper.specs.Limits.{mostPage}
 
 -- ---- [9.17] the whole call: 1, 2, 5, 6, 12
@@ -114,7 +114,7 @@ module _ (f : List ℤ → Place → ℕ → Outcome PageOf) (d i w : ℕ) (prob
 
   pub page-row-is : (p : answers.Page) (after ys : List ℕ) → Promise pageShown putPage asked (take (i * w + w - i * w) (drop (i * w) items)) p ys
       → after ≡ sets outcomes (i * 3) (pageRow p)
-      → (after ≡ putOutcome (λ k. meant) i outcomes) × (take (i * w) items ++ (ys ++ drop (i * w + w - i * w) (drop (i * w) items)) ≡ putItems (λ k. meant) w i items)
+      → (after ≡ putOutcome (λ k. meant) i outcomes) × (take (i * w) items ++ (ys ++ drop (i * w + w - i * w) (drop (i * w) items)) ≡ putPageItems (λ k. meant) w i items)
   page-row-is p after ys h e =
       let k : i * w + w - i * w ≡ w = omega arith in (
         e ∙ ap (λ x. sets outcomes (i * 3) (pageRow x)) (h .result) ∙ ap (λ x. sets outcomes (i * 3) (pageRow (pageShown x))) asked-is,
@@ -161,7 +161,7 @@ module _ (s : Store) (probes : List ℤ) (reaches places : List ℕ) (size : ℕ
   abbrev done : Rooms
   done =
       bothRooms (each (putOutcome (pageAt s probes reaches places size)) n (before .outcomes))
-      (each (putItems (pageAt s probes reaches places size) (size * 3)) n (before .items))
+      (each (putPageItems (pageAt s probes reaches places size) (size * 3)) n (before .items))
 
   abbrev call : Outcome Rooms
   call = pagesEach s probes reaches places size before

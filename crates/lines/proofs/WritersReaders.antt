@@ -8,13 +8,13 @@ use lib.ListN.{length, getD, take, drop, set}
 use lib.Seq.{drop-cons, set-at, take-at}
 use lib.Dec.{leb}
 use borrow.Author.Tests.{le-leb, lt-leb}
-use Rattle.paper.specs.Frames.{hexes, lineOf, frameOf, sound, written}
+use Rattle.paper.specs.Frames.{hexes, lineOf, frameOf, isLine, written}
 use Rattle.paper.specs.Outcomes.{Outcome, refused, gives}
 use Rattle.paper.specs.Lines.{wroteOf, putLine, Writes, bareLine, reading}
 use Rattle.paper.proofs.Outcomes.{must-go, must-stop, promise-refused, promise-given}
 use Rattle.paper.specs.declared.lines.Wrote.the-variants.{Line, Refused}
-use Rattle.digits.specs.Places.{over, held, Framed}
-use Rattle.digits.proofs.Laws.{over-eq, length-hexes, length-line}
+use Rattle.digits.specs.Places.{overlaid, frameIn, Framed}
+use Rattle.digits.proofs.NumbersAndFrames.{over-eq, length-hexes, length-line}
 
 -- ---- writers
 
@@ -23,7 +23,7 @@ unfolding lineOf
 line-eq f = refl
 
 -- the line end behind a frame that stands in the room
-pub finish : (o f : List ℕ) (n : ℕ) → n ≡ 2 * length f → n < length o → set (over o 0 f) n 10 ≡ written f o
+pub finish : (o f : List ℕ) (n : ℕ) → n ≡ 2 * length f → n < length o → set (overlaid o 0 f) n 10 ≡ written f o
 unfolding written
 finish o f n e h =
     let l = length-line f in
@@ -70,15 +70,15 @@ front-is-line f o = take-at (lineOf f) (drop (length (lineOf f)) o) (length (lin
 -- ---- readers
 
 module _ {A : Type 0} (ok : List ℕ → Bool) (value : List ℕ → A) (none : ℕ → A) (l : List ℕ) where
-  pub reads : sound l ≡ true → ok (frameOf l) ≡ true → reading ok value none l ≡ value (frameOf l)
+  pub reads : isLine l ≡ true → ok (frameOf l) ≡ true → reading ok value none l ≡ value (frameOf l)
   unfolding reading
   reads s k = rw (s, k)
 
-  pub reads-10 : sound l ≡ true → ok (frameOf l) ≡ false → reading ok value none l ≡ none 10
+  pub reads-10 : isLine l ≡ true → ok (frameOf l) ≡ false → reading ok value none l ≡ none 10
   unfolding reading
   reads-10 s k = rw (s, k)
 
-  pub reads-9 : sound l ≡ false → reading ok value none l ≡ none 9
+  pub reads-9 : isLine l ≡ false → reading ok value none l ≡ none 9
   unfolding reading
   reads-9 s = rw s
 
@@ -91,10 +91,10 @@ module _ {A : Type 0} (ok : List ℕ → Bool) (value : List ℕ → A) (none : 
       long : 0 < r
       long = omega (arith, some)
 
-      pub way-10 : ok (held (take r x)) ≡ false → none 10 ≡ reading ok value none l
+      pub way-10 : ok (frameIn (take r x)) ≡ false → none 10 ≡ reading ok value none l
       way-10 e = sym (reads-10 (f .sure long) (ap ok (sym (f .frame long)) ∙ e))
 
-      pub way-read : ok (held (take r x)) ≡ true → value (held (take r x)) ≡ reading ok value none l
+      pub way-read : ok (frameIn (take r x)) ≡ true → value (frameIn (take r x)) ≡ reading ok value none l
       way-read e = ap value (f .frame long) ∙ sym (reads (f .sure long) (ap ok (sym (f .frame long)) ∙ e))
 
 -- a reader that refused nothing found both tests true
@@ -104,6 +104,6 @@ accepted-of true false good none refusal r e = absurd (omega (arith, r 10))
 accepted-of false k good none refusal r e = absurd (omega (arith, r 9))
 
 pub accepted : {A : Type 0} (ok : List ℕ → Bool) (value : List ℕ → A) (none : ℕ → A) (refusal : A → ℕ) (l : List ℕ)
-    → ((n : ℕ) → refusal (none n) ≡ n) → refusal (reading ok value none l) ≡ 0 → (sound l ≡ true) × (ok (frameOf l) ≡ true)
+    → ((n : ℕ) → refusal (none n) ≡ n) → refusal (reading ok value none l) ≡ 0 → (isLine l ≡ true) × (ok (frameOf l) ≡ true)
 unfolding reading
-accepted ok value none refusal l r e = accepted-of (sound l) (ok (frameOf l)) (value (frameOf l)) none refusal r e
+accepted ok value none refusal l r e = accepted-of (isLine l) (ok (frameOf l)) (value (frameOf l)) none refusal r e

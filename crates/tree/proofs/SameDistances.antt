@@ -5,16 +5,16 @@ use mathlib.Core.List.{List}
 use native.Mathlib.Omega.{arith}
 use lib.ListN.{length}
 use lib.Dec.{lit<}
-use Rattle.paper.specs.Tree.{Grown, fieldAt, claimAt, nearSide, raise, placed, entered, built}
+use Rattle.paper.specs.Tree.{Grown, fieldAt, sideClaim, nearSide, raise, placed, entered, built}
 use Rattle.tree.specs.Rooms.{Linked}
-use Rattle.tree.proofs.Turns.{still-linked, side-small, placed-stop, placed-new, placed-down}
-use Rattle.tree.proofs.Agree.{build}
+use Rattle.tree.proofs.OneEntering.{still-linked, side-small, placed-stop, placed-new, placed-down}
+use Rattle.tree.proofs.RoomsInUse.{build}
 
 module _ (e e' : ℕ → ℕ → ℕ) (used k m : ℕ) (a : List ℕ) (hm : m < used) (lk : Linked a used k) (no1 : fieldAt a m 1 ≡ 0 → ⊥) (same : (j : ℕ) → j < k → e j k ≡ e' j k) where
-  at-side : (s : ℕ) → s < 2 → e (claimAt a m s) k ≡ e' (claimAt a m s) k
+  at-side : (s : ℕ) → s < 2 → e (sideClaim a m s) k ≡ e' (sideClaim a m s) k
   unfolding Linked
-  at-side zero hs = same (claimAt a m 0) (omega (arith, lk m hm .left, lk m hm .stored 0 (lit< tt)))
-  at-side (suc zero) hs = same (claimAt a m 1) (omega (arith, lk m hm .stored 1 (lit< tt)))
+  at-side zero hs = same (sideClaim a m 0) (omega (arith, lk m hm .left, lk m hm .stored 0 (lit< tt)))
+  at-side (suc zero) hs = same (sideClaim a m 1) (omega (arith, lk m hm .stored 1 (lit< tt)))
   at-side (suc (suc s)) hs = absurd (omega arith)
 
   near-ext : nearSide e a m k ≡ nearSide e' a m k

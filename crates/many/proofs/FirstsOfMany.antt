@@ -21,7 +21,7 @@ use Rattle.walk.proofs.Answers.{good-answerable}
 use Rattle.paper.specs.Calls.{tableRefusal}
 use Rattle.paper.proofs.Outcomes.{must-stop, must-go, number-0, behind, stops, promise-refused, promise-given}
 use Rattle.tested.proofs.TableLaws.{table-refused, table-good, table-goes}
-use Rattle.nearby.proofs.CallLaws.{found-shown}
+use Rattle.nearby.proofs.QuestionsAndLists.{found-shown}
 use Rattle.rows.specs.Answers.{foundRow}
 use Rattle.many.specs.Rows.{each, instead, putFound}
 use Rattle.many.specs.Counts.{onMany, manyRefusal}

@@ -10,8 +10,8 @@ use lib.ListN.{length, getD, take, drop, set, length-append, length-take, length
 use lib.Seq.{take-suc, getD-at, take-at, drop-at, drop-drop, take-set-le}
 use lib.Dec.{ltb, leb, eqb}
 use borrow.Author.Tests.{ltb-true, ltb-false, leb-true, eqb-true, lt-ltb, le-ltb, le-leb}
-use Rattle.paper.specs.Frames.{be, num, glyph, digit, hexes, lineOf, ended, sound, frameOf}
-use Rattle.digits.specs.Places.{over, held}
+use Rattle.paper.specs.Frames.{be, num, glyph, digit, hexes, lineOf, pairsEnded, isLine, frameOf}
+use Rattle.digits.specs.Places.{overlaid, frameIn}
 use Rattle.paper.specs.Limits.{longestAnswer, longestFrame}
 
 -- every number of the list is a byte
@@ -132,8 +132,8 @@ frame-line (b ∷ f) p =
     let e : (b / 16) % 16 * 16 + b % 16 % 16 ≡ b = omega arith in
     rw (digit-glyph (b / 16) (omega arith), digit-glyph (b % 16) (omega arith), e, frame-line f (p .1))
 
-pub ended-line : (f : List ℕ) → Bytes f → ended (lineOf f) ≡ true
-unfolding lineOf hexes ended
+pub ended-line : (f : List ℕ) → Bytes f → pairsEnded (lineOf f) ≡ true
+unfolding lineOf hexes pairsEnded
 ended-line [] p = refl
 ended-line (b ∷ f) p =
     let k : b < 256 = p .0 in
@@ -145,28 +145,28 @@ pub and-both : (s t : Bool) → s && t ≡ true → (s ≡ true) × (t ≡ true)
 and-both true t e = (refl, e)
 and-both false t e = (e, absurd (let z : _≡_ {A = ℕ} 0 1 = cc in omega arith))
 
-pub line-frame : (l : List ℕ) → ended l ≡ true → lineOf (frameOf l) ≡ l
-unfolding lineOf hexes ended frameOf
+pub line-frame : (l : List ℕ) → pairsEnded l ≡ true → lineOf (frameOf l) ≡ l
+unfolding lineOf hexes pairsEnded frameOf
 line-frame [] e = sym (ap (λ (t : Bool). cond t (10 ∷ []) []) e)
 line-frame (a ∷ []) e = rw (eqb-true a 10 e)
 line-frame (a ∷ b ∷ l) e =
-    let p = and-both (ltb (digit a) 16) (ltb (digit b) 16 && ended l) e in
-    let q = and-both (ltb (digit b) 16) (ended l) (p .1) in
+    let p = and-both (ltb (digit a) 16) (ltb (digit b) 16 && pairsEnded l) e in
+    let q = and-both (ltb (digit b) 16) (pairsEnded l) (p .1) in
     let ha : digit a < 16 = ltb-true (digit a) 16 (p .0) in
     let hb : digit b < 16 = ltb-true (digit b) 16 (q .0) in
     let e1 : (digit a % 16 * 16 + digit b % 16) / 16 ≡ digit a = omega arith in
     let e2 : (digit a % 16 * 16 + digit b % 16) % 16 ≡ digit b = omega arith in
     rw (e1, e2, glyph-digit a ha, glyph-digit b hb, line-frame l (q .1))
 
-pub sound-line : (f : List ℕ) → Bytes f → 0 < length f → length f ≤ longestFrame → sound (lineOf f) ≡ true
-unfolding sound
+pub sound-line : (f : List ℕ) → Bytes f → 0 < length f → length f ≤ longestFrame → isLine (lineOf f) ≡ true
+unfolding isLine
 sound-line f p h k =
     rw (length-line f, lt-ltb 1 (2 * length f + 1) (omega arith), le-leb (2 * length f + 1) longestAnswer (omega arith)) (ended-line f p)
 
-pub line-of-sound : (l : List ℕ) → sound l ≡ true → lineOf (frameOf l) ≡ l
-unfolding sound
+pub line-of-sound : (l : List ℕ) → isLine l ≡ true → lineOf (frameOf l) ≡ l
+unfolding isLine
 line-of-sound l e =
-    line-frame l (and-both (leb (length l) longestAnswer) (ended l) (and-both (ltb 1 (length l)) (leb (length l) longestAnswer && ended l) e .1) .1)
+    line-frame l (and-both (leb (length l) longestAnswer) (pairsEnded l) (and-both (ltb 1 (length l)) (leb (length l) longestAnswer && pairsEnded l) e .1) .1)
 
 pub length-frame : (l : List ℕ) → length (frameOf l) ≡ length l / 2
 unfolding frameOf
@@ -198,15 +198,15 @@ pub and-false : (t : Bool) → t && false ≡ false
 and-false true = refl
 and-false false = refl
 
-pub ended-even : (l : List ℕ) → length l % 2 ≡ 0 → ended l ≡ false
-unfolding ended
+pub ended-even : (l : List ℕ) → length l % 2 ≡ 0 → pairsEnded l ≡ false
+unfolding pairsEnded
 ended-even [] h = refl
 ended-even (a ∷ []) h = absurd (omega arith)
 ended-even (a ∷ b ∷ l) h =
     rw (ended-even l (omega arith), and-false (ltb (digit b) 16)) (and-false (ltb (digit a) 16))
 
-pub ended-bad : (l : List ℕ) (i : ℕ) → i + 1 < length l → 16 ≤ digit (getD l i 0) → ended l ≡ false
-unfolding ended
+pub ended-bad : (l : List ℕ) (i : ℕ) → i + 1 < length l → 16 ≤ digit (getD l i 0) → pairsEnded l ≡ false
+unfolding pairsEnded
 ended-bad [] i h k = refl
 ended-bad (a ∷ []) i h k = absurd (omega arith)
 ended-bad (a ∷ b ∷ l) zero h k = rw (le-ltb (digit a) 16 k)
@@ -214,8 +214,8 @@ ended-bad (a ∷ b ∷ l) (suc zero) h k = rw (le-ltb (digit b) 16 k) (and-false
 ended-bad (a ∷ b ∷ l) (suc (suc i)) h k =
     rw (ended-bad l i (omega arith) k, and-false (ltb (digit b) 16)) (and-false (ltb (digit a) 16))
 
-pub ended-good : (l : List ℕ) (n : ℕ) → length l ≡ n + 1 → n % 2 ≡ 0 → ((k : ℕ) → k < n → digit (getD l k 0) < 16) → ended l ≡ eqb (getD l n 0) 10
-unfolding ended
+pub ended-good : (l : List ℕ) (n : ℕ) → length l ≡ n + 1 → n % 2 ≡ 0 → ((k : ℕ) → k < n → digit (getD l k 0) < 16) → pairsEnded l ≡ eqb (getD l n 0) 10
+unfolding pairsEnded
 ended-good [] n e p h = absurd (omega arith)
 ended-good (a ∷ []) zero e p h = refl
 ended-good (a ∷ []) (suc n) e p h = absurd (omega arith)
@@ -227,26 +227,26 @@ ended-good (a ∷ b ∷ l) (suc (suc n)) e p h =
 
 -- ---- writing over a part
 
-pub over-eq : (o : List ℕ) (at : ℕ) (f : List ℕ) → over o at f ≡ take (2 * at) o ++ (hexes f ++ drop (2 * at + 2 * length f) o)
-unfolding over
+pub over-eq : (o : List ℕ) (at : ℕ) (f : List ℕ) → overlaid o at f ≡ take (2 * at) o ++ (hexes f ++ drop (2 * at + 2 * length f) o)
+unfolding overlaid
 over-eq o at f = refl
 
-pub over-nil : (o : List ℕ) (at : ℕ) → over o at [] ≡ o
-unfolding over hexes
+pub over-nil : (o : List ℕ) (at : ℕ) → overlaid o at [] ≡ o
+unfolding overlaid hexes
 over-nil o at = let e : 2 * at + 2 * 0 ≡ 2 * at = omega arith in rw (e, take-append-drop)
 
 -- what stands before the end of what was written over, and what stands behind it
 length-head : (o : List ℕ) (at : ℕ) (f : List ℕ) → 2 * (at + length f) ≤ length o → length (take (2 * at) o ++ hexes f) ≡ 2 * (at + length f)
 length-head o at f h = simp (length-append, length-take, length-hexes) (omega arith)
 
-pub take-over : (o : List ℕ) (at : ℕ) (f : List ℕ) → 2 * (at + length f) ≤ length o → take (2 * (at + length f)) (over o at f) ≡ take (2 * at) o ++ hexes f
-unfolding over
+pub take-over : (o : List ℕ) (at : ℕ) (f : List ℕ) → 2 * (at + length f) ≤ length o → take (2 * (at + length f)) (overlaid o at f) ≡ take (2 * at) o ++ hexes f
+unfolding overlaid
 take-over o at f h =
     rw (← append-assoc (take (2 * at) o) (hexes f) (drop (2 * at + 2 * length f) o))
     (take-at (take (2 * at) o ++ hexes f) (drop (2 * at + 2 * length f) o) (2 * (at + length f)) (length-head o at f h))
 
-pub drop-over : (o : List ℕ) (at : ℕ) (f : List ℕ) (m : ℕ) → 2 * (at + length f) ≤ length o → drop (2 * (at + length f) + m) (over o at f) ≡ drop (2 * (at + length f) + m) o
-unfolding over
+pub drop-over : (o : List ℕ) (at : ℕ) (f : List ℕ) (m : ℕ) → 2 * (at + length f) ≤ length o → drop (2 * (at + length f) + m) (overlaid o at f) ≡ drop (2 * (at + length f) + m) o
+unfolding overlaid
 drop-over o at f m h =
     let e : 2 * at + 2 * length f ≡ 2 * (at + length f) = omega arith in
     rw (← append-assoc (take (2 * at) o) (hexes f) (drop (2 * at + 2 * length f) o))
@@ -255,10 +255,10 @@ drop-over o at f m h =
 
 -- writing f and g is writing f, and then g behind it
 pub over-append : (o : List ℕ) (at : ℕ) (f g : List ℕ) → 2 * (at + length f) ≤ length o
-    → over o at (f ++ g) ≡ over (over o at f) (at + length f) g
+    → overlaid o at (f ++ g) ≡ overlaid (overlaid o at f) (at + length f) g
 over-append o at f g h =
     let e : 2 * at + 2 * length (f ++ g) ≡ 2 * (at + length f) + 2 * length g = simp length-append (omega arith) in
-    rw (over-eq o at (f ++ g), over-eq (over o at f) (at + length f) g, take-over o at f h, drop-over o at f (2 * length g) h, e, hexes-append f g)
+    rw (over-eq o at (f ++ g), over-eq (overlaid o at f) (at + length f) g, take-over o at f h, drop-over o at f (2 * length g) h, e, hexes-append f g)
     (simp append-assoc)
 
 -- two characters stored one behind the other
@@ -273,8 +273,8 @@ drop-pair (x ∷ o) (suc k) a b h =
 
 -- one byte at the end of what is written
 pub over-last : (o : List ℕ) (at : ℕ) (f : List ℕ) (b k : ℕ) → k ≡ 2 * (at + length f) → k + 1 < length o
-    → over o at (f ++ (b ∷ [])) ≡ over (set (set o k (glyph (b / 16))) (k + 1) (glyph (b % 16))) at f
-unfolding over hexes
+    → overlaid o at (f ++ (b ∷ [])) ≡ overlaid (set (set o k (glyph (b / 16))) (k + 1) (glyph (b % 16))) at f
+unfolding overlaid hexes
 over-last o at f b k e h =
     let e1 : 2 * at + 2 * length f ≡ k = omega arith in
     let e2 : 2 * at + 2 * length (f ++ (b ∷ [])) ≡ k + 2 = simp length-append (omega arith) in
@@ -304,15 +304,15 @@ field-back f at w p h =
 -- ---- what a source holds
 
 -- no more bytes than the source has
-pub held-le : (s : List ℕ) → length (held s) ≤ length s
-unfolding held
+pub held-le : (s : List ℕ) → length (frameIn s) ≤ length s
+unfolding frameIn
 held-le s = omega arith
 
-pub held-all : (s : List ℕ) → held s ≡ s
-unfolding held
+pub held-all : (s : List ℕ) → frameIn s ≡ s
+unfolding frameIn
 held-all s = refl
 
-pub sound-size : (l : List ℕ) → sound l ≡ true → length l ≤ longestAnswer
-unfolding sound
+pub sound-size : (l : List ℕ) → isLine l ≡ true → length l ≤ longestAnswer
+unfolding isLine
 sound-size l e =
-    leb-true (length l) longestAnswer (and-both (leb (length l) longestAnswer) (ended l) (and-both (ltb 1 (length l)) (leb (length l) longestAnswer && ended l) e .1) .0)
+    leb-true (length l) longestAnswer (and-both (leb (length l) longestAnswer) (pairsEnded l) (and-both (ltb 1 (length l)) (leb (length l) longestAnswer && pairsEnded l) e .1) .0)

@@ -3,13 +3,13 @@ ghost use mathlib.Core.Path.{_≡_};
 ghost use lib.ListN.{length};
 ghost use Rattle.paper.specs.Tree.{lent};
 ghost use Rattle.paper.specs.Program.{frameTurn, lineTurn};
-ghost use Rattle.digits.specs.Places.{held};
+ghost use Rattle.digits.specs.Places.{frameIn};
 ghost use Rattle.serve.specs.Serving.{booksOf, Serving, Served, ServedCut};
 ghost use Rattle.paper.specs.Limits.{longestAnswer};
 use super::asks::take_ask;
 use super::claims::Step;
 use super::claims::take_claim;
-use super::saying::refuse;
+use super::refusing::refuse;
 use paper::limits::LONGEST_FRAME;
 use paper::tables::Table;
 
@@ -24,7 +24,7 @@ fn serve_frame(
     at: usize,
 ) -> Step
     requires { ⌜ Serving (lent t references coordinates rooms) (length (now out)) at ⌝ }
-    ensures { λ r. ⌜ Served (frameTurn (booksOf (lent t (references .entry) (coordinates .entry) (rooms .entry))) (held (now (src .entry)))) (lent (r .table) (references .exit) (coordinates .exit) (rooms .exit)) (now (out .entry)) at (now (out .exit)) (r .at) ⌝ }
+    ensures { λ r. ⌜ Served (frameTurn (booksOf (lent t (references .entry) (coordinates .entry) (rooms .entry))) (frameIn (now (src .entry)))) (lent (r .table) (references .exit) (coordinates .exit) (rooms .exit)) (now (out .entry)) at (now (out .exit)) (r .at) ⌝ }
 {
     if lines::claim_ok(src) {
         let claim = lines::claim_at(src);

@@ -10,9 +10,9 @@ use native.Mathlib.Nat.{le-refl, eq-or-lt-of-le}
 use lib.ListN.{length, getD, length-set}
 use lib.Dec.{lit<}
 use lib.Seq.{getD-set-same, getD-set-other, ext-getD}
-use Rattle.paper.specs.Tree.{Grown, grown, fieldAt, put, fresh, nearSide, raise, placed, entered, built}
+use Rattle.paper.specs.Tree.{Grown, grown, fieldAt, putField, newNode, nearSide, raise, placed, entered, built}
 use Rattle.tree.specs.Rooms.{Inside, Linked, Neartree, IsBuilt}
-use Rattle.tree.proofs.Turns.{still-linked, raise-length, side-small, placed-stop, placed-new, placed-down}
+use Rattle.tree.proofs.OneEntering.{still-linked, raise-length, side-small, placed-stop, placed-new, placed-down}
 use Rattle.tree.proofs.Keeping.{fresh-other, fresh-length, fresh-left, fresh-rest, keeps, place}
 
 -- the first w rooms of the two are the same, and the second is no shorter
@@ -20,18 +20,18 @@ pub record Agree (w : ℕ) (a b : List ℕ) : Type 0 where
   pub long : length a ≤ length b
   pub same : (m g : ℕ) → m < w → g < 6 → fieldAt a m g ≡ fieldAt b m g
 
-agree-put : (w : ℕ) (a b : List ℕ) (m f v v' : ℕ) → m * 6 + f < length a → v ≡ v' → Agree w a b → Agree w (put a m f v) (put b m f v')
+agree-put : (w : ℕ) (a b : List ℕ) (m f v v' : ℕ) → m * 6 + f < length a → v ≡ v' → Agree w a b → Agree w (putField a m f v) (putField b m f v')
 agree-put w a b m f v v' h e ag =
     record {
       long = omega (arith, length-set a (m * 6 + f) v, ag .long, length-set b (m * 6 + f) v');
       same = λ n g hn hg. at n g hn hg (ℕ-discrete (n * 6 + g) (m * 6 + f));
     }
   where
-    at : (n g : ℕ) → n < w → g < 6 → Dec (n * 6 + g ≡ m * 6 + f) → fieldAt (put a m f v) n g ≡ fieldAt (put b m f v') n g
+    at : (n g : ℕ) → n < w → g < 6 → Dec (n * 6 + g ≡ m * 6 + f) → fieldAt (putField a m f v) n g ≡ fieldAt (putField b m f v') n g
     at n g hn hg (yes p) = rw p (getD-set-same a (m * 6 + f) v 0 h ∙ e ∙ sym (getD-set-same b (m * 6 + f) v' 0 (omega (arith, ag .long))))
     at n g hn hg (no q) = getD-set-other a (m * 6 + f) (n * 6 + g) v 0 q ∙ ag .same n g hn hg ∙ sym (getD-set-other b (m * 6 + f) (n * 6 + g) v' 0 q)
 
-agree-fresh : (w : ℕ) (a b : List ℕ) (k : ℕ) → Inside a w → Agree w a b → Agree (w + 1) (fresh a w k) (fresh b w k)
+agree-fresh : (w : ℕ) (a b : List ℕ) (k : ℕ) → Inside a w → Agree w a b → Agree (w + 1) (newNode a w k) (newNode b w k)
 agree-fresh w a b k h ag =
     record {
       long = omega (arith, fresh-length a w k, ag .long, fresh-length b w k);
@@ -43,7 +43,7 @@ agree-fresh w a b k h ag =
     h' : Inside b w
     h' = omega (arith, ag .long)
 
-    at : (g : ℕ) → g < 6 → fieldAt (fresh a w k) w g ≡ fieldAt (fresh b w k) w g
+    at : (g : ℕ) → g < 6 → fieldAt (newNode a w k) w g ≡ fieldAt (newNode b w k) w g
     at zero hg = fresh-left a w k h ∙ sym (fresh-left b w k h')
     at (suc g) hg = fresh-rest a w k (suc g) h (omega arith) hg ∙ sym (fresh-rest b w k (suc g) h' (omega arith) hg)
 
@@ -94,7 +94,7 @@ place-alike (suc f) e used k m a b hm en room lk ag =
     below zero p no1 deep =
         let la : length (raise e a m s k) ≡ length a = raise-length e a m k s in
         let h4 : 4 + s < 6 = omega (arith, hs) in
-        let lp : length (put (raise e a m s k) m (4 + s) (used + 1)) ≡ length (raise e a m s k) = length-set (raise e a m s k) (m * 6 + (4 + s)) (used + 1) in
+        let lp : length (putField (raise e a m s k) m (4 + s) (used + 1)) ≡ length (raise e a m s k) = length-set (raise e a m s k) (m * 6 + (4 + s)) (used + 1) in
         let pb : fieldAt b m (4 + nearSide e b m k) ≡ 0 = rw (← near) (sym four ∙ p) in
         rw (placed-new f e used k m a no1 p, placed-new f e used k m b (λ z. no1 (one ∙ z)) pb, ← near)
         (record {
@@ -122,7 +122,7 @@ place-alike (suc f) e used k m a b hm en room lk ag =
 Behind : List ℕ → Grown → Type 0
 Behind a x = (n g : ℕ) → x .used ≤ n → g < 6 → fieldAt (x .rooms) n g ≡ fieldAt a n g
 
-put-behind : (a : List ℕ) (m f v n g : ℕ) → m < n → f < 6 → g < 6 → fieldAt (put a m f v) n g ≡ fieldAt a n g
+put-behind : (a : List ℕ) (m f v n g : ℕ) → m < n → f < 6 → g < 6 → fieldAt (putField a m f v) n g ≡ fieldAt a n g
 put-behind a m f v n g h hf hg = getD-set-other a (m * 6 + f) (n * 6 + g) v 0 (λ q. omega arith)
 
 raise-behind : (e : ℕ → ℕ → ℕ) (a : List ℕ) (m s k n g : ℕ) → m < n → s < 2 → g < 6 → fieldAt (raise e a m s k) n g ≡ fieldAt a n g
@@ -152,7 +152,7 @@ place-behind (suc f) e used k m a hm en room lk =
         → ((w : ℕ) → w < used → used ≤ w + f → used ≤ placed f e used k w (raise e a m s k) .used)
         → Behind a (placed (suc f) e used k m a)
     below zero p no1 deep more = rw (placed-new f e used k m a no1 p)
-        (λ n g hn hg. fresh-other (put (raise e a m s k) m (4 + s) (used + 1)) used k n g (λ q. omega arith) hg ∙ put-behind (raise e a m s k) m (4 + s) (used + 1) n g (omega arith) (omega (arith, hs)) hg
+        (λ n g hn hg. fresh-other (putField (raise e a m s k) m (4 + s) (used + 1)) used k n g (λ q. omega arith) hg ∙ put-behind (raise e a m s k) m (4 + s) (used + 1) n g (omega arith) (omega (arith, hs)) hg
         ∙ raise-behind e a m s k n g (omega arith) hs hg)
     below (suc w) p no1 deep more =
         let v : fieldAt a m (4 + s) - 1 ≡ w = omega arith in

@@ -17,7 +17,7 @@ use Rattle.paper.specs.Runs.{makeCall, madeShown, addedRun, enterCall, enteredS
 use Rattle.paper.specs.Calls.{tableRefusal}
 use Rattle.paper.proofs.Outcomes.{must-stop, must-go, number-is, promise-refused, promise-given}
 use Rattle.tree.specs.Soundness.{Good}
-use Rattle.tree.proofs.Known.{good-used}
+use Rattle.tree.proofs.TestedTables.{good-used}
 use Rattle.tree.proofs.RunLaws.{zero-enters, enters-gives}
 use Rattle.tested.proofs.TableLaws.{fit-stops, fit-goes, table-refused, table-good, table-goes}
 

@@ -1,11 +1,11 @@
--- `serve::heard::serve_cut` meets its contract: a longer line is refused as its front would be. Assumes nothing.
+-- `serve::one_line::serve_cut` meets its contract: a longer line is refused as its front would be. Assumes nothing.
 use Prim.Native.Nat.{_-_}
 use native.Mathlib.Omega.{arith}
 use Rattle.paper.specs.Tree.{store}
-use Rattle.serve.proofs.Turns.{cut-long, cut-line}
+use Rattle.serve.proofs.OneLineServed.{cut-long, cut-line}
 use borrow.Author.Needs.{needs}
-use Rattle.serve.proofs.heard.serve_cut.Statement.{statement}
-use Rattle.serve.proofs.heard.serve_cut.Tie as tie
+use Rattle.serve.proofs.one_line.serve_cut.Statement.{statement}
+use Rattle.serve.proofs.one_line.serve_cut.Tie as tie
 
 refuse-requires : tie.Need-refuse-requires
 refuse-requires c κs = search needs

@@ -8,14 +8,14 @@ use lib.Dec.{lit≤}
 use lib.IntN.{ℤ}
 use lib.ListN.{length, drop, drop-of-length-le}
 use Rattle.paper.specs.Tree.{Store, store, built}
-use Rattle.paper.specs.Program.{Office, fed, start}
+use Rattle.paper.specs.Program.{Office, fed, officeStart}
 use Rattle.tree.specs.Rooms.{IsBuilt}
 use Rattle.cut.proofs.Laws.{kept-none}
 use Rattle.serve.specs.declared.feeding.Sitting.{Sitting}
 use Rattle.serve.specs.Serving.{booksOf, Ready}
 use Rattle.serve.specs.Feeding.{Set, Stands, Turning, Moved}
 use Rattle.serve.proofs.Moves.{fed-more, fed-stop}
-use Rattle.stream.specs.Stream.{anewOf, emptiedOf, opening, Reached, Roomy}
+use Rattle.stream.specs.Stream.{anewOf, emptiedOf, sittingStart, Reached, Roomy}
 use Rattle.paper.specs.Limits.{longestAnswer, officeClaims, officePlaces, officeRooms}
 
 -- ---- a chunk
@@ -104,7 +104,7 @@ reading-done o chunk s l d r w =
 -- ---- the whole input
 
 -- the program starts with an empty table, whatever its memory holds
-opened-ready : (rf : List ℕ) (ps : List ℤ) (rs : List ℕ) → officeClaims ≤ length rf → officePlaces ≤ length ps → officeRooms ≤ length rs → Ready (store (opening .table) rf ps rs)
+opened-ready : (rf : List ℕ) (ps : List ℤ) (rs : List ℕ) → officeClaims ≤ length rf → officePlaces ≤ length ps → officeRooms ≤ length rs → Ready (store (sittingStart .table) rf ps rs)
 unfolding IsBuilt built
 opened-ready rf ps rs a b c =
     record {
@@ -125,16 +125,16 @@ opened-ready rf ps rs a b c =
 -- what holds at each turn of `run`
 pub record Running (rf₀ : List ℕ) (ps₀ : List ℤ) (rs₀ l₀ out₀ rf : List ℕ) (ps : List ℤ) (rs l b : List ℕ) (d : Sitting) : Type 0 where
   pub ready : Set (store (d .table) rf ps rs) l
-  pub reached : Reached start (store (d .table) rf ps rs) l d
+  pub reached : Reached officeStart (store (d .table) rf ps rs) l d
   pub references : length rf ≡ length rf₀
   pub coordinates : length ps ≡ length ps₀
   pub rooms : length rs ≡ length rs₀
   pub line : length l ≡ length l₀
   pub out : length b ≡ length out₀
 
-pub running-start : (rf : List ℕ) (ps : List ℤ) (rs l out : List ℕ) (d : Sitting) → d ≡ opening
+pub running-start : (rf : List ℕ) (ps : List ℤ) (rs l out : List ℕ) (d : Sitting) → d ≡ sittingStart
     → Roomy (length rf) (length ps) (length rs) (length l) (length out) → Running rf ps rs l out rf ps rs l out d
-unfolding fed start booksOf
+unfolding fed officeStart booksOf
 running-start rf ps rs l out d e h =
     rw e
     (record {

@@ -8,36 +8,36 @@ use lib.Dec.{leb, lit<}
 use mathlib.Core.Bool.{Bool, true, false, cond}
 use lib.Seq.{getD-set-other}
 use borrow.Author.Tests.{le-leb, lt-leb, eq-eqb, ne-eqb}
-use Rattle.paper.specs.Tree.{grown, fieldAt, put, claimAt, fresh, nearSide, raise, placed, entered}
+use Rattle.paper.specs.Tree.{grown, fieldAt, putField, sideClaim, newNode, nearSide, raise, placed, entered}
 use Rattle.tree.specs.Rooms.{Linked, HasClaim}
 
 -- another field keeps its number
-pub other : (rooms : List ℕ) (m f v n g : ℕ) → f < 6 → g < 6 → (f ≡ g → ⊥) → fieldAt (put rooms m f v) n g ≡ fieldAt rooms n g
+pub other : (rooms : List ℕ) (m f v n g : ℕ) → f < 6 → g < 6 → (f ≡ g → ⊥) → fieldAt (putField rooms m f v) n g ≡ fieldAt rooms n g
 other rooms m f v n g hf hg ne = getD-set-other rooms (m * 6 + f) (n * 6 + g) v 0 (λ q. ne (omega arith))
 
 module _ (e : ℕ → ℕ → ℕ) (rooms : List ℕ) (m k : ℕ) where
   module _ (l r dl dr : ℕ) (pl : l ≡ fieldAt rooms m 0) (pr : r ≡ fieldAt rooms m 1) (ql : dl ≡ e (l - 1) k) (qr : dr ≡ e (r - 1) k) where
-    pub near-left : dl ≤ dr → (0 ≡ nearSide e rooms m k) × (dl ≡ e (claimAt rooms m 0) k)
+    pub near-left : dl ≤ dr → (0 ≡ nearSide e rooms m k) × (dl ≡ e (sideClaim rooms m 0) k)
     unfolding nearSide
     near-left h =
-        let t : leb (e (claimAt rooms m 0) k) (e (claimAt rooms m 1) k) ≡ true = rw (← pl, ← pr, ← ql, ← qr) (le-leb dl dr h) in
+        let t : leb (e (sideClaim rooms m 0) k) (e (sideClaim rooms m 1) k) ≡ true = rw (← pl, ← pr, ← ql, ← qr) (le-leb dl dr h) in
         (sym (ap (λ (b : Bool). cond {A = ℕ} b 0 1) t), rw (← pl) ql)
 
-    pub near-right : dr < dl → (1 ≡ nearSide e rooms m k) × (dr ≡ e (claimAt rooms m 1) k)
+    pub near-right : dr < dl → (1 ≡ nearSide e rooms m k) × (dr ≡ e (sideClaim rooms m 1) k)
     unfolding nearSide
     near-right h =
-        let t : leb (e (claimAt rooms m 0) k) (e (claimAt rooms m 1) k) ≡ false = rw (← pl, ← pr, ← ql, ← qr) (lt-leb dl dr h) in
+        let t : leb (e (sideClaim rooms m 0) k) (e (sideClaim rooms m 1) k) ≡ false = rw (← pl, ← pr, ← ql, ← qr) (lt-leb dl dr h) in
         (sym (ap (λ (b : Bool). cond {A = ℕ} b 0 1) t), rw (← pr) qr)
 
   pub side-small : nearSide e rooms m k < 2
   unfolding nearSide
-  side-small = go (leb (e (claimAt rooms m 0) k) (e (claimAt rooms m 1) k))
+  side-small = go (leb (e (sideClaim rooms m 0) k) (e (sideClaim rooms m 1) k))
     where
       go : (b : Bool) → cond {A = ℕ} b 0 1 < 2
       go true = lit< tt
       go false = lit< tt
 
-  pub raised : (s distance : ℕ) → distance ≡ e (claimAt rooms m s) k → put rooms m (2 + s) (max (fieldAt rooms m (2 + s)) distance) ≡ raise e rooms m s k
+  pub raised : (s distance : ℕ) → distance ≡ e (sideClaim rooms m s) k → putField rooms m (2 + s) (max (fieldAt rooms m (2 + s)) distance) ≡ raise e rooms m s k
   unfolding raise
   raised s distance q = rw q
 
@@ -49,10 +49,10 @@ module _ (e : ℕ → ℕ → ℕ) (rooms : List ℕ) (m k : ℕ) where
   pub still-linked : (s used n : ℕ) → s < 2 → Linked rooms used n → Linked (raise e rooms m s k) used n
   unfolding Linked raise
   still-linked s used n hs h w hw =
-      let v : ℕ = max (fieldAt rooms m (2 + s)) (e (claimAt rooms m s) k) in
-      let same-held : (z : ℕ) → z < 2 → fieldAt (put rooms m (2 + s) v) w z ≡ fieldAt rooms w z =
+      let v : ℕ = max (fieldAt rooms m (2 + s)) (e (sideClaim rooms m s) k) in
+      let same-held : (z : ℕ) → z < 2 → fieldAt (putField rooms m (2 + s) v) w z ≡ fieldAt rooms w z =
       λ z hz. other rooms m (2 + s) v w z (omega arith) (omega arith) (λ q. omega arith) in
-      let same-below : (z : ℕ) → z < 2 → fieldAt (put rooms m (2 + s) v) w (4 + z) ≡ fieldAt rooms w (4 + z) =
+      let same-below : (z : ℕ) → z < 2 → fieldAt (putField rooms m (2 + s) v) w (4 + z) ≡ fieldAt rooms w (4 + z) =
       λ z hz. other rooms m (2 + s) v w (4 + z) (omega arith) (omega arith) (λ q. omega arith) in
       record {
         left = rw (same-held 0 (lit< tt)) (h w hw .left);
@@ -63,12 +63,12 @@ module _ (e : ℕ → ℕ → ℕ) (rooms : List ℕ) (m k : ℕ) where
 
 -- what one turn of `placed` does
 module _ (f : ℕ) (e : ℕ → ℕ → ℕ) (used k m : ℕ) (rooms : List ℕ) where
-  pub placed-stop : fieldAt rooms m 1 ≡ 0 → placed (suc f) e used k m rooms ≡ grown (put rooms m 1 (k + 1)) used
+  pub placed-stop : fieldAt rooms m 1 ≡ 0 → placed (suc f) e used k m rooms ≡ grown (putField rooms m 1 (k + 1)) used
   unfolding placed
   placed-stop z = rw (eq-eqb (fieldAt rooms m 1) 0 z)
 
   pub placed-new : (fieldAt rooms m 1 ≡ 0 → ⊥) → fieldAt rooms m (4 + nearSide e rooms m k) ≡ 0
-      → placed (suc f) e used k m rooms ≡ grown (fresh (put (raise e rooms m (nearSide e rooms m k) k) m (4 + nearSide e rooms m k) (used + 1)) used k) (used + 1)
+      → placed (suc f) e used k m rooms ≡ grown (newNode (putField (raise e rooms m (nearSide e rooms m k) k) m (4 + nearSide e rooms m k) (used + 1)) used k) (used + 1)
   unfolding placed
   placed-new no1 z = rw (ne-eqb (fieldAt rooms m 1) 0 no1, eq-eqb (fieldAt rooms m (4 + nearSide e rooms m k)) 0 z)
 
@@ -92,7 +92,7 @@ going-start e zero k rooms no0 h = absurd (no0 refl)
 going-start e (suc u) k rooms no0 h =
     record { fuel = suc u; enough = omega arith; inUse = omega arith; long = refl; linked = h; same = refl }
 
-pub entered-first : (e : ℕ → ℕ → ℕ) (used k : ℕ) (rooms : List ℕ) → used ≡ 0 → entered e used k rooms ≡ grown (fresh rooms 0 k) 1
+pub entered-first : (e : ℕ → ℕ → ℕ) (used k : ℕ) (rooms : List ℕ) → used ≡ 0 → entered e used k rooms ≡ grown (newNode rooms 0 k) 1
 unfolding entered
 entered-first e used k rooms z = rw z
 
@@ -108,20 +108,20 @@ module _ (e : ℕ → ℕ → ℕ) (used k : ℕ) (rooms₀ rooms : List ℕ) (m
       record { inside = omega (arith, g .long); held = omega arith; stored = ok .stored 1 (lit< tt) }
   going-claim (suc (suc s)) hs room no1 = absurd (omega arith)
 
-  pub going-stop : fieldAt rooms m 1 ≡ 0 → entered e used k rooms₀ ≡ grown (put rooms m 1 (k + 1)) used
+  pub going-stop : fieldAt rooms m 1 ≡ 0 → entered e used k rooms₀ ≡ grown (putField rooms m 1 (k + 1)) used
   going-stop z = go (g .fuel) (g .enough) (g .same)
     where
-      go : (f : ℕ) → used ≤ m + f → placed f e used k m rooms ≡ entered e used k rooms₀ → entered e used k rooms₀ ≡ grown (put rooms m 1 (k + 1)) used
+      go : (f : ℕ) → used ≤ m + f → placed f e used k m rooms ≡ entered e used k rooms₀ → entered e used k rooms₀ ≡ grown (putField rooms m 1 (k + 1)) used
       go zero en sm = absurd (omega (arith, g .inUse))
       go (suc f) en sm = sym sm ∙ placed-stop f e used k m rooms z
 
   module _ (s below : ℕ) (rooms' : List ℕ) (no1 : fieldAt rooms m 1 ≡ 0 → ⊥) (near : s ≡ nearSide e rooms m k)
       (read : below ≡ fieldAt rooms m (4 + s)) (lifted : rooms' ≡ raise e rooms m s k) where
-    pub going-new : below ≡ 0 → entered e used k rooms₀ ≡ grown (fresh (put rooms' m (4 + s) (used + 1)) used k) (used + 1)
+    pub going-new : below ≡ 0 → entered e used k rooms₀ ≡ grown (newNode (putField rooms' m (4 + s) (used + 1)) used k) (used + 1)
     going-new z = rw (lifted, near) (go (g .fuel) (g .enough) (g .same))
       where
         go : (f : ℕ) → used ≤ m + f → placed f e used k m rooms ≡ entered e used k rooms₀
-            → entered e used k rooms₀ ≡ grown (fresh (put (raise e rooms m (nearSide e rooms m k) k) m (4 + nearSide e rooms m k) (used + 1)) used k) (used + 1)
+            → entered e used k rooms₀ ≡ grown (newNode (putField (raise e rooms m (nearSide e rooms m k) k) m (4 + nearSide e rooms m k) (used + 1)) used k) (used + 1)
         go zero en sm = absurd (omega (arith, g .inUse))
         go (suc f) en sm = sym sm ∙ placed-new f e used k m rooms no1 (rw (← near) (sym read ∙ z))
 

@@ -2,7 +2,7 @@
 use mathlib.Core.Path.{sym, _∙_}
 use Rattle.paper.proofs.LineKinds.{answers-apart, asks-apart}
 use Rattle.paper.specs.Codec.{askLine, answerLine, lines}
-use Rattle.orders.specs.Laws.{Lawful}
+use Rattle.orders.specs.LawfulLines.{Lawful}
 use Rattle.endlines.proofs.Written.{ask-back, ask-begins, answer-back, answer-begins}
 use Rattle.endlines.proofs.Read.{ask-ok, answer-ok, answer-headed}
 
