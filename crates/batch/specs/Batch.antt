@@ -145,7 +145,7 @@ abbrev pub twoRooms : List ℕ → List ℕ → Rooms
 twoRooms outcomes out = record { outcomes = outcomes; out = out }
 
 abbrev pub putBatch : Batch → Rooms → Rooms
-putBatch b rooms = twoRooms (b .outcomes) (b .out)
+putBatch b nodes = twoRooms (b .outcomes) (b .out)
 
 -- what the call promises
 abbrev pub AnswersAll : Outcome Batch → Rooms → Answered → Rooms → Type 0

@@ -37,19 +37,19 @@ pub fn answer_all(
     t: Table,
     references: &[u32],
     coordinates: &[i32],
-    rooms: &[u64],
+    nodes: &[u64],
     asks: &[u8],
     outcomes: &mut [u64],
     out: &mut [u8],
 ) -> Answered
-    ensures { λ r. ⌜ AnswersAll (batchCall (lent t (references .entry) (coordinates .entry) (rooms .entry)) (now (asks .entry)) (now (outcomes .entry)) (now (out .entry))) (twoRooms (now (outcomes .entry)) (now (out .entry))) r (twoRooms (now (outcomes .exit)) (now (out .exit))) ⌝ }
+    ensures { λ r. ⌜ AnswersAll (batchCall (lent t (references .entry) (coordinates .entry) (nodes .entry)) (now (asks .entry)) (now (outcomes .entry)) (now (out .entry))) (twoRooms (now (outcomes .entry)) (now (out .entry))) r (twoRooms (now (outcomes .exit)) (now (out .exit))) ⌝ }
 {
     if out.len() < LONGEST_ANSWER {
         return refused(12);
     }
-    let why = nearby::table_refusal(t, references, coordinates, rooms);
+    let why = nearby::table_refusal(t, references, coordinates, nodes);
     if why != 0 {
         return refused(why);
     }
-    answer_lines(t, references, coordinates, rooms, asks, outcomes, out)
+    answer_lines(t, references, coordinates, nodes, asks, outcomes, out)
 }

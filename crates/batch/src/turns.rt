@@ -36,14 +36,14 @@ fn answer_next(
     t: Table,
     references: &[u32],
     coordinates: &[i32],
-    rooms: &[u64],
+    nodes: &[u64],
     asks: &[u8],
     d: Answered,
     outcomes: &mut [u64],
     out: &mut [u8],
 ) -> Answered
-    requires { ⌜ Turning (lent t references coordinates rooms) (now asks) (batchOf d (now outcomes) (now out)) ⌝ }
-    ensures { λ r. ⌜ Stands (step (lent t (references .entry) (coordinates .entry) (rooms .entry)) (now (asks .entry)) (batchOf d (now (outcomes .entry)) (now (out .entry)))) r (now (outcomes .exit)) (now (out .exit)) ⌝ }
+    requires { ⌜ Turning (lent t references coordinates nodes) (now asks) (batchOf d (now outcomes) (now out)) ⌝ }
+    ensures { λ r. ⌜ Stands (step (lent t (references .entry) (coordinates .entry) (nodes .entry)) (now (asks .entry)) (batchOf d (now (outcomes .entry)) (now (out .entry)))) r (now (outcomes .exit)) (now (out .exit)) ⌝ }
 {
     let at = d.used;
     let w = d.written;
@@ -53,7 +53,7 @@ fn answer_next(
         t,
         references,
         coordinates,
-        rooms,
+        nodes,
         &asks[at..e],
         &mut out[w..],
     );
@@ -72,13 +72,13 @@ pub fn answer_lines(
     t: Table,
     references: &[u32],
     coordinates: &[i32],
-    rooms: &[u64],
+    nodes: &[u64],
     asks: &[u8],
     outcomes: &mut [u64],
     out: &mut [u8],
 ) -> Answered
-    requires { ⌜ 0 ≡ tableRefusal (lent t references coordinates rooms) ⌝ }
-    ensures { λ r. ⌜ Stands (batchAnswered (length (now (asks .entry))) (lent t (references .entry) (coordinates .entry) (rooms .entry)) (now (asks .entry)) (batchStart (now (outcomes .entry)) (now (out .entry)))) r (now (outcomes .exit)) (now (out .exit)) ⌝ }
+    requires { ⌜ 0 ≡ tableRefusal (lent t references coordinates nodes) ⌝ }
+    ensures { λ r. ⌜ Stands (batchAnswered (length (now (asks .entry))) (lent t (references .entry) (coordinates .entry) (nodes .entry)) (now (asks .entry)) (batchStart (now (outcomes .entry)) (now (out .entry)))) r (now (outcomes .exit)) (now (out .exit)) ⌝ }
 {
     let mut d = Answered {
         refusal: 0,
@@ -87,7 +87,7 @@ pub fn answer_lines(
         written: 0,
     };
     while goes_on(d, asks.len(), outcomes.len(), out.len()) {
-        d = answer_next(t, references, coordinates, rooms, asks, d, outcomes, out);
+        d = answer_next(t, references, coordinates, nodes, asks, d, outcomes, out);
     }
     d
 }

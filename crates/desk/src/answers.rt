@@ -22,14 +22,14 @@ fn answer_here(
     t: Table,
     references: &[u32],
     coordinates: &[i32],
-    rooms: &[u64],
+    nodes: &[u64],
     q: Query,
     p: Scope,
     size: u8,
     out: &mut [u8],
 ) -> Wrote
-    requires { ⌜ Asking (lent t references coordinates rooms) q p size (length (now out)) ⌝ }
-    ensures { λ r. ⌜ Writes (pageReply (tableOf (lent t (references .entry) (coordinates .entry) (rooms .entry))) (askIn q p size)) (now (out .entry)) r (now (out .exit)) ⌝ }
+    requires { ⌜ Asking (lent t references coordinates nodes) q p size (length (now out)) ⌝ }
+    ensures { λ r. ⌜ Writes (pageReply (tableOf (lent t (references .entry) (coordinates .entry) (nodes .entry))) (askIn q p size)) (now (out .entry)) r (now (out .exit)) ⌝ }
 {
     let place = place_of(p);
     if !snapshot_holds(place, t.count) {
@@ -40,7 +40,7 @@ fn answer_here(
     if !walk::questions::mark_holds(t, coordinates, &probe[..d], q.reach, place) {
         return Wrote::Refused(8);
     }
-    tell_page(t, references, coordinates, rooms, q, p, size, out)
+    tell_page(t, references, coordinates, nodes, q, p, size, out)
 }
 
 // [6.2] [8.11] Answers an ask that a reader gave.
@@ -48,19 +48,19 @@ pub fn answer_ask(
     t: Table,
     references: &[u32],
     coordinates: &[i32],
-    rooms: &[u64],
+    nodes: &[u64],
     ask: Ask,
     out: &mut [u8],
 ) -> Wrote
-    requires { ⌜ Answering (lent t references coordinates rooms) ask (length (now out)) ⌝ }
-    ensures { λ r. ⌜ Writes (replyTo (tableOf (lent t (references .entry) (coordinates .entry) (rooms .entry))) (askMeant ask)) (now (out .entry)) r (now (out .exit)) ⌝ }
+    requires { ⌜ Answering (lent t references coordinates nodes) ask (length (now out)) ⌝ }
+    ensures { λ r. ⌜ Writes (replyTo (tableOf (lent t (references .entry) (coordinates .entry) (nodes .entry))) (askMeant ask)) (now (out .entry)) r (now (out .exit)) ⌝ }
 {
     let q = ask.query;
     if !is_ours(t, q.table, q.measure, q.d) {
         return Wrote::Refused(11);
     }
     let scope = ask.scope;
-    answer_here(t, references, coordinates, rooms, q, scope, ask.size, out)
+    answer_here(t, references, coordinates, nodes, q, scope, ask.size, out)
 }
 
 // [6.1] [9.10] Answers an ask line.
@@ -68,17 +68,17 @@ pub fn answer_line(
     t: Table,
     references: &[u32],
     coordinates: &[i32],
-    rooms: &[u64],
+    nodes: &[u64],
     line: &[u8],
     out: &mut [u8],
 ) -> Wrote
-    requires { ⌜ Open (lent t references coordinates rooms) (length (now out)) ⌝ }
-    ensures { λ r. ⌜ Writes (served Codec·lines (tableOf (lent t (references .entry) (coordinates .entry) (rooms .entry))) (now (line .entry))) (now (out .entry)) r (now (out .exit)) ⌝ }
+    requires { ⌜ Open (lent t references coordinates nodes) (length (now out)) ⌝ }
+    ensures { λ r. ⌜ Writes (served Codec·lines (tableOf (lent t (references .entry) (coordinates .entry) (nodes .entry))) (now (line .entry))) (now (out .entry)) r (now (out .exit)) ⌝ }
 {
     let read = lines::read_ask(line);
     if read.refusal != 0 {
         return Wrote::Refused(read.refusal);
     }
     let ask = read.ask;
-    answer_ask(t, references, coordinates, rooms, ask, out)
+    answer_ask(t, references, coordinates, nodes, ask, out)
 }

@@ -37,14 +37,14 @@ pub fn tell_page(
     t: Table,
     references: &[u32],
     coordinates: &[i32],
-    rooms: &[u64],
+    nodes: &[u64],
     q: Query,
     p: Scope,
     size: u8,
     out: &mut [u8],
 ) -> Wrote
-    requires { ⌜ Paging (lent t references coordinates rooms) q p size (length (now out)) ⌝ }
-    ensures { λ r. ⌜ Writes (pageLine (tableOf (lent t (references .entry) (coordinates .entry) (rooms .entry))) (askIn q p size)) (now (out .entry)) r (now (out .exit)) ⌝ }
+    requires { ⌜ Paging (lent t references coordinates nodes) q p size (length (now out)) ⌝ }
+    ensures { λ r. ⌜ Writes (pageLine (tableOf (lent t (references .entry) (coordinates .entry) (nodes .entry))) (askIn q p size)) (now (out .entry)) r (now (out .exit)) ⌝ }
 {
     let mut room = [0u64; ITEM_ROOM];
     let order = q.order;
@@ -55,7 +55,7 @@ pub fn tell_page(
         t,
         references,
         coordinates,
-        rooms,
+        nodes,
         order,
         &probe[..d],
         q.reach,

@@ -15,7 +15,7 @@ pub struct Asked {
     pub order: Order,
     pub measure: u8,
     pub d: usize,
-    // How many claims the table has, and how many rooms are in use.
+    // How many claims the table has, and how many nodes are in use.
     pub claims: usize,
     pub used: usize,
     pub reach: u64,

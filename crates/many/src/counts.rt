@@ -10,13 +10,13 @@ pub fn many_refusal(
     t: Table,
     references: &[u32],
     coordinates: &[i32],
-    rooms: &[u64],
+    nodes: &[u64],
     probes: usize,
     n: usize,
 ) -> u8
-    ensures { λ r. ⌜ r ≡ manyRefusal (lent t (references .entry) (coordinates .entry) (rooms .entry)) probes n ⌝ }
+    ensures { λ r. ⌜ r ≡ manyRefusal (lent t (references .entry) (coordinates .entry) (nodes .entry)) probes n ⌝ }
 {
-    let why = nearby::table_refusal(t, references, coordinates, rooms);
+    let why = nearby::table_refusal(t, references, coordinates, nodes);
     if why != 0 {
         return why;
     }

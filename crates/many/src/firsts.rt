@@ -22,19 +22,19 @@ fn nearest_row(
     t: Table,
     references: &[u32],
     coordinates: &[i32],
-    rooms: &[u64],
+    nodes: &[u64],
     probes: &[i32],
     i: usize,
     reach: u64,
     out: &mut [u64],
 )
-    requires { ⌜ One (lent t references coordinates rooms) (length (now probes)) i 4 (length (now out)) ⌝ }
-    ensures { λ _. ⌜ now (out .exit) ≡ sets (now (out .entry)) (i * 4) (foundRow (foundShown (nearestOf (tableQuery t Near (point (t .d) (now (probes .entry)) i) reach) (claimsIn (lent t (references .entry) (coordinates .entry) (rooms .entry)))))) ⌝ }
+    requires { ⌜ One (lent t references coordinates nodes) (length (now probes)) i 4 (length (now out)) ⌝ }
+    ensures { λ _. ⌜ now (out .exit) ≡ sets (now (out .entry)) (i * 4) (foundRow (foundShown (nearestOf (tableQuery t Near (point (t .d) (now (probes .entry)) i) reach) (claimsIn (lent t (references .entry) (coordinates .entry) (nodes .entry)))))) ⌝ }
 {
     let d = t.d;
     let a = i * d;
     let e = a + d;
-    let found = walk::questions::nearest(t, references, coordinates, rooms, &probes[a..e], reach);
+    let found = walk::questions::nearest(t, references, coordinates, nodes, &probes[a..e], reach);
     put_found(out, i, found);
 }
 
@@ -43,18 +43,18 @@ fn farthest_row(
     t: Table,
     references: &[u32],
     coordinates: &[i32],
-    rooms: &[u64],
+    nodes: &[u64],
     probes: &[i32],
     i: usize,
     out: &mut [u64],
 )
-    requires { ⌜ One (lent t references coordinates rooms) (length (now probes)) i 4 (length (now out)) ⌝ }
-    ensures { λ _. ⌜ now (out .exit) ≡ putFound (farthestAt (lent t (references .entry) (coordinates .entry) (rooms .entry)) (now (probes .entry))) i (now (out .entry)) ⌝ }
+    requires { ⌜ One (lent t references coordinates nodes) (length (now probes)) i 4 (length (now out)) ⌝ }
+    ensures { λ _. ⌜ now (out .exit) ≡ putFound (farthestAt (lent t (references .entry) (coordinates .entry) (nodes .entry)) (now (probes .entry))) i (now (out .entry)) ⌝ }
 {
     let d = t.d;
     let a = i * d;
     let e = a + d;
-    let found = walk::questions::farthest(t, references, coordinates, rooms, &probes[a..e]);
+    let found = walk::questions::farthest(t, references, coordinates, nodes, &probes[a..e]);
     put_found(out, i, found);
 }
 
@@ -62,13 +62,13 @@ fn nearest_rows(
     t: Table,
     references: &[u32],
     coordinates: &[i32],
-    rooms: &[u64],
+    nodes: &[u64],
     probes: &[i32],
     reaches: &[u64],
     out: &mut [u64],
 )
-    requires { ⌜ Many (lent t references coordinates rooms) (length (now probes)) (length (now reaches)) 4 (length (now out)) ⌝ }
-    ensures { λ _. ⌜ now (out .exit) ≡ each (putFound (nearestAt (lent t (references .entry) (coordinates .entry) (rooms .entry)) (now (probes .entry)) (now (reaches .entry)))) (length (now (reaches .entry))) (now (out .entry)) ⌝ }
+    requires { ⌜ Many (lent t references coordinates nodes) (length (now probes)) (length (now reaches)) 4 (length (now out)) ⌝ }
+    ensures { λ _. ⌜ now (out .exit) ≡ each (putFound (nearestAt (lent t (references .entry) (coordinates .entry) (nodes .entry)) (now (probes .entry)) (now (reaches .entry)))) (length (now (reaches .entry))) (now (out .entry)) ⌝ }
 {
     let mut i = 0;
     while i < reaches.len() {
@@ -76,7 +76,7 @@ fn nearest_rows(
             t,
             references,
             coordinates,
-            rooms,
+            nodes,
             probes,
             i,
             reaches[i],
@@ -90,17 +90,17 @@ fn farthest_rows(
     t: Table,
     references: &[u32],
     coordinates: &[i32],
-    rooms: &[u64],
+    nodes: &[u64],
     probes: &[i32],
     n: usize,
     out: &mut [u64],
 )
-    requires { ⌜ Many (lent t references coordinates rooms) (length (now probes)) n 4 (length (now out)) ⌝ }
-    ensures { λ _. ⌜ now (out .exit) ≡ each (putFound (farthestAt (lent t (references .entry) (coordinates .entry) (rooms .entry)) (now (probes .entry)))) n (now (out .entry)) ⌝ }
+    requires { ⌜ Many (lent t references coordinates nodes) (length (now probes)) n 4 (length (now out)) ⌝ }
+    ensures { λ _. ⌜ now (out .exit) ≡ each (putFound (farthestAt (lent t (references .entry) (coordinates .entry) (nodes .entry)) (now (probes .entry)))) n (now (out .entry)) ⌝ }
 {
     let mut i = 0;
     while i < n {
-        farthest_row(t, references, coordinates, rooms, probes, i, out);
+        farthest_row(t, references, coordinates, nodes, probes, i, out);
         i += 1;
     }
 }
@@ -110,18 +110,18 @@ pub fn nearest_each(
     t: Table,
     references: &[u32],
     coordinates: &[i32],
-    rooms: &[u64],
+    nodes: &[u64],
     probes: &[i32],
     reaches: &[u64],
     out: &mut [u64],
 ) -> u8
-    ensures { λ r. ⌜ Promise number instead (nearestEach (lent t (references .entry) (coordinates .entry) (rooms .entry)) (now (probes .entry)) (now (reaches .entry)) (now (out .entry))) (now (out .entry)) r (now (out .exit)) ⌝ }
+    ensures { λ r. ⌜ Promise number instead (nearestEach (lent t (references .entry) (coordinates .entry) (nodes .entry)) (now (probes .entry)) (now (reaches .entry)) (now (out .entry))) (now (out .entry)) r (now (out .exit)) ⌝ }
 {
     let why = many_refusal(
         t,
         references,
         coordinates,
-        rooms,
+        nodes,
         probes.len(),
         reaches.len(),
     );
@@ -131,7 +131,7 @@ pub fn nearest_each(
     if !has_rows(reaches.len(), 4, out.len()) {
         return 12;
     }
-    nearest_rows(t, references, coordinates, rooms, probes, reaches, out);
+    nearest_rows(t, references, coordinates, nodes, probes, reaches, out);
     0
 }
 
@@ -140,20 +140,20 @@ pub fn farthest_each(
     t: Table,
     references: &[u32],
     coordinates: &[i32],
-    rooms: &[u64],
+    nodes: &[u64],
     probes: &[i32],
     n: usize,
     out: &mut [u64],
 ) -> u8
-    ensures { λ r. ⌜ Promise number instead (farthestEach (lent t (references .entry) (coordinates .entry) (rooms .entry)) (now (probes .entry)) n (now (out .entry))) (now (out .entry)) r (now (out .exit)) ⌝ }
+    ensures { λ r. ⌜ Promise number instead (farthestEach (lent t (references .entry) (coordinates .entry) (nodes .entry)) (now (probes .entry)) n (now (out .entry))) (now (out .entry)) r (now (out .exit)) ⌝ }
 {
-    let why = many_refusal(t, references, coordinates, rooms, probes.len(), n);
+    let why = many_refusal(t, references, coordinates, nodes, probes.len(), n);
     if why != 0 {
         return why;
     }
     if !has_rows(n, 4, out.len()) {
         return 12;
     }
-    farthest_rows(t, references, coordinates, rooms, probes, n, out);
+    farthest_rows(t, references, coordinates, nodes, probes, n, out);
     0
 }

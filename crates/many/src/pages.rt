@@ -25,7 +25,7 @@ fn page_row(
     t: Table,
     references: &[u32],
     coordinates: &[i32],
-    rooms: &[u64],
+    nodes: &[u64],
     probes: &[i32],
     i: usize,
     reach: u64,
@@ -34,9 +34,9 @@ fn page_row(
     outcomes: &mut [u64],
     items: &mut [u64],
 )
-    requires { ⌜ OnePage (lent t references coordinates rooms) (length (now probes)) (length (now places)) i size (length (now outcomes)) (length (now items)) ⌝ }
-    ensures told { λ _. ⌜ now (outcomes .exit) ≡ putOutcome (λ k. pageCall (lent t (references .entry) (coordinates .entry) (rooms .entry)) Near (point (t .d) (now (probes .entry)) i) reach (placeAt (now (places .entry)) i) size (size * 3)) i (now (outcomes .entry)) ⌝ }
-    ensures filled { λ _. ⌜ now (items .exit) ≡ putPageItems (λ k. pageCall (lent t (references .entry) (coordinates .entry) (rooms .entry)) Near (point (t .d) (now (probes .entry)) i) reach (placeAt (now (places .entry)) i) size (size * 3)) (size * 3) i (now (items .entry)) ⌝ }
+    requires { ⌜ OnePage (lent t references coordinates nodes) (length (now probes)) (length (now places)) i size (length (now outcomes)) (length (now items)) ⌝ }
+    ensures told { λ _. ⌜ now (outcomes .exit) ≡ putOutcome (λ k. pageCall (lent t (references .entry) (coordinates .entry) (nodes .entry)) Near (point (t .d) (now (probes .entry)) i) reach (placeAt (now (places .entry)) i) size (size * 3)) i (now (outcomes .entry)) ⌝ }
+    ensures filled { λ _. ⌜ now (items .exit) ≡ putPageItems (λ k. pageCall (lent t (references .entry) (coordinates .entry) (nodes .entry)) Near (point (t .d) (now (probes .entry)) i) reach (placeAt (now (places .entry)) i) size (size * 3)) (size * 3) i (now (items .entry)) ⌝ }
 {
     let d = t.d;
     let a = i * d;
@@ -50,7 +50,7 @@ fn page_row(
         t,
         references,
         coordinates,
-        rooms,
+        nodes,
         near,
         &probes[a..e],
         reach,
@@ -65,7 +65,7 @@ fn page_rows(
     t: Table,
     references: &[u32],
     coordinates: &[i32],
-    rooms: &[u64],
+    nodes: &[u64],
     probes: &[i32],
     reaches: &[u64],
     places: &[u64],
@@ -73,9 +73,9 @@ fn page_rows(
     outcomes: &mut [u64],
     items: &mut [u64],
 )
-    requires { ⌜ AllPages (lent t references coordinates rooms) (length (now probes)) (length (now reaches)) (length (now places)) size (length (now outcomes)) (length (now items)) ⌝ }
-    ensures told { λ _. ⌜ now (outcomes .exit) ≡ each (putOutcome (pageAt (lent t (references .entry) (coordinates .entry) (rooms .entry)) (now (probes .entry)) (now (reaches .entry)) (now (places .entry)) size)) (length (now (reaches .entry))) (now (outcomes .entry)) ⌝ }
-    ensures filled { λ _. ⌜ now (items .exit) ≡ each (putPageItems (pageAt (lent t (references .entry) (coordinates .entry) (rooms .entry)) (now (probes .entry)) (now (reaches .entry)) (now (places .entry)) size) (size * 3)) (length (now (reaches .entry))) (now (items .entry)) ⌝ }
+    requires { ⌜ AllPages (lent t references coordinates nodes) (length (now probes)) (length (now reaches)) (length (now places)) size (length (now outcomes)) (length (now items)) ⌝ }
+    ensures told { λ _. ⌜ now (outcomes .exit) ≡ each (putOutcome (pageAt (lent t (references .entry) (coordinates .entry) (nodes .entry)) (now (probes .entry)) (now (reaches .entry)) (now (places .entry)) size)) (length (now (reaches .entry))) (now (outcomes .entry)) ⌝ }
+    ensures filled { λ _. ⌜ now (items .exit) ≡ each (putPageItems (pageAt (lent t (references .entry) (coordinates .entry) (nodes .entry)) (now (probes .entry)) (now (reaches .entry)) (now (places .entry)) size) (size * 3)) (length (now (reaches .entry))) (now (items .entry)) ⌝ }
 {
     let mut i = 0;
     while i < reaches.len() {
@@ -83,7 +83,7 @@ fn page_rows(
             t,
             references,
             coordinates,
-            rooms,
+            nodes,
             probes,
             i,
             reaches[i],
@@ -101,7 +101,7 @@ fn pages_refusal(
     t: Table,
     references: &[u32],
     coordinates: &[i32],
-    rooms: &[u64],
+    nodes: &[u64],
     probes: usize,
     n: usize,
     places: usize,
@@ -109,9 +109,9 @@ fn pages_refusal(
     outcomes: usize,
     items: usize,
 ) -> u8
-    ensures { λ r. ⌜ r ≡ pagesRefusal (lent t (references .entry) (coordinates .entry) (rooms .entry)) probes n places size outcomes items ⌝ }
+    ensures { λ r. ⌜ r ≡ pagesRefusal (lent t (references .entry) (coordinates .entry) (nodes .entry)) probes n places size outcomes items ⌝ }
 {
-    let why = many_refusal(t, references, coordinates, rooms, probes, n);
+    let why = many_refusal(t, references, coordinates, nodes, probes, n);
     if why != 0 {
         return why;
     }
@@ -136,7 +136,7 @@ pub fn pages_each(
     t: Table,
     references: &[u32],
     coordinates: &[i32],
-    rooms: &[u64],
+    nodes: &[u64],
     probes: &[i32],
     reaches: &[u64],
     places: &[u64],
@@ -144,13 +144,13 @@ pub fn pages_each(
     outcomes: &mut [u64],
     items: &mut [u64],
 ) -> u8
-    ensures { λ r. ⌜ Promise number instead (pagesEach (lent t (references .entry) (coordinates .entry) (rooms .entry)) (now (probes .entry)) (now (reaches .entry)) (now (places .entry)) size (bothRooms (now (outcomes .entry)) (now (items .entry)))) (bothRooms (now (outcomes .entry)) (now (items .entry))) r (bothRooms (now (outcomes .exit)) (now (items .exit))) ⌝ }
+    ensures { λ r. ⌜ Promise number instead (pagesEach (lent t (references .entry) (coordinates .entry) (nodes .entry)) (now (probes .entry)) (now (reaches .entry)) (now (places .entry)) size (bothRooms (now (outcomes .entry)) (now (items .entry)))) (bothRooms (now (outcomes .entry)) (now (items .entry))) r (bothRooms (now (outcomes .exit)) (now (items .exit))) ⌝ }
 {
     let why = pages_refusal(
         t,
         references,
         coordinates,
-        rooms,
+        nodes,
         probes.len(),
         reaches.len(),
         places.len(),
@@ -165,7 +165,7 @@ pub fn pages_each(
         t,
         references,
         coordinates,
-        rooms,
+        nodes,
         probes,
         reaches,
         places,

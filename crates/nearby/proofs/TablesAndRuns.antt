@@ -102,14 +102,14 @@ module _ (s : Store) (given : List ℕ) (places : List ℤ) where
   -- refused, or entered
   module _ (why : ℕ) (we : why ≡ number call) where
     pub enter-refused : (why ≡ 0 → ⊥)
-        → Promise enteredShown putStore call (memory (s .references) (s .coordinates) (s .rooms)) (Entered.Refused why) (memory (s .references) (s .coordinates) (s .rooms))
+        → Promise enteredShown putStore call (memory (s .references) (s .coordinates) (s .nodes)) (Entered.Refused why) (memory (s .references) (s .coordinates) (s .nodes))
     enter-refused h = promise-refused enteredShown putStore call _ why (Entered.Refused why) (number-is call why we h) refl
 
     pub enter-done : why ≡ 0 → (t : Table) (r : List ℕ) (l : List ℤ) (m : List ℕ) → store t r l m ≡ addedRun given places (length given) s
-        → Promise enteredShown putStore call (memory (s .references) (s .coordinates) (s .rooms)) (Entered.Table t) (memory r l m)
+        → Promise enteredShown putStore call (memory (s .references) (s .coordinates) (s .nodes)) (Entered.Table t) (memory r l m)
     enter-done z t r l m e =
         let x = zero-enters s given places (sym we ∙ z) in
         promise-given enteredShown putStore call _ (addedRun given places (length given) s) (Entered.Table t) (memory r l m)
         (enters-gives s given places (x .good) (x .whole) (x .free))
         (ap (λ (y : Store). Entered.Table (y .table)) e)
-        (ap (λ (y : Store). memory (y .references) (y .coordinates) (y .rooms)) e)
+        (ap (λ (y : Store). memory (y .references) (y .coordinates) (y .nodes)) e)

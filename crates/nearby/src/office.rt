@@ -13,18 +13,18 @@ pub fn answer(
     t: Table,
     references: &[u32],
     coordinates: &[i32],
-    rooms: &[u64],
+    nodes: &[u64],
     line: &[u8],
     out: &mut [u8],
 ) -> Wrote
-    ensures { λ r. ⌜ Writes (officeCall (lent t (references .entry) (coordinates .entry) (rooms .entry)) (length (now (out .entry))) (now (line .entry))) (now (out .entry)) r (now (out .exit)) ⌝ }
+    ensures { λ r. ⌜ Writes (officeCall (lent t (references .entry) (coordinates .entry) (nodes .entry)) (length (now (out .entry))) (now (line .entry))) (now (out .entry)) r (now (out .exit)) ⌝ }
 {
     if out.len() < LONGEST_ANSWER {
         return Wrote::Refused(12);
     }
-    let why = table_refusal(t, references, coordinates, rooms);
+    let why = table_refusal(t, references, coordinates, nodes);
     if why != 0 {
         return Wrote::Refused(why);
     }
-    desk::answer_line(t, references, coordinates, rooms, line, out)
+    desk::answer_line(t, references, coordinates, nodes, line, out)
 }

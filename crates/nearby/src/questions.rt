@@ -19,20 +19,20 @@ pub fn nearest(
     t: Table,
     references: &[u32],
     coordinates: &[i32],
-    rooms: &[u64],
+    nodes: &[u64],
     probe: &[i32],
     reach: u64,
 ) -> Nearest
-    ensures { λ r. ⌜ Shows nearestShown (nearestCall (lent t (references .entry) (coordinates .entry) (rooms .entry)) (now (probe .entry)) reach) r ⌝ }
+    ensures { λ r. ⌜ Shows nearestShown (nearestCall (lent t (references .entry) (coordinates .entry) (nodes .entry)) (now (probe .entry)) reach) r ⌝ }
 {
-    let why = table_refusal(t, references, coordinates, rooms);
+    let why = table_refusal(t, references, coordinates, nodes);
     if why != 0 {
         return Nearest::Refused(why);
     }
     if probe.len() != t.d {
         return Nearest::Refused(5);
     }
-    let found = walk::questions::nearest(t, references, coordinates, rooms, probe, reach);
+    let found = walk::questions::nearest(t, references, coordinates, nodes, probe, reach);
     Nearest::Answer(found)
 }
 
@@ -41,19 +41,19 @@ pub fn farthest(
     t: Table,
     references: &[u32],
     coordinates: &[i32],
-    rooms: &[u64],
+    nodes: &[u64],
     probe: &[i32],
 ) -> Nearest
-    ensures { λ r. ⌜ Shows nearestShown (farthestCall (lent t (references .entry) (coordinates .entry) (rooms .entry)) (now (probe .entry))) r ⌝ }
+    ensures { λ r. ⌜ Shows nearestShown (farthestCall (lent t (references .entry) (coordinates .entry) (nodes .entry)) (now (probe .entry))) r ⌝ }
 {
-    let why = table_refusal(t, references, coordinates, rooms);
+    let why = table_refusal(t, references, coordinates, nodes);
     if why != 0 {
         return Nearest::Refused(why);
     }
     if probe.len() != t.d {
         return Nearest::Refused(5);
     }
-    let found = walk::questions::farthest(t, references, coordinates, rooms, probe);
+    let found = walk::questions::farthest(t, references, coordinates, nodes, probe);
     Nearest::Answer(found)
 }
 
@@ -62,16 +62,16 @@ pub fn page(
     t: Table,
     references: &[u32],
     coordinates: &[i32],
-    rooms: &[u64],
+    nodes: &[u64],
     probe: &[i32],
     reach: u64,
     place: Place,
     size: usize,
     room: &mut [u64],
 ) -> Page
-    ensures { λ r. ⌜ Promise pageShown putPage (pageCall (lent t (references .entry) (coordinates .entry) (rooms .entry)) Near (now (probe .entry)) reach place size (length (now (room .entry)))) (now (room .entry)) r (now (room .exit)) ⌝ }
+    ensures { λ r. ⌜ Promise pageShown putPage (pageCall (lent t (references .entry) (coordinates .entry) (nodes .entry)) Near (now (probe .entry)) reach place size (length (now (room .entry)))) (now (room .entry)) r (now (room .exit)) ⌝ }
 {
-    let why = table_refusal(t, references, coordinates, rooms);
+    let why = table_refusal(t, references, coordinates, nodes);
     if why != 0 {
         return Page::Refused(why);
     }
@@ -86,7 +86,7 @@ pub fn page(
         t,
         references,
         coordinates,
-        rooms,
+        nodes,
         near,
         probe,
         reach,

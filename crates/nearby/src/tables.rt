@@ -20,9 +20,9 @@ pub fn make_table(
     capacity: usize,
     references: &[u32],
     coordinates: &[i32],
-    rooms: &[u64],
+    nodes: &[u64],
 ) -> Made
-    ensures { λ r. ⌜ Shows madeShown (makeCall (lent (emptyTable number measure d capacity) (references .entry) (coordinates .entry) (rooms .entry))) r ⌝ }
+    ensures { λ r. ⌜ Shows madeShown (makeCall (lent (emptyTable number measure d capacity) (references .entry) (coordinates .entry) (nodes .entry))) r ⌝ }
 {
     let t = Table {
         number: number,
@@ -32,20 +32,20 @@ pub fn make_table(
         count: 0,
         used: 0,
     };
-    if !is_fit(t, references, coordinates, rooms) {
+    if !is_fit(t, references, coordinates, nodes) {
         return Made::Refused(1);
     }
     Made::Table(t)
 }
 
 // [9.5] Why a table may not be asked: 1 or 2, or 0 where it may.
-pub fn table_refusal(t: Table, references: &[u32], coordinates: &[i32], rooms: &[u64]) -> u8
-    ensures { λ r. ⌜ r ≡ tableRefusal (lent t (references .entry) (coordinates .entry) (rooms .entry)) ⌝ }
+pub fn table_refusal(t: Table, references: &[u32], coordinates: &[i32], nodes: &[u64]) -> u8
+    ensures { λ r. ⌜ r ≡ tableRefusal (lent t (references .entry) (coordinates .entry) (nodes .entry)) ⌝ }
 {
-    if !is_fit(t, references, coordinates, rooms) {
+    if !is_fit(t, references, coordinates, nodes) {
         return 1;
     }
-    if !is_sound(t, coordinates, rooms) {
+    if !is_sound(t, coordinates, nodes) {
         return 2;
     }
     0
@@ -56,13 +56,13 @@ fn run_refusal(
     t: Table,
     references: &[u32],
     coordinates: &[i32],
-    rooms: &[u64],
+    nodes: &[u64],
     given: &[u32],
     places: &[i32],
 ) -> u8
-    ensures { λ r. ⌜ r ≡ Outcomes·number (enterCall (lent t (references .entry) (coordinates .entry) (rooms .entry)) (now (given .entry)) (now (places .entry))) ⌝ }
+    ensures { λ r. ⌜ r ≡ Outcomes·number (enterCall (lent t (references .entry) (coordinates .entry) (nodes .entry)) (now (given .entry)) (now (places .entry))) ⌝ }
 {
-    let why = table_refusal(t, references, coordinates, rooms);
+    let why = table_refusal(t, references, coordinates, nodes);
     if why != 0 {
         return why;
     }
@@ -83,18 +83,18 @@ pub fn enter(
     t: Table,
     references: &mut [u32],
     coordinates: &mut [i32],
-    rooms: &mut [u64],
+    nodes: &mut [u64],
     given: &[u32],
     places: &[i32],
 ) -> Entered
     ensures { λ r. ⌜ Promise enteredShown putStore
-        (enterCall (lent t (references .entry) (coordinates .entry) (rooms .entry)) (now (given .entry)) (now (places .entry)))
-        (lentMemory (references .entry) (coordinates .entry) (rooms .entry)) r (lentMemory (references .exit) (coordinates .exit) (rooms .exit)) ⌝ }
+        (enterCall (lent t (references .entry) (coordinates .entry) (nodes .entry)) (now (given .entry)) (now (places .entry)))
+        (lentMemory (references .entry) (coordinates .entry) (nodes .entry)) r (lentMemory (references .exit) (coordinates .exit) (nodes .exit)) ⌝ }
 {
-    let why = run_refusal(t, references, coordinates, rooms, given, places);
+    let why = run_refusal(t, references, coordinates, nodes, given, places);
     if why != 0 {
         return Entered::Refused(why);
     }
-    let after = add_run(t, references, coordinates, rooms, given, places);
+    let after = add_run(t, references, coordinates, nodes, given, places);
     Entered::Table(after)
 }

@@ -13,12 +13,12 @@ pub extern "C" fn nearby_answer(
     t: Table,
     references: &[u32],
     coordinates: &[i32],
-    rooms: &[u64],
+    nodes: &[u64],
     line: &[u8],
     out: &mut [u8],
 ) -> Written
-    ensures { λ r. ⌜ WritesOut (officeCall (lent t (references .entry) (coordinates .entry) (rooms .entry)) (length (now (out .entry))) (now (line .entry))) (now (out .entry)) r (now (out .exit)) ⌝ }
+    ensures { λ r. ⌜ WritesOut (officeCall (lent t (references .entry) (coordinates .entry) (nodes .entry)) (length (now (out .entry))) (now (line .entry))) (now (out .entry)) r (now (out .exit)) ⌝ }
 {
-    let wrote = nearby::answer(t, references, coordinates, rooms, line, out);
+    let wrote = nearby::answer(t, references, coordinates, nodes, line, out);
     line_of(wrote)
 }

@@ -20,13 +20,13 @@ pub extern "C" fn nearby_nearest(
     t: Table,
     references: &[u32],
     coordinates: &[i32],
-    rooms: &[u64],
+    nodes: &[u64],
     probe: &[i32],
     reach: u64,
 ) -> Item
-    ensures { λ r. ⌜ r ≡ itemOut (nearestShown (nearestCall (lent t (references .entry) (coordinates .entry) (rooms .entry)) (now (probe .entry)) reach)) ⌝ }
+    ensures { λ r. ⌜ r ≡ itemOut (nearestShown (nearestCall (lent t (references .entry) (coordinates .entry) (nodes .entry)) (now (probe .entry)) reach)) ⌝ }
 {
-    item_of(nearby::nearest(t, references, coordinates, rooms, probe, reach))
+    item_of(nearby::nearest(t, references, coordinates, nodes, probe, reach))
 }
 
 // [9.7] Refusals 1, 2, 5.
@@ -35,12 +35,12 @@ pub extern "C" fn nearby_farthest(
     t: Table,
     references: &[u32],
     coordinates: &[i32],
-    rooms: &[u64],
+    nodes: &[u64],
     probe: &[i32],
 ) -> Item
-    ensures { λ r. ⌜ r ≡ itemOut (nearestShown (farthestCall (lent t (references .entry) (coordinates .entry) (rooms .entry)) (now (probe .entry)))) ⌝ }
+    ensures { λ r. ⌜ r ≡ itemOut (nearestShown (farthestCall (lent t (references .entry) (coordinates .entry) (nodes .entry)) (now (probe .entry)))) ⌝ }
 {
-    item_of(nearby::farthest(t, references, coordinates, rooms, probe))
+    item_of(nearby::farthest(t, references, coordinates, nodes, probe))
 }
 
 // [9.8] Refusals 1, 2, 5, 6, 7, 8, 12.
@@ -49,21 +49,21 @@ pub extern "C" fn nearby_page(
     t: Table,
     references: &[u32],
     coordinates: &[i32],
-    rooms: &[u64],
+    nodes: &[u64],
     probe: &[i32],
     reach: u64,
     start: Start,
     size: usize,
     room: &mut [u64],
 ) -> Filled
-    ensures { λ r. ⌜ Promise (λ o. filledOut (pageShown o)) putPage (pageCall (lent t (references .entry) (coordinates .entry) (rooms .entry)) Near (now (probe .entry)) reach (placeOf start) size (length (now (room .entry)))) (now (room .entry)) r (now (room .exit)) ⌝ }
+    ensures { λ r. ⌜ Promise (λ o. filledOut (pageShown o)) putPage (pageCall (lent t (references .entry) (coordinates .entry) (nodes .entry)) Near (now (probe .entry)) reach (placeOf start) size (length (now (room .entry)))) (now (room .entry)) r (now (room .exit)) ⌝ }
 {
     let place = place_of(start);
     let page = nearby::page(
         t,
         references,
         coordinates,
-        rooms,
+        nodes,
         probe,
         reach,
         place,

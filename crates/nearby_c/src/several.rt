@@ -15,14 +15,14 @@ pub extern "C" fn nearby_many_nearest(
     t: Table,
     references: &[u32],
     coordinates: &[i32],
-    rooms: &[u64],
+    nodes: &[u64],
     probes: &[i32],
     reaches: &[u64],
     out: &mut [u64],
 ) -> u8
-    ensures { λ r. ⌜ Outcomes.Promise number instead (nearestEach (lent t (references .entry) (coordinates .entry) (rooms .entry)) (now (probes .entry)) (now (reaches .entry)) (now (out .entry))) (now (out .entry)) r (now (out .exit)) ⌝ }
+    ensures { λ r. ⌜ Outcomes.Promise number instead (nearestEach (lent t (references .entry) (coordinates .entry) (nodes .entry)) (now (probes .entry)) (now (reaches .entry)) (now (out .entry))) (now (out .entry)) r (now (out .exit)) ⌝ }
 {
-    many::nearest_each(t, references, coordinates, rooms, probes, reaches, out)
+    many::nearest_each(t, references, coordinates, nodes, probes, reaches, out)
 }
 
 // [9.16] Refusals 1, 2, 5, 12.
@@ -31,14 +31,14 @@ pub extern "C" fn nearby_many_farthest(
     t: Table,
     references: &[u32],
     coordinates: &[i32],
-    rooms: &[u64],
+    nodes: &[u64],
     probes: &[i32],
     n: usize,
     out: &mut [u64],
 ) -> u8
-    ensures { λ r. ⌜ Outcomes.Promise number instead (farthestEach (lent t (references .entry) (coordinates .entry) (rooms .entry)) (now (probes .entry)) n (now (out .entry))) (now (out .entry)) r (now (out .exit)) ⌝ }
+    ensures { λ r. ⌜ Outcomes.Promise number instead (farthestEach (lent t (references .entry) (coordinates .entry) (nodes .entry)) (now (probes .entry)) n (now (out .entry))) (now (out .entry)) r (now (out .exit)) ⌝ }
 {
-    many::farthest_each(t, references, coordinates, rooms, probes, n, out)
+    many::farthest_each(t, references, coordinates, nodes, probes, n, out)
 }
 
 // [9.17] Refusals 1, 2, 5, 6, 12; and 7, 8 of each question.
@@ -47,7 +47,7 @@ pub extern "C" fn nearby_many_pages(
     t: Table,
     references: &[u32],
     coordinates: &[i32],
-    rooms: &[u64],
+    nodes: &[u64],
     probes: &[i32],
     reaches: &[u64],
     places: &[u64],
@@ -55,13 +55,13 @@ pub extern "C" fn nearby_many_pages(
     outcomes: &mut [u64],
     items: &mut [u64],
 ) -> u8
-    ensures { λ r. ⌜ Outcomes.Promise number instead (pagesEach (lent t (references .entry) (coordinates .entry) (rooms .entry)) (now (probes .entry)) (now (reaches .entry)) (now (places .entry)) size (bothRooms (now (outcomes .entry)) (now (items .entry)))) (bothRooms (now (outcomes .entry)) (now (items .entry))) r (bothRooms (now (outcomes .exit)) (now (items .exit))) ⌝ }
+    ensures { λ r. ⌜ Outcomes.Promise number instead (pagesEach (lent t (references .entry) (coordinates .entry) (nodes .entry)) (now (probes .entry)) (now (reaches .entry)) (now (places .entry)) size (bothRooms (now (outcomes .entry)) (now (items .entry)))) (bothRooms (now (outcomes .entry)) (now (items .entry))) r (bothRooms (now (outcomes .exit)) (now (items .exit))) ⌝ }
 {
     many::pages_each(
         t,
         references,
         coordinates,
-        rooms,
+        nodes,
         probes,
         reaches,
         places,
@@ -77,12 +77,12 @@ pub extern "C" fn nearby_many_answers(
     t: Table,
     references: &[u32],
     coordinates: &[i32],
-    rooms: &[u64],
+    nodes: &[u64],
     asks: &[u8],
     outcomes: &mut [u64],
     out: &mut [u8],
 ) -> Answered
-    ensures { λ r. ⌜ AnswersAll (batchCall (lent t (references .entry) (coordinates .entry) (rooms .entry)) (now (asks .entry)) (now (outcomes .entry)) (now (out .entry))) (twoRooms (now (outcomes .entry)) (now (out .entry))) r (twoRooms (now (outcomes .exit)) (now (out .exit))) ⌝ }
+    ensures { λ r. ⌜ AnswersAll (batchCall (lent t (references .entry) (coordinates .entry) (nodes .entry)) (now (asks .entry)) (now (outcomes .entry)) (now (out .entry))) (twoRooms (now (outcomes .entry)) (now (out .entry))) r (twoRooms (now (outcomes .exit)) (now (out .exit))) ⌝ }
 {
-    batch::answer_all(t, references, coordinates, rooms, asks, outcomes, out)
+    batch::answer_all(t, references, coordinates, nodes, asks, outcomes, out)
 }

@@ -19,11 +19,11 @@ pub extern "C" fn nearby_make_table(
     capacity: usize,
     references: &[u32],
     coordinates: &[i32],
-    rooms: &[u64],
+    nodes: &[u64],
 ) -> Tabled
-    ensures { λ r. ⌜ r ≡ madeOut (madeShown (makeCall (lent (emptyTable number measure d capacity) (references .entry) (coordinates .entry) (rooms .entry)))) ⌝ }
+    ensures { λ r. ⌜ r ≡ madeOut (madeShown (makeCall (lent (emptyTable number measure d capacity) (references .entry) (coordinates .entry) (nodes .entry)))) ⌝ }
 {
-    table_made(nearby::make_table(number, measure, d, capacity, references, coordinates, rooms))
+    table_made(nearby::make_table(number, measure, d, capacity, references, coordinates, nodes))
 }
 
 // [9.5] Refusals 1, 2: as every call on a table tests it.
@@ -32,11 +32,11 @@ pub extern "C" fn nearby_test_table(
     t: Table,
     references: &[u32],
     coordinates: &[i32],
-    rooms: &[u64],
+    nodes: &[u64],
 ) -> u8
-    ensures { λ r. ⌜ r ≡ tableRefusal (lent t (references .entry) (coordinates .entry) (rooms .entry)) ⌝ }
+    ensures { λ r. ⌜ r ≡ tableRefusal (lent t (references .entry) (coordinates .entry) (nodes .entry)) ⌝ }
 {
-    nearby::table_refusal(t, references, coordinates, rooms)
+    nearby::table_refusal(t, references, coordinates, nodes)
 }
 
 // [9.6] Refusals 1, 2, 5, 3, 4.
@@ -45,14 +45,14 @@ pub extern "C" fn nearby_enter(
     t: Table,
     references: &mut [u32],
     coordinates: &mut [i32],
-    rooms: &mut [u64],
+    nodes: &mut [u64],
     given: &[u32],
     places: &[i32],
 ) -> Tabled
     ensures { λ r. ⌜ Promise (λ o. enteredOut (enteredShown o)) putStore
-        (enterCall (lent t (references .entry) (coordinates .entry) (rooms .entry)) (now (given .entry)) (now (places .entry)))
-        (lentMemory (references .entry) (coordinates .entry) (rooms .entry)) r (lentMemory (references .exit) (coordinates .exit) (rooms .exit)) ⌝ }
+        (enterCall (lent t (references .entry) (coordinates .entry) (nodes .entry)) (now (given .entry)) (now (places .entry)))
+        (lentMemory (references .entry) (coordinates .entry) (nodes .entry)) r (lentMemory (references .exit) (coordinates .exit) (nodes .exit)) ⌝ }
 {
-    let e = nearby::enter(t, references, coordinates, rooms, given, places);
+    let e = nearby::enter(t, references, coordinates, nodes, given, places);
     table_entered(e)
 }

@@ -28,8 +28,8 @@ header measure d capacity count used =
 
 -- an empty table, in memory for so many references, coordinates and numbers of rooms
 abbrev pub empty : ℕ → ℕ → ℕ → ℕ → ℕ → ℕ → Store
-empty measure d capacity references coordinates rooms =
-    store (header measure d capacity 0 0) (replicate references 9) (replicate coordinates (pos 9)) (replicate rooms 9)
+empty measure d capacity references coordinates nodes =
+    store (header measure d capacity 0 0) (replicate references 9) (replicate coordinates (pos 9)) (replicate nodes 9)
 
 -- one with room for six claims
 abbrev pub none : Store
@@ -44,12 +44,12 @@ roomsOf far field =
     ++ replicate 18 9))
 
 abbrev pub fiveIn : ℕ → List ℕ → Store
-fiveIn capacity rooms =
+fiveIn capacity nodes =
     store
     (header 1 1 capacity 5 3)
     (101 ∷ 102 ∷ 103 ∷ 104 ∷ 105 ∷ 9 ∷ [])
     (pos 2 ∷ pos 3 ∷ pos 9 ∷ pos 6 ∷ pos 5 ∷ pos 9 ∷ [])
-    rooms
+    nodes
 
 -- the five claims, entered
 abbrev pub five : Store

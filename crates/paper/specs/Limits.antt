@@ -29,9 +29,9 @@ mostPage = 16
 abbrev pub itemRoom : ℕ
 itemRoom = 3 * mostPage
 
--- numbers of the rooms that a table is built into once more when it is tested
-abbrev pub scratchRoom : ℕ
-scratchRoom = 6 * mostClaims
+-- numbers of the nodes that a table is built into once more when it is tested
+abbrev pub scratchNodes : ℕ
+scratchNodes = 6 * mostClaims
 
 -- [5.6] [5.11] bytes of the longest frame, an answer's
 abbrev pub longestFrame : ℕ
@@ -47,12 +47,12 @@ longestAsk = 2 * (29 + 4 * mostPlaces) + 1
 abbrev pub longestClaim : ℕ
 longestClaim = 2 * (11 + 4 * mostPlaces) + 1
 
--- [10.1] the office program's table: claims, coordinates, numbers of rooms
+-- [10.1] the office program's table: claims, coordinates, numbers of nodes
 abbrev pub officeClaims : ℕ
 officeClaims = 1024
 
 abbrev pub officePlaces : ℕ
 officePlaces = mostPlaces * officeClaims
 
-abbrev pub officeRooms : ℕ
-officeRooms = 6 * officeClaims
+abbrev pub officeNodes : ℕ
+officeNodes = 6 * officeClaims

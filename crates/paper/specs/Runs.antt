@@ -12,7 +12,7 @@ use Rattle.paper.specs.Points.{point}
 use Rattle.paper.specs.Tree.{Grown, entered, Store, store, Memory, memory, apart, referenceAt, withReference, fits, sound}
 use Rattle.paper.specs.Outcomes.{Outcome, refused, gives, must}
 
--- [3.16] a table before any claim: nothing is entered, and no node room is in use
+-- [3.16] a table before any claim: nothing is entered, and no node is in use
 abbrev pub emptyTable : ℕ → ℕ → ℕ → ℕ → Table
 emptyTable number measure d capacity =
     record { number = number; measure = measure; d = d; capacity = capacity; count = 0; used = 0 }
@@ -26,19 +26,19 @@ abbrev pub madeShown : Outcome Table → Made
 madeShown (refused n) = Made.Refused n
 madeShown (gives t) = Made.Table t
 
--- [3.14] the header with one claim more, and so many rooms in use
+-- [3.14] the header with one claim more, and so many nodes in use
 abbrev pub counted : Table → ℕ → Table
 counted t used =
     record { number = t .number; measure = t .measure; d = t .d; capacity = t .capacity; count = t .count + 1; used = used }
 
--- the rooms after the next claim, where the coordinates hold its place
+-- the nodes after the next claim, where the coordinates hold its place
 abbrev pub nextGrown : Store → List ℤ → Grown
-nextGrown s coordinates = entered (apart (s .table .measure) (s .table .d) coordinates) (s .table .used) (s .table .count) (s .rooms)
+nextGrown s coordinates = entered (apart (s .table .measure) (s .table .d) coordinates) (s .table .used) (s .table .count) (s .nodes)
 
 -- the store with its next claim's reference and place in the lent memory, entered
 abbrev pub withNext : Store → List ℕ → List ℤ → Store
 withNext s references coordinates =
-    store (counted (s .table) (nextGrown s coordinates .used)) references coordinates (nextGrown s coordinates .rooms)
+    store (counted (s .table) (nextGrown s coordinates .used)) references coordinates (nextGrown s coordinates .nodes)
 
 -- [3.13] [3.14] one claim more, with reference r and place p, which are put behind those that are there; what lies behind is kept
 unfoldable pub added : Store → ℕ → List ℤ → Store
@@ -67,4 +67,4 @@ enteredShown (refused n) = Entered.Refused n
 enteredShown (gives s) = Entered.Table (s .table)
 
 abbrev pub putStore : Store → Memory → Memory
-putStore s before = memory (s .references) (s .coordinates) (s .rooms)
+putStore s before = memory (s .references) (s .coordinates) (s .nodes)

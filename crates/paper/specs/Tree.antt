@@ -10,88 +10,88 @@ use Rattle.paper.specs.declared.tables.Table.{Table}
 use Rattle.paper.specs.Points.{measureOf, distance, inRange, Claim, point}
 use Rattle.paper.specs.Limits.{mostClaims}
 
--- [3.3] [3.4] a node is a room of six numbers. Of side s, 0 left or 1 right: its claim's number plus one in field s, its far distance
--- in field 2 + s, the number of the room below it plus one in field 4 + s; 0 is no claim and no room
+-- [3.3] [3.4] a node is six numbers. Of side s, 0 left or 1 right: its claim's number plus one in field s, its far distance
+-- in field 2 + s, the number of the node below it plus one in field 4 + s; 0 is no claim and no node
 abbrev pub fieldAt : List ℕ → ℕ → ℕ → ℕ
-fieldAt rooms m f = getD rooms (m * 6 + f) 0
+fieldAt nodes m f = getD nodes (m * 6 + f) 0
 
 abbrev pub putField : List ℕ → ℕ → ℕ → ℕ → List ℕ
-putField rooms m f v = set rooms (m * 6 + f) v
+putField nodes m f v = set nodes (m * 6 + f) v
 
 abbrev pub sideClaim : List ℕ → ℕ → ℕ → ℕ
-sideClaim rooms m s = fieldAt rooms m s - 1
+sideClaim nodes m s = fieldAt nodes m s - 1
 
--- fields 1 to f of room w made 0
+-- fields 1 to f of node w made 0
 unfoldable pub cleared : List ℕ → ℕ → ℕ → List ℕ
-cleared rooms w zero = rooms
-cleared rooms w (suc f) = putField (cleared rooms w f) w (suc f) 0
+cleared nodes w zero = nodes
+cleared nodes w (suc f) = putField (cleared nodes w f) w (suc f) 0
 
--- [3.6] a new node in room w: claim k on its left, and 0 in all other fields
+-- [3.6] a new node in node w: claim k on its left, and 0 in all other fields
 unfoldable pub newNode : List ℕ → ℕ → ℕ → List ℕ
-newNode rooms w k = cleared (putField rooms w 0 (k + 1)) w 5
+newNode nodes w k = cleared (putField nodes w 0 (k + 1)) w 5
 
 -- [3.8] the side that claim k goes below at a node with two claims: the nearer one, the left of two as near
 unfoldable pub nearSide : (ℕ → ℕ → ℕ) → List ℕ → ℕ → ℕ → ℕ
-nearSide e rooms m k = cond (leb (e (sideClaim rooms m 0) k) (e (sideClaim rooms m 1) k)) 0 1
+nearSide e nodes m k = cond (leb (e (sideClaim nodes m 0) k) (e (sideClaim nodes m 1) k)) 0 1
 
 -- [3.9] the far distance of side s raised, where it is smaller, to how far claim k is from the side's claim
 unfoldable pub raise : (ℕ → ℕ → ℕ) → List ℕ → ℕ → ℕ → ℕ → List ℕ
-raise e rooms m s k = putField rooms m (2 + s) (max (fieldAt rooms m (2 + s)) (e (sideClaim rooms m s) k))
+raise e nodes m s k = putField nodes m (2 + s) (max (fieldAt nodes m (2 + s)) (e (sideClaim nodes m s) k))
 
--- rooms, with how many are in use
+-- nodes, with how many are in use
 pub record Grown : Type 0 where
-  pub rooms : List ℕ
+  pub nodes : List ℕ
   pub used : ℕ
 
 abbrev pub grown : List ℕ → ℕ → Grown
-grown rooms used = record { rooms = rooms; used = used }
+grown nodes used = record { nodes = nodes; used = used }
 
--- [3.6] [3.7] [3.10] [3.11] claim k entered from room m, through so many rooms at most: on the right where no claim is, and otherwise from
--- the room below the nearer side, or, where field 4 + s says that there is none, into the next room not in use
+-- [3.6] [3.7] [3.10] [3.11] claim k entered from node m, through so many nodes at most: on the right where no claim is, and otherwise from
+-- the node below the nearer side, or, where field 4 + s says that there is none, into the next node not in use
 unfoldable pub placed : ℕ → (ℕ → ℕ → ℕ) → ℕ → ℕ → ℕ → List ℕ → Grown
-placed zero e used k m rooms = grown rooms used
-placed (suc times) e used k m rooms =
-    cond (eqb (fieldAt rooms m 1) 0)
-    (grown (putField rooms m 1 (k + 1)) used)
-    (cond (eqb (fieldAt rooms m (4 + nearSide e rooms m k)) 0)
-    (grown (newNode (putField (raise e rooms m (nearSide e rooms m k) k) m (4 + nearSide e rooms m k) (used + 1)) used k) (used + 1))
-    (placed times e used k (fieldAt rooms m (4 + nearSide e rooms m k) - 1) (raise e rooms m (nearSide e rooms m k) k)))
+placed zero e used k m nodes = grown nodes used
+placed (suc times) e used k m nodes =
+    cond (eqb (fieldAt nodes m 1) 0)
+    (grown (putField nodes m 1 (k + 1)) used)
+    (cond (eqb (fieldAt nodes m (4 + nearSide e nodes m k)) 0)
+    (grown (newNode (putField (raise e nodes m (nearSide e nodes m k) k) m (4 + nearSide e nodes m k) (used + 1)) used k) (used + 1))
+    (placed times e used k (fieldAt nodes m (4 + nearSide e nodes m k) - 1) (raise e nodes m (nearSide e nodes m k) k)))
 
 -- [3.5] claim k entered from the root, which the first claim makes
 unfoldable pub entered : (ℕ → ℕ → ℕ) → ℕ → ℕ → List ℕ → Grown
-entered e zero k rooms = grown (newNode rooms 0 k) 1
-entered e (suc u) k rooms = placed (suc u) e (suc u) k 0 rooms
+entered e zero k nodes = grown (newNode nodes 0 k) 1
+entered e (suc u) k nodes = placed (suc u) e (suc u) k 0 nodes
 
 -- [3.12] claims 0 to n - 1 entered by rising number
 unfoldable pub built : (ℕ → ℕ → ℕ) → ℕ → List ℕ → Grown
-built e zero rooms = grown rooms 0
-built e (suc n) rooms = entered e (built e n rooms .used) n (built e n rooms .rooms)
+built e zero nodes = grown nodes 0
+built e (suc n) nodes = entered e (built e n nodes .used) n (built e n nodes .nodes)
 
 -- [3.2] a table with the memory that its caller lends
 pub record Store : Type 0 where
   pub table : Table
   pub references : List ℕ
   pub coordinates : List ℤ
-  pub rooms : List ℕ
+  pub nodes : List ℕ
 
 abbrev pub store : Table → List ℕ → List ℤ → List ℕ → Store
-store t references coordinates rooms = record { table = t; references = references; coordinates = coordinates; rooms = rooms }
+store t references coordinates nodes = record { table = t; references = references; coordinates = coordinates; nodes = nodes }
 
 -- the same for the memory that a call is lent, as the references to it find it
 abbrev pub lent : Table → RefT (List ℕ) → RefT (List ℤ) → RefT (List ℕ) → Store
-lent t references coordinates rooms = store t (now references) (now coordinates) (now rooms)
+lent t references coordinates nodes = store t (now references) (now coordinates) (now nodes)
 
 -- the lent memory alone
 pub record Memory : Type 0 where
   pub references : List ℕ
   pub coordinates : List ℤ
-  pub rooms : List ℕ
+  pub nodes : List ℕ
 
 abbrev pub memory : List ℕ → List ℤ → List ℕ → Memory
-memory references coordinates rooms = record { references = references; coordinates = coordinates; rooms = rooms }
+memory references coordinates nodes = record { references = references; coordinates = coordinates; nodes = nodes }
 
 abbrev pub lentMemory : RefT (List ℕ) → RefT (List ℤ) → RefT (List ℕ) → Memory
-lentMemory references coordinates rooms = memory (now references) (now coordinates) (now rooms)
+lentMemory references coordinates nodes = memory (now references) (now coordinates) (now nodes)
 
 -- [1.4] how far claims j and k are apart, by measure and d, where the coordinates stand one after another
 unfoldable pub apart : ℕ → ℕ → List ℤ → ℕ → ℕ → ℕ
@@ -124,21 +124,21 @@ fits s =
     && ((leb 1 (s .table .capacity) && leb (s .table .capacity) mostClaims)
     && (leb (s .table .capacity) (length (s .references))
     && (leb (s .table .capacity * s .table .d) (length (s .coordinates))
-    && leb (s .table .capacity * 6) (length (s .rooms)))))
+    && leb (s .table .capacity * 6) (length (s .nodes)))))
 
 -- the first w numbers of the two are the same
 unfoldable pub sameFront : ℕ → List ℕ → List ℕ → Bool
 sameFront zero a b = true
 sameFront (suc w) a b = sameFront w a b && eqb (getD a w 0) (getD b w 0)
 
--- [3.12] what the claims make when they are entered into rooms that held nothing
+-- [3.12] what the claims make when they are entered into nodes that held nothing
 unfoldable pub afresh : (ℕ → ℕ → ℕ) → ℕ → Grown
 afresh e n = built e n (replicate (n * 6) 0)
 
--- [3.12] [3.13] [8.2] no more claims than the capacity, and the rooms in use, how many and every field, are what the claims make; the
--- other rooms are not read
+-- [3.12] [3.13] [8.2] no more claims than the capacity, and the nodes in use, how many and every field, are what the claims make; the
+-- other nodes are not read
 unfoldable pub sound : Store → Bool
 sound s =
     leb (s .table .count) (s .table .capacity)
     && (eqb (afresh (apartIn s) (s .table .count) .used) (s .table .used)
-    && sameFront (s .table .used * 6) (afresh (apartIn s) (s .table .count) .rooms) (s .rooms))
+    && sameFront (s .table .used * 6) (afresh (apartIn s) (s .table .count) .nodes) (s .nodes))

@@ -14,8 +14,8 @@ pub const MOST_NUMBER: u64 = MOST_CLAIMS as u64 - 1;
 // Numbers of a page's items.
 pub const ITEM_ROOM: usize = 3 * MOST_PAGE;
 
-// Numbers of the rooms that a table is built into once more when it is tested.
-pub const SCRATCH_ROOM: usize = 6 * MOST_CLAIMS;
+// Numbers of the nodes that a table is built into once more when it is tested.
+pub const SCRATCH_NODES: usize = 6 * MOST_CLAIMS;
 
 // [5.11] Bytes of the longest frame, an answer's; characters of the longest line of each kind, two for each byte and one for its end.
 pub const LONGEST_FRAME: usize = 30 + 4 * MOST_PLACES + 14 * MOST_PAGE;
@@ -31,4 +31,4 @@ pub const OFFICE_CLAIMS: usize = 1024;
 
 pub const OFFICE_PLACES: usize = MOST_PLACES * OFFICE_CLAIMS;
 
-pub const OFFICE_ROOMS: usize = 6 * OFFICE_CLAIMS;
+pub const OFFICE_NODES: usize = 6 * OFFICE_CLAIMS;

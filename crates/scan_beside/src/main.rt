@@ -127,14 +127,14 @@ fn page_beside(
     t: Table,
     references: &[u32],
     coordinates: &[i32],
-    rooms: &[u64],
+    nodes: &[u64],
     probe: &[i32],
     points: &[u64; 384],
     codes: &[u64; 8],
     a: Asking,
     tally: Tally,
 ) -> Tally
-    requires { ⌜ Answerable (lent t references coordinates rooms) (now probe) × Drawn t a ⌝ }
+    requires { ⌜ Answerable (lent t references coordinates nodes) (now probe) × Drawn t a ⌝ }
 {
     let mut room = [7777777u64; ITEM_ROOM];
     let place = place_of(a);
@@ -146,7 +146,7 @@ fn page_beside(
         t,
         references,
         coordinates,
-        rooms,
+        nodes,
         order_of(a.far),
         probe,
         reach,
@@ -167,19 +167,19 @@ fn firsts_beside(
     t: Table,
     references: &[u32],
     coordinates: &[i32],
-    rooms: &[u64],
+    nodes: &[u64],
     probe: &[i32],
     points: &[u64; 384],
     codes: &[u64; 8],
     reach: u64,
     tally: Tally,
 ) -> Tally
-    requires { ⌜ Answerable (lent t references coordinates rooms) (now probe) × Small t ⌝ }
+    requires { ⌜ Answerable (lent t references coordinates nodes) (now probe) × Small t ⌝ }
 {
     let near = from_start(t, false, reach, 1);
     let far = from_start(t, true, 0xffff_ffff_ffff_ffff, 1);
-    let one = walk::questions::nearest(t, references, coordinates, rooms, probe, reach);
-    let two = walk::questions::farthest(t, references, coordinates, rooms, probe);
+    let one = walk::questions::nearest(t, references, coordinates, nodes, probe, reach);
+    let two = walk::questions::farthest(t, references, coordinates, nodes, probe);
     let with = tally.first(
         is_nothing(one),
         same_first(one, scan::first(points, codes, near)),
@@ -270,7 +270,7 @@ fn ask(
     t: Table,
     references: &[u32],
     coordinates: &[i32],
-    rooms: &[u64],
+    nodes: &[u64],
     probe: &[i32],
     points: &[u64; 384],
     codes: &[u64; 8],
@@ -279,7 +279,7 @@ fn ask(
 ) -> Tally
     requires { ⌜ Small t ⌝ }
 {
-    if closed(t, references, coordinates, rooms, probe) != 0 {
+    if closed(t, references, coordinates, nodes, probe) != 0 {
         return tally.page(true, 0, false, false);
     }
     let a = next(seed);
@@ -287,7 +287,7 @@ fn ask(
         t,
         references,
         coordinates,
-        rooms,
+        nodes,
         probe,
         points,
         codes,
@@ -299,7 +299,7 @@ fn ask(
         t,
         references,
         coordinates,
-        rooms,
+        nodes,
         probe,
         points,
         codes,
@@ -313,7 +313,7 @@ fn ask_at(
     t: Table,
     references: &[u32; 48],
     coordinates: &[i32; 384],
-    rooms: &[u64; 288],
+    nodes: &[u64; 288],
     probe: &[i32; 8],
     points: &[u64; 384],
     codes: &[u64; 8],
@@ -332,7 +332,7 @@ fn ask_at(
         t,
         references,
         coordinates,
-        rooms,
+        nodes,
         &whole[0..d],
         points,
         codes,
@@ -346,7 +346,7 @@ fn questions(
     t: Table,
     references: &[u32; 48],
     coordinates: &[i32; 384],
-    rooms: &[u64; 288],
+    nodes: &[u64; 288],
     points: &[u64; 384],
     spread: u64,
     seed: u64,
@@ -365,7 +365,7 @@ fn questions(
             t,
             references,
             coordinates,
-            rooms,
+            nodes,
             &probe,
             points,
             &codes,
@@ -400,7 +400,7 @@ fn one_table(i: u64, seed: u64, tally: Tally) -> Tally {
     let mut points = [0u64; 384];
     let mut references = [0u32; 48];
     let mut coordinates = [0i32; 384];
-    let mut rooms = [0u64; 288];
+    let mut nodes = [0u64; 288];
     let spread = 2 + i % 15;
     let x = tables::fill(&mut points, seed, spread);
     let measure = (1 + i % 3) as u8;
@@ -413,13 +413,13 @@ fn one_table(i: u64, seed: u64, tally: Tally) -> Tally {
         &points,
         &mut references,
         &mut coordinates,
-        &mut rooms,
+        &mut nodes,
     );
     questions(
         t,
         &references,
         &coordinates,
-        &rooms,
+        &nodes,
         &points,
         spread,
         next(x),

@@ -149,7 +149,7 @@ fn enter(
     t: Table,
     references: &mut [u32],
     coordinates: &mut [i32],
-    rooms: &mut [u64],
+    nodes: &mut [u64],
     given: &[u32],
     n: usize,
     places: &[i32],
@@ -165,7 +165,7 @@ fn enter(
         t,
         references,
         coordinates,
-        rooms,
+        nodes,
         &given[0..n],
         &places[0..w],
     );
@@ -176,13 +176,13 @@ fn entered(
     t: Table,
     references: &mut [u32; 48],
     coordinates: &mut [i32; 384],
-    rooms: &mut [u64; 288],
+    nodes: &mut [u64; 288],
     given: &[u32; 48],
     n: usize,
     places: &[i32; 384],
     w: usize,
 ) -> Table {
-    enter(t, references, coordinates, rooms, given, n, places, w)
+    enter(t, references, coordinates, nodes, given, n, places, w)
 }
 
 // A table of the first n claims.
@@ -193,7 +193,7 @@ pub fn table(
     points: &[u64; 384],
     references: &mut [u32; 48],
     coordinates: &mut [i32; 384],
-    rooms: &mut [u64; 288],
+    nodes: &mut [u64; 288],
 ) -> Table
     requires { ⌜ (n ≤ 48) × (d ≤ 8) ⌝ }
 {
@@ -209,5 +209,5 @@ pub fn table(
     let mut places = [0i32; 384];
     name_all(&mut given);
     let w = lay_all(points, n, d, &mut places);
-    entered(empty, references, coordinates, rooms, &given, n, &places, w)
+    entered(empty, references, coordinates, nodes, &given, n, &places, w)
 }

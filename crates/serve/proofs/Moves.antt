@@ -128,7 +128,7 @@ pub record Going (chunk rf₀ : List ℕ) (ps₀ : List ℤ) (rs₀ l₀ out₀ 
   pub short : d .written ≤ length out₀
   pub references : length rf ≡ length rf₀
   pub coordinates : length ps ≡ length ps₀
-  pub rooms : length rs ≡ length rs₀
+  pub nodes : length rs ≡ length rs₀
   pub line : length l ≡ length l₀
   pub out : length b ≡ length out₀
 
@@ -142,7 +142,7 @@ going-start chunk rf ps rs l out d r h =
       short = h;
       references = refl;
       coordinates = refl;
-      rooms = refl;
+      nodes = refl;
       line = refl;
       out = refl;
     }

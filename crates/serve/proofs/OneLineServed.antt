@@ -143,7 +143,7 @@ unfolding headerFor
 header-some t c e = rw (ne-eqb (t .count) 0 e)
 
 abbrev pub headed : Store → Table → Store
-headed s h = store h (s .references) (s .coordinates) (s .rooms)
+headed s h = store h (s .references) (s .coordinates) (s .nodes)
 
 header-table : (s : Store) (c : ClaimLine) → s .table .capacity ≡ officeClaims → tableFor (booksOf s) c ≡ tableOf (headed s (headerFor (s .table) c))
 unfolding tableFor booksOf headerFor claimsFrom
@@ -174,7 +174,7 @@ header-ready s c r i = go (eqb (s .table .count) 0)
               range = i;
               some = f .some;
               references = f .references;
-              lent = record { narrow = i .narrow; most = f .lent .most; coordinates = places; rooms = f .lent .rooms };
+              lent = record { narrow = i .narrow; most = f .lent .most; coordinates = places; nodes = f .lent .nodes };
             };
             count = omega arith;
             built = refl;

@@ -13,18 +13,18 @@ pub fn take_ask(
     t: Table,
     references: &[u32],
     coordinates: &[i32],
-    rooms: &[u64],
+    nodes: &[u64],
     ask: Ask,
     out: &mut [u8],
     at: usize,
 ) -> usize
-    requires { ⌜ Asking (lent t references coordinates rooms) ask (length (now out)) at ⌝ }
-    ensures { λ r. ⌜ Put (askTurn (booksOf (lent t (references .entry) (coordinates .entry) (rooms .entry))) (reply (booksOf (lent t (references .entry) (coordinates .entry) (rooms .entry))) (askMeant ask)) .said) (now (out .entry)) at (now (out .exit)) r ⌝ }
+    requires { ⌜ Asking (lent t references coordinates nodes) ask (length (now out)) at ⌝ }
+    ensures { λ r. ⌜ Put (askTurn (booksOf (lent t (references .entry) (coordinates .entry) (nodes .entry))) (reply (booksOf (lent t (references .entry) (coordinates .entry) (nodes .entry))) (askMeant ask)) .said) (now (out .entry)) at (now (out .exit)) r ⌝ }
 {
     if t.count == 0 {
         return refuse(out, at, 11);
     }
-    let wrote = desk::answer_ask(t, references, coordinates, rooms, ask, &mut out[at..]);
+    let wrote = desk::answer_ask(t, references, coordinates, nodes, ask, &mut out[at..]);
     match wrote {
         Wrote::Line(n) => at + n,
         Wrote::Refused(n) => refuse(out, at, n),

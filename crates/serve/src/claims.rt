@@ -36,13 +36,13 @@ pub fn take_claim(
     t: Table,
     references: &mut [u32],
     coordinates: &mut [i32],
-    rooms: &mut [u64],
+    nodes: &mut [u64],
     c: ClaimLine,
     out: &mut [u8],
     at: usize,
 ) -> Step
-    requires { ⌜ Claiming (lent t references coordinates rooms) c (length (now out)) at ⌝ }
-    ensures { λ r. ⌜ Served (claimTurn (booksOf (lent t (references .entry) (coordinates .entry) (rooms .entry))) (claimEntering (tableFor (booksOf (lent t (references .entry) (coordinates .entry) (rooms .entry))) c) c)) (lent (r .table) (references .exit) (coordinates .exit) (rooms .exit)) (now (out .entry)) at (now (out .exit)) (r .at) ⌝ }
+    requires { ⌜ Claiming (lent t references coordinates nodes) c (length (now out)) at ⌝ }
+    ensures { λ r. ⌜ Served (claimTurn (booksOf (lent t (references .entry) (coordinates .entry) (nodes .entry))) (claimEntering (tableFor (booksOf (lent t (references .entry) (coordinates .entry) (nodes .entry))) c) c)) (lent (r .table) (references .exit) (coordinates .exit) (nodes .exit)) (now (out .entry)) at (now (out .exit)) (r .at) ⌝ }
 {
     let header = header_for(t, c);
     if !is_ours(header, c.table, c.measure, c.d as usize) {
@@ -58,7 +58,7 @@ pub fn take_claim(
         header,
         references,
         coordinates,
-        rooms,
+        nodes,
         c.reference,
         &places,
         0,

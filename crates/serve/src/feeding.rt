@@ -26,14 +26,14 @@ fn turn(
     d: Sitting,
     references: &mut [u32],
     coordinates: &mut [i32],
-    rooms: &mut [u64],
+    nodes: &mut [u64],
     line: &mut [u8],
     chunk: &[u8],
     out: &mut [u8],
 ) -> Sitting
-    requires { ⌜ Set (lent (d .table) references coordinates rooms) (now line) × Turning d (length (now chunk)) (length (now out)) ⌝ }
-    ensures moved { λ r. ⌜ ((o : Office) → Stands (lent (d .table) (references .entry) (coordinates .entry) (rooms .entry)) (now (line .entry)) d o → Moved o (now (chunk .entry)) d (now (out .entry)) (lent (r .table) (references .exit) (coordinates .exit) (rooms .exit)) (now (line .exit)) r (now (out .exit))) ⌝ }
-    ensures ready { λ r. ⌜ Set (lent (r .table) (references .exit) (coordinates .exit) (rooms .exit)) (now (line .exit)) ⌝ }
+    requires { ⌜ Set (lent (d .table) references coordinates nodes) (now line) × Turning d (length (now chunk)) (length (now out)) ⌝ }
+    ensures moved { λ r. ⌜ ((o : Office) → Stands (lent (d .table) (references .entry) (coordinates .entry) (nodes .entry)) (now (line .entry)) d o → Moved o (now (chunk .entry)) d (now (out .entry)) (lent (r .table) (references .exit) (coordinates .exit) (nodes .exit)) (now (line .exit)) r (now (out .exit))) ⌝ }
+    ensures ready { λ r. ⌜ Set (lent (r .table) (references .exit) (coordinates .exit) (nodes .exit)) (now (line .exit)) ⌝ }
     ensures on { λ r. ⌜ (d .at < r .at) × (r .written ≤ length (now (out .entry))) ⌝ }
 {
     let t = d.table;
@@ -50,7 +50,7 @@ fn turn(
             written: w,
         };
     }
-    let s = serve_cut(t, references, coordinates, rooms, line, c.size, out, w);
+    let s = serve_cut(t, references, coordinates, nodes, line, c.size, out, w);
     let after = s.table;
     Sitting {
         table: after,
@@ -82,20 +82,20 @@ pub fn feed(
     d: Sitting,
     references: &mut [u32],
     coordinates: &mut [i32],
-    rooms: &mut [u64],
+    nodes: &mut [u64],
     line: &mut [u8],
     chunk: &[u8],
     out: &mut [u8],
 ) -> Sitting
-    requires { ⌜ Set (lent (d .table) references coordinates rooms) (now line) × (d .written ≤ length (now out)) ⌝ }
-    ensures moved { λ r. ⌜ ((o : Office) → Stands (lent (d .table) (references .entry) (coordinates .entry) (rooms .entry)) (now (line .entry)) d o → Moved o (now (chunk .entry)) d (now (out .entry)) (lent (r .table) (references .exit) (coordinates .exit) (rooms .exit)) (now (line .exit)) r (now (out .exit))) ⌝ }
-    ensures ready { λ r. ⌜ Set (lent (r .table) (references .exit) (coordinates .exit) (rooms .exit)) (now (line .exit)) ⌝ }
+    requires { ⌜ Set (lent (d .table) references coordinates nodes) (now line) × (d .written ≤ length (now out)) ⌝ }
+    ensures moved { λ r. ⌜ ((o : Office) → Stands (lent (d .table) (references .entry) (coordinates .entry) (nodes .entry)) (now (line .entry)) d o → Moved o (now (chunk .entry)) d (now (out .entry)) (lent (r .table) (references .exit) (coordinates .exit) (nodes .exit)) (now (line .exit)) r (now (out .exit))) ⌝ }
+    ensures ready { λ r. ⌜ Set (lent (r .table) (references .exit) (coordinates .exit) (nodes .exit)) (now (line .exit)) ⌝ }
     ensures on { λ r. ⌜ (Turning d (length (now (chunk .entry))) (length (now (out .entry))) → d .at < r .at) ⌝ }
     ensures short { λ r. ⌜ r .written ≤ length (now (out .entry)) ⌝ }
 {
     let mut n = d;
     while goes_on(n, chunk.len(), out.len()) {
-        n = turn(n, references, coordinates, rooms, line, chunk, out);
+        n = turn(n, references, coordinates, nodes, line, chunk, out);
     }
     n
 }
@@ -105,12 +105,12 @@ pub fn finish(
     d: Sitting,
     references: &mut [u32],
     coordinates: &mut [i32],
-    rooms: &mut [u64],
+    nodes: &mut [u64],
     line: &[u8],
     out: &mut [u8],
 ) -> usize
-    requires { ⌜ Set (lent (d .table) references coordinates rooms) (now line) × (d .written + longestAnswer ≤ length (now out)) ⌝ }
-    ensures done { λ r. ⌜ ((o : Office) → Stands (lent (d .table) (references .entry) (coordinates .entry) (rooms .entry)) (now (line .entry)) d o → Ended o (now (out .entry)) (d .written) (now (out .exit)) r) ⌝ }
+    requires { ⌜ Set (lent (d .table) references coordinates nodes) (now line) × (d .written + longestAnswer ≤ length (now out)) ⌝ }
+    ensures done { λ r. ⌜ ((o : Office) → Stands (lent (d .table) (references .entry) (coordinates .entry) (nodes .entry)) (now (line .entry)) d o → Ended o (now (out .entry)) (d .written) (now (out .exit)) r) ⌝ }
     ensures short { λ r. ⌜ r ≤ length (now (out .entry)) ⌝ }
 {
     let t = d.table;
@@ -121,6 +121,6 @@ pub fn finish(
     if d.size < 1 {
         return w;
     }
-    let s = serve_cut(t, references, coordinates, rooms, line, d.size, out, w);
+    let s = serve_cut(t, references, coordinates, nodes, line, d.size, out, w);
     s.at
 }

@@ -18,21 +18,21 @@ fn serve_frame(
     t: Table,
     references: &mut [u32],
     coordinates: &mut [i32],
-    rooms: &mut [u64],
+    nodes: &mut [u64],
     src: &[u8],
     out: &mut [u8],
     at: usize,
 ) -> Step
-    requires { ⌜ Serving (lent t references coordinates rooms) (length (now out)) at ⌝ }
-    ensures { λ r. ⌜ Served (frameTurn (booksOf (lent t (references .entry) (coordinates .entry) (rooms .entry))) (frameIn (now (src .entry)))) (lent (r .table) (references .exit) (coordinates .exit) (rooms .exit)) (now (out .entry)) at (now (out .exit)) (r .at) ⌝ }
+    requires { ⌜ Serving (lent t references coordinates nodes) (length (now out)) at ⌝ }
+    ensures { λ r. ⌜ Served (frameTurn (booksOf (lent t (references .entry) (coordinates .entry) (nodes .entry))) (frameIn (now (src .entry)))) (lent (r .table) (references .exit) (coordinates .exit) (nodes .exit)) (now (out .entry)) at (now (out .exit)) (r .at) ⌝ }
 {
     if lines::claim_ok(src) {
         let claim = lines::claim_at(src);
-        return take_claim(t, references, coordinates, rooms, claim, out, at);
+        return take_claim(t, references, coordinates, nodes, claim, out, at);
     }
     if lines::ask_ok(src) {
         let ask = lines::ask_at(src);
-        let end = take_ask(t, references, coordinates, rooms, ask, out, at);
+        let end = take_ask(t, references, coordinates, nodes, ask, out, at);
         return Step { table: t, at: end };
     }
     let end = refuse(out, at, 10);
@@ -44,13 +44,13 @@ fn serve_line(
     t: Table,
     references: &mut [u32],
     coordinates: &mut [i32],
-    rooms: &mut [u64],
+    nodes: &mut [u64],
     line: &[u8],
     out: &mut [u8],
     at: usize,
 ) -> Step
-    requires { ⌜ Serving (lent t references coordinates rooms) (length (now out)) at ⌝ }
-    ensures { λ r. ⌜ Served (lineTurn (booksOf (lent t (references .entry) (coordinates .entry) (rooms .entry))) (now (line .entry))) (lent (r .table) (references .exit) (coordinates .exit) (rooms .exit)) (now (out .entry)) at (now (out .exit)) (r .at) ⌝ }
+    requires { ⌜ Serving (lent t references coordinates nodes) (length (now out)) at ⌝ }
+    ensures { λ r. ⌜ Served (lineTurn (booksOf (lent t (references .entry) (coordinates .entry) (nodes .entry))) (now (line .entry))) (lent (r .table) (references .exit) (coordinates .exit) (nodes .exit)) (now (out .entry)) at (now (out .exit)) (r .at) ⌝ }
 {
     let mut frame = [0u8; LONGEST_FRAME];
     let n = digits::frame_of(line, &mut frame);
@@ -58,7 +58,7 @@ fn serve_line(
         let end = refuse(out, at, 9);
         return Step { table: t, at: end };
     }
-    serve_frame(t, references, coordinates, rooms, &frame[..n], out, at)
+    serve_frame(t, references, coordinates, nodes, &frame[..n], out, at)
 }
 
 // [10.8] Serves the line that was cut: a size over the room's length stands for any longer line.
@@ -66,18 +66,18 @@ pub fn serve_cut(
     t: Table,
     references: &mut [u32],
     coordinates: &mut [i32],
-    rooms: &mut [u64],
+    nodes: &mut [u64],
     line: &[u8],
     size: usize,
     out: &mut [u8],
     at: usize,
 ) -> Step
-    requires { ⌜ Serving (lent t references coordinates rooms) (length (now out)) at × (length (now line) ≡ longestAnswer) ⌝ }
-    ensures { λ r. ⌜ ServedCut (now (line .entry)) size (booksOf (lent t (references .entry) (coordinates .entry) (rooms .entry))) (lent (r .table) (references .exit) (coordinates .exit) (rooms .exit)) (now (out .entry)) at (now (out .exit)) (r .at) ⌝ }
+    requires { ⌜ Serving (lent t references coordinates nodes) (length (now out)) at × (length (now line) ≡ longestAnswer) ⌝ }
+    ensures { λ r. ⌜ ServedCut (now (line .entry)) size (booksOf (lent t (references .entry) (coordinates .entry) (nodes .entry))) (lent (r .table) (references .exit) (coordinates .exit) (nodes .exit)) (now (out .entry)) at (now (out .exit)) (r .at) ⌝ }
 {
     if line.len() < size {
         let end = refuse(out, at, 9);
         return Step { table: t, at: end };
     }
-    serve_line(t, references, coordinates, rooms, &line[0..size], out, at)
+    serve_line(t, references, coordinates, nodes, &line[0..size], out, at)
 }

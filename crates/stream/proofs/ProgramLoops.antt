@@ -16,7 +16,7 @@ use Rattle.serve.specs.Serving.{booksOf, Ready}
 use Rattle.serve.specs.Feeding.{Set, Stands, Turning, Moved}
 use Rattle.serve.proofs.Moves.{fed-more, fed-stop}
 use Rattle.stream.specs.Stream.{anewOf, emptiedOf, sittingStart, Reached, Roomy}
-use Rattle.paper.specs.Limits.{longestAnswer, officeClaims, officePlaces, officeRooms}
+use Rattle.paper.specs.Limits.{longestAnswer, officeClaims, officePlaces, officeNodes}
 
 -- ---- a chunk
 
@@ -33,7 +33,7 @@ pub record Pumping (chunk rf₀ : List ℕ) (ps₀ : List ℤ) (rs₀ l₀ out�
   pub written : d .written ≡ 0
   pub references : length rf ≡ length rf₀
   pub coordinates : length ps ≡ length ps₀
-  pub rooms : length rs ≡ length rs₀
+  pub nodes : length rs ≡ length rs₀
   pub line : length l ≡ length l₀
   pub out : length b ≡ length out₀
 
@@ -47,7 +47,7 @@ pumping-start chunk rf ps rs l out d n e r =
       written = refl;
       references = refl;
       coordinates = refl;
-      rooms = refl;
+      nodes = refl;
       line = refl;
       out = refl;
     })
@@ -85,7 +85,7 @@ pumping-more chunk rf₀ ps₀ rs₀ l₀ out₀ d₀ rf ps rs l b d rf' ps' rs'
       written = refl;
       references = k1 ∙ v .references;
       coordinates = k2 ∙ v .coordinates;
-      rooms = k3 ∙ v .rooms;
+      nodes = k3 ∙ v .nodes;
       line = k4 ∙ v .line;
       out = k5 ∙ v .out;
     })
@@ -104,7 +104,7 @@ reading-done o chunk s l d r w =
 -- ---- the whole input
 
 -- the program starts with an empty table, whatever its memory holds
-opened-ready : (rf : List ℕ) (ps : List ℤ) (rs : List ℕ) → officeClaims ≤ length rf → officePlaces ≤ length ps → officeRooms ≤ length rs → Ready (store (sittingStart .table) rf ps rs)
+opened-ready : (rf : List ℕ) (ps : List ℤ) (rs : List ℕ) → officeClaims ≤ length rf → officePlaces ≤ length ps → officeNodes ≤ length rs → Ready (store (sittingStart .table) rf ps rs)
 unfolding IsBuilt built
 opened-ready rf ps rs a b c =
     record {
@@ -113,7 +113,7 @@ opened-ready rf ps rs a b c =
           range = record { first = lit≤ tt; last = lit≤ tt; wide = lit≤ tt; narrow = lit≤ tt };
           some = lit≤ tt;
           references = a;
-          lent = record { narrow = lit≤ tt; most = lit≤ tt; coordinates = omega arith; rooms = c };
+          lent = record { narrow = lit≤ tt; most = lit≤ tt; coordinates = omega arith; nodes = c };
         };
         count = lit≤ tt;
         built = refl;
@@ -128,7 +128,7 @@ pub record Running (rf₀ : List ℕ) (ps₀ : List ℤ) (rs₀ l₀ out₀ rf :
   pub reached : Reached officeStart (store (d .table) rf ps rs) l d
   pub references : length rf ≡ length rf₀
   pub coordinates : length ps ≡ length ps₀
-  pub rooms : length rs ≡ length rs₀
+  pub nodes : length rs ≡ length rs₀
   pub line : length l ≡ length l₀
   pub out : length b ≡ length out₀
 
@@ -138,11 +138,11 @@ unfolding fed officeStart booksOf
 running-start rf ps rs l out d e h =
     rw e
     (record {
-      ready = record { ready = opened-ready rf ps rs (h .refs) (h .places) (h .nodes); line = h .longest };
+      ready = record { ready = opened-ready rf ps rs (h .refs) (h .places) (h .noded); line = h .longest };
       reached = record { bytes = []; stands = record { books = refl; line = rw (h .longest) at (kept-none l); left = refl } };
       references = refl;
       coordinates = refl;
-      rooms = refl;
+      nodes = refl;
       line = refl;
       out = refl;
     })

@@ -6,7 +6,7 @@ use Rattle.paper.specs.Tree.{Store}
 use Rattle.paper.specs.Program.{Office, fed}
 use Rattle.serve.specs.declared.feeding.Sitting.{Sitting}
 use Rattle.serve.specs.Feeding.{Stands}
-use Rattle.paper.specs.Limits.{longestAnswer, officeClaims, officePlaces, officeRooms}
+use Rattle.paper.specs.Limits.{longestAnswer, officeClaims, officePlaces, officeNodes}
 
 abbrev pub anewOf : Sitting → Sitting
 anewOf d = record { table = d .table; size = d .size; left = d .left; at = 0; written = 0 }
@@ -31,9 +31,9 @@ pub record Reached (o : Office) (s : Store) (l : List ℕ) (d : Sitting) : Type 
   pub stands : Stands s l d (fed o bytes)
 
 -- the memory that the program has, and room for a line
-pub record Roomy (references coordinates rooms line out : ℕ) : Type 0 where
+pub record Roomy (references coordinates nodes line out : ℕ) : Type 0 where
   pub refs : officeClaims ≤ references
   pub places : officePlaces ≤ coordinates
-  pub nodes : officeRooms ≤ rooms
+  pub noded : officeNodes ≤ nodes
   pub longest : line ≡ longestAnswer
   pub space : longestAnswer ≤ out

@@ -5,7 +5,7 @@ use libc::STDOUT_FILENO;
 use paper::limits::LONGEST_ANSWER;
 use paper::limits::OFFICE_CLAIMS;
 use paper::limits::OFFICE_PLACES;
-use paper::limits::OFFICE_ROOMS;
+use paper::limits::OFFICE_NODES;
 use paper::tables::Table;
 use serve::feeding::Sitting;
 use serve::feeding::feed;
@@ -66,18 +66,18 @@ fn pump(
     d: Sitting,
     references: &mut [u32],
     coordinates: &mut [i32],
-    rooms: &mut [u64],
+    nodes: &mut [u64],
     line: &mut [u8],
     chunk: &[u8],
     out: &mut [u8],
 ) -> Sitting
-    requires { ⌜ Set (lent (d .table) references coordinates rooms) (now line) × (longestAnswer ≤ length (now out)) ⌝ }
-    ensures { λ r. ⌜ Set (lent (r .table) (references .exit) (coordinates .exit) (rooms .exit)) (now (line .exit)) ⌝ }
-    ensures { λ r. ⌜ ((o : Office) → Stands (lent (d .table) (references .entry) (coordinates .entry) (rooms .entry)) (now (line .entry)) d o → Stands (lent (r .table) (references .exit) (coordinates .exit) (rooms .exit)) (now (line .exit)) r (fed o (now (chunk .entry)))) ⌝ }
+    requires { ⌜ Set (lent (d .table) references coordinates nodes) (now line) × (longestAnswer ≤ length (now out)) ⌝ }
+    ensures { λ r. ⌜ Set (lent (r .table) (references .exit) (coordinates .exit) (nodes .exit)) (now (line .exit)) ⌝ }
+    ensures { λ r. ⌜ ((o : Office) → Stands (lent (d .table) (references .entry) (coordinates .entry) (nodes .entry)) (now (line .entry)) d o → Stands (lent (r .table) (references .exit) (coordinates .exit) (nodes .exit)) (now (line .exit)) r (fed o (now (chunk .entry)))) ⌝ }
 {
     let mut n = anew(d);
     while unread(n, chunk.len()) {
-        n = feed(n, references, coordinates, rooms, line, chunk, out);
+        n = feed(n, references, coordinates, nodes, line, chunk, out);
         let w = n.written;
         io::write_all(STDOUT_FILENO, &out[0..w]);
         n = emptied(n);
@@ -95,14 +95,14 @@ fn once(
     d: Sitting,
     references: &mut [u32],
     coordinates: &mut [i32],
-    rooms: &mut [u64],
+    nodes: &mut [u64],
     line: &mut [u8],
     chunk: &mut [u8],
     out: &mut [u8],
 ) -> Pause
-    requires { ⌜ Set (lent (d .table) references coordinates rooms) (now line) × (longestAnswer ≤ length (now out)) ⌝ }
-    ensures { λ r. ⌜ Set (lent (r .sitting .table) (references .exit) (coordinates .exit) (rooms .exit)) (now (line .exit)) ⌝ }
-    ensures { λ r. ⌜ ((o : Office) → Stands (lent (d .table) (references .entry) (coordinates .entry) (rooms .entry)) (now (line .entry)) d o → Reached o (lent (r .sitting .table) (references .exit) (coordinates .exit) (rooms .exit)) (now (line .exit)) (r .sitting)) ⌝ }
+    requires { ⌜ Set (lent (d .table) references coordinates nodes) (now line) × (longestAnswer ≤ length (now out)) ⌝ }
+    ensures { λ r. ⌜ Set (lent (r .sitting .table) (references .exit) (coordinates .exit) (nodes .exit)) (now (line .exit)) ⌝ }
+    ensures { λ r. ⌜ ((o : Office) → Stands (lent (d .table) (references .entry) (coordinates .entry) (nodes .entry)) (now (line .entry)) d o → Reached o (lent (r .sitting .table) (references .exit) (coordinates .exit) (nodes .exit)) (now (line .exit)) (r .sitting)) ⌝ }
 {
     let got = libc::read(STDIN_FILENO, chunk);
     let n = io::count(got, chunk);
@@ -112,7 +112,7 @@ fn once(
             open: false,
         };
     }
-    let after = pump(d, references, coordinates, rooms, line, &chunk[..n], out);
+    let after = pump(d, references, coordinates, nodes, line, &chunk[..n], out);
     let left = after.left;
     Pause {
         sitting: after,
@@ -154,24 +154,24 @@ fn going(open: bool, turns: u64) -> bool
 fn run(
     references: &mut [u32],
     coordinates: &mut [i32],
-    rooms: &mut [u64],
+    nodes: &mut [u64],
     line: &mut [u8],
     chunk: &mut [u8],
     out: &mut [u8],
 )
-    requires { ⌜ Roomy (length (now references)) (length (now coordinates)) (length (now rooms)) (length (now line)) (length (now out)) ⌝ }
+    requires { ⌜ Roomy (length (now references)) (length (now coordinates)) (length (now nodes)) (length (now line)) (length (now out)) ⌝ }
 {
     let mut d = open_sitting();
     let mut open = true;
     let mut turns = u64::MAX;
     while going(open, turns) {
-        let t = once(d, references, coordinates, rooms, line, chunk, out);
+        let t = once(d, references, coordinates, nodes, line, chunk, out);
         d = t.sitting;
         open = t.open;
         turns -= 1;
     }
     let f = anew(d);
-    let w = finish(f, references, coordinates, rooms, line, out);
+    let w = finish(f, references, coordinates, nodes, line, out);
     io::write_all(STDOUT_FILENO, &out[0..w]);
 }
 
@@ -179,14 +179,14 @@ fn run(
 pub fn office() {
     let mut references = [0u32; OFFICE_CLAIMS];
     let mut coordinates = [0i32; OFFICE_PLACES];
-    let mut rooms = [0u64; OFFICE_ROOMS];
+    let mut nodes = [0u64; OFFICE_NODES];
     let mut line = [0u8; LONGEST_ANSWER];
     let mut chunk = [0u8; 65536];
     let mut out = [0u8; 65536];
     run(
         &mut references,
         &mut coordinates,
-        &mut rooms,
+        &mut nodes,
         &mut line,
         &mut chunk,
         &mut out,

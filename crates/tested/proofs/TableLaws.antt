@@ -24,7 +24,7 @@ module _ (s : Store) (a : Bool) (ae : a ≡ fits s) where
   pub fit-goes : {A : Type 0} (x : Outcome A) → not a ≡ false → must (fits s) 1 x ≡ x
   fit-goes x h = must-go (fits s) 1 x (sym ae ∙ not-false a h)
 
-  pub fit-lent : not a ≡ false → Lent (s .table) (length (s .coordinates)) (length (s .rooms))
+  pub fit-lent : not a ≡ false → Lent (s .table) (length (s .coordinates)) (length (s .nodes))
   fit-lent h = fits-fit s (sym ae ∙ not-false a h) .lent
 
   pub table-1 : not a ≡ true → 1 ≡ tableRefusal s

@@ -17,7 +17,7 @@ fn place_refusal(
     t: Table,
     references: &[u32],
     coordinates: &[i32],
-    rooms: &[u64],
+    nodes: &[u64],
     order: Order,
     probe: &[i32],
     reach: u64,
@@ -25,8 +25,8 @@ fn place_refusal(
     size: usize,
     room: usize,
 ) -> u8
-    requires { ⌜ Askable (lent t references coordinates rooms) (length (now probe)) size ⌝ }
-    ensures { λ r. ⌜ r ≡ number (pageCall (lent t (references .entry) (coordinates .entry) (rooms .entry)) order (now (probe .entry)) reach place size room) ⌝ }
+    requires { ⌜ Askable (lent t references coordinates nodes) (length (now probe)) size ⌝ }
+    ensures { λ r. ⌜ r ≡ number (pageCall (lent t (references .entry) (coordinates .entry) (nodes .entry)) order (now (probe .entry)) reach place size room) ⌝ }
 {
     if !snapshot_holds(place, t.count) {
         return 7;
@@ -46,7 +46,7 @@ pub fn page_here(
     t: Table,
     references: &[u32],
     coordinates: &[i32],
-    rooms: &[u64],
+    nodes: &[u64],
     order: Order,
     probe: &[i32],
     reach: u64,
@@ -54,14 +54,14 @@ pub fn page_here(
     size: usize,
     room: &mut [u64],
 ) -> Page
-    requires { ⌜ Askable (lent t references coordinates rooms) (length (now probe)) size ⌝ }
-    ensures { λ r. ⌜ Promise pageShown putPage (pageCall (lent t (references .entry) (coordinates .entry) (rooms .entry)) order (now (probe .entry)) reach place size (length (now (room .entry)))) (now (room .entry)) r (now (room .exit)) ⌝ }
+    requires { ⌜ Askable (lent t references coordinates nodes) (length (now probe)) size ⌝ }
+    ensures { λ r. ⌜ Promise pageShown putPage (pageCall (lent t (references .entry) (coordinates .entry) (nodes .entry)) order (now (probe .entry)) reach place size (length (now (room .entry)))) (now (room .entry)) r (now (room .exit)) ⌝ }
 {
     let why = place_refusal(
         t,
         references,
         coordinates,
-        rooms,
+        nodes,
         order,
         probe,
         reach,
@@ -76,7 +76,7 @@ pub fn page_here(
         t,
         references,
         coordinates,
-        rooms,
+        nodes,
         order,
         probe,
         reach,

@@ -110,11 +110,11 @@ module _ (s : Store) (g : Good s) (more : s .table .count < s .table .capacity) 
   good-end = omega (arith, before-next (s .table .d) (s .table .count) (s .table .capacity) more, g .fit .lent .coordinates)
 
   -- the next claim can be entered
-  pub good-ready : (l : List ℤ) → length l ≡ length (s .coordinates) → Enterable (s .rooms) (s .table .used) (s .table .d) l (s .table .count)
+  pub good-ready : (l : List ℤ) → length l ≡ length (s .coordinates) → Enterable (s .nodes) (s .table .used) (s .table .d) l (s .table .count)
   good-ready l e =
       record {
         linked = good-tree s g .linked;
-        room = omega (arith, good-used s g, g .fit .lent .rooms);
+        room = omega (arith, good-used s g, g .fit .lent .nodes);
         few = omega (arith, good-few s g);
         located = record {
           narrow = g .fit .lent .narrow;
@@ -133,10 +133,10 @@ module _ (s : Store) (g : Good s) (more : s .table .count < s .table .capacity) 
         let e : ℕ → ℕ → ℕ = apart (s .table .measure) d l in
         let same : (j k : ℕ) → j < k → k < n → apartIn s j k ≡ e j k =
         λ j k hj hk. apart-ext (s .table .measure) d n (s .coordinates) l (λ i hi. sym (put-before (s .coordinates) (n * d) p d (omega (arith, good-end)) i hi)) j k (omega arith) hk in
-        let room : n * 6 ≤ length (s .rooms) = omega (arith, g .fit .lent .rooms) in
+        let room : n * 6 ≤ length (s .nodes) = omega (arith, g .fit .lent .nodes) in
         let few : n < 2 ^ 64 - 1 = omega (arith, good-few s g) in
-        let is : built e n (s .rooms) ≡ grown (s .rooms) (s .table .used) = sym (build-ext (apartIn s) e n (s .rooms) room few same) ∙ g .built in
-        let long = enter-long e (s .table .used) n (s .rooms) (omega (arith, good-used s g, g .fit .lent .rooms)) (good-tree s g .linked) in
+        let is : built e n (s .nodes) ≡ grown (s .nodes) (s .table .used) = sym (build-ext (apartIn s) e n (s .nodes) room few same) ∙ g .built in
+        let long = enter-long e (s .table .used) n (s .nodes) (omega (arith, good-used s g, g .fit .lent .nodes)) (good-tree s g .linked) in
         record {
           fit = record {
             range = g .fit .range;
@@ -146,11 +146,11 @@ module _ (s : Store) (g : Good s) (more : s .table .count < s .table .capacity) 
               narrow = g .fit .lent .narrow;
               most = g .fit .lent .most;
               coordinates = rw (length-paste (s .coordinates) (n * d) p d good-end whole) (g .fit .lent .coordinates);
-              rooms = rw (long .0) (g .fit .lent .rooms);
+              nodes = rw (long .0) (g .fit .lent .nodes);
             };
           };
           count = omega arith;
-          built = rw (add-one n) (stays-built e n (s .table .used) (s .rooms) (omega (arith, g .fit .lent .rooms)) (omega (arith, good-few s g)) is);
+          built = rw (add-one n) (stays-built e n (s .table .used) (s .nodes) (omega (arith, g .fit .lent .nodes)) (omega (arith, good-few s g)) is);
         }
 
     -- its claims are those that it had, and the new one
@@ -183,13 +183,13 @@ unfolding added
 added-kept s r p = record { number = refl; measure = refl; d = refl; capacity = refl; count = refl }
 
 -- the stores of `add` are `added`
-pub add-way : (s : Store) (r u : ℕ) (places l : List ℤ) (i : ℕ) (references rooms : List ℕ)
+pub add-way : (s : Store) (r u : ℕ) (places l : List ℤ) (i : ℕ) (references nodes : List ℕ)
     → references ≡ withReference (s .references) (s .table .count) r
     → l ≡ paste (s .coordinates) (s .table .count * s .table .d) (drop (i * s .table .d) places) (s .table .d)
-    → rooms ≡ nextGrown s l .rooms → u ≡ nextGrown s l .used
-    → store (counted (s .table) u) references l rooms ≡ added s r (point (s .table .d) places i)
+    → nodes ≡ nextGrown s l .nodes → u ≡ nextGrown s l .used
+    → store (counted (s .table) u) references l nodes ≡ added s r (point (s .table .d) places i)
 unfolding added point
-add-way s r u places l i references rooms g e f h =
+add-way s r u places l i references nodes g e f h =
     let n : ℕ = s .table .count in
     let d : ℕ = s .table .d in
     let q : List ℤ = drop (i * d) places in
@@ -271,6 +271,6 @@ module _ (s : Store) (given : List ℕ) (places : List ℤ) (n : ℕ) (h : Roomy
   pub run-claims : claimsIn (addedRun given places n s) ≡ claimsIn s ++ claimsFrom (s .table .d) n given places
   run-claims = ran n 0 (omega arith) .claims
 
-  -- its header is the same but for count and rooms in use
+  -- its header is the same but for count and nodes in use
   pub run-kept : Kept (s .table) (addedRun given places n s .table) n
   run-kept = ran n 0 (omega arith) .kept

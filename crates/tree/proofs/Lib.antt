@@ -1,4 +1,4 @@
--- What the proofs of several functions use, and what the layers above use of the rooms and the tables.
+-- What the proofs of several functions use, and what the layers above use of the nodes and the tables.
 pub mod Reading
 pub mod OneEntering
 pub mod Keeping

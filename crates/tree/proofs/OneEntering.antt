@@ -12,48 +12,48 @@ use Rattle.paper.specs.Tree.{grown, fieldAt, putField, sideClaim, newNode, near
 use Rattle.tree.specs.Rooms.{Linked, HasClaim}
 
 -- another field keeps its number
-pub other : (rooms : List ℕ) (m f v n g : ℕ) → f < 6 → g < 6 → (f ≡ g → ⊥) → fieldAt (putField rooms m f v) n g ≡ fieldAt rooms n g
-other rooms m f v n g hf hg ne = getD-set-other rooms (m * 6 + f) (n * 6 + g) v 0 (λ q. ne (omega arith))
+pub other : (nodes : List ℕ) (m f v n g : ℕ) → f < 6 → g < 6 → (f ≡ g → ⊥) → fieldAt (putField nodes m f v) n g ≡ fieldAt nodes n g
+other nodes m f v n g hf hg ne = getD-set-other nodes (m * 6 + f) (n * 6 + g) v 0 (λ q. ne (omega arith))
 
-module _ (e : ℕ → ℕ → ℕ) (rooms : List ℕ) (m k : ℕ) where
-  module _ (l r dl dr : ℕ) (pl : l ≡ fieldAt rooms m 0) (pr : r ≡ fieldAt rooms m 1) (ql : dl ≡ e (l - 1) k) (qr : dr ≡ e (r - 1) k) where
-    pub near-left : dl ≤ dr → (0 ≡ nearSide e rooms m k) × (dl ≡ e (sideClaim rooms m 0) k)
+module _ (e : ℕ → ℕ → ℕ) (nodes : List ℕ) (m k : ℕ) where
+  module _ (l r dl dr : ℕ) (pl : l ≡ fieldAt nodes m 0) (pr : r ≡ fieldAt nodes m 1) (ql : dl ≡ e (l - 1) k) (qr : dr ≡ e (r - 1) k) where
+    pub near-left : dl ≤ dr → (0 ≡ nearSide e nodes m k) × (dl ≡ e (sideClaim nodes m 0) k)
     unfolding nearSide
     near-left h =
-        let t : leb (e (sideClaim rooms m 0) k) (e (sideClaim rooms m 1) k) ≡ true = rw (← pl, ← pr, ← ql, ← qr) (le-leb dl dr h) in
+        let t : leb (e (sideClaim nodes m 0) k) (e (sideClaim nodes m 1) k) ≡ true = rw (← pl, ← pr, ← ql, ← qr) (le-leb dl dr h) in
         (sym (ap (λ (b : Bool). cond {A = ℕ} b 0 1) t), rw (← pl) ql)
 
-    pub near-right : dr < dl → (1 ≡ nearSide e rooms m k) × (dr ≡ e (sideClaim rooms m 1) k)
+    pub near-right : dr < dl → (1 ≡ nearSide e nodes m k) × (dr ≡ e (sideClaim nodes m 1) k)
     unfolding nearSide
     near-right h =
-        let t : leb (e (sideClaim rooms m 0) k) (e (sideClaim rooms m 1) k) ≡ false = rw (← pl, ← pr, ← ql, ← qr) (lt-leb dl dr h) in
+        let t : leb (e (sideClaim nodes m 0) k) (e (sideClaim nodes m 1) k) ≡ false = rw (← pl, ← pr, ← ql, ← qr) (lt-leb dl dr h) in
         (sym (ap (λ (b : Bool). cond {A = ℕ} b 0 1) t), rw (← pr) qr)
 
-  pub side-small : nearSide e rooms m k < 2
+  pub side-small : nearSide e nodes m k < 2
   unfolding nearSide
-  side-small = go (leb (e (sideClaim rooms m 0) k) (e (sideClaim rooms m 1) k))
+  side-small = go (leb (e (sideClaim nodes m 0) k) (e (sideClaim nodes m 1) k))
     where
       go : (b : Bool) → cond {A = ℕ} b 0 1 < 2
       go true = lit< tt
       go false = lit< tt
 
-  pub raised : (s distance : ℕ) → distance ≡ e (sideClaim rooms m s) k → putField rooms m (2 + s) (max (fieldAt rooms m (2 + s)) distance) ≡ raise e rooms m s k
+  pub raised : (s distance : ℕ) → distance ≡ e (sideClaim nodes m s) k → putField nodes m (2 + s) (max (fieldAt nodes m (2 + s)) distance) ≡ raise e nodes m s k
   unfolding raise
   raised s distance q = rw q
 
-  pub raise-length : (s : ℕ) → length (raise e rooms m s k) ≡ length rooms
+  pub raise-length : (s : ℕ) → length (raise e nodes m s k) ≡ length nodes
   unfolding raise
   raise-length s = simp length-set
 
   -- raising a far distance keeps the links
-  pub still-linked : (s used n : ℕ) → s < 2 → Linked rooms used n → Linked (raise e rooms m s k) used n
+  pub still-linked : (s used n : ℕ) → s < 2 → Linked nodes used n → Linked (raise e nodes m s k) used n
   unfolding Linked raise
   still-linked s used n hs h w hw =
-      let v : ℕ = max (fieldAt rooms m (2 + s)) (e (sideClaim rooms m s) k) in
-      let same-held : (z : ℕ) → z < 2 → fieldAt (putField rooms m (2 + s) v) w z ≡ fieldAt rooms w z =
-      λ z hz. other rooms m (2 + s) v w z (omega arith) (omega arith) (λ q. omega arith) in
-      let same-below : (z : ℕ) → z < 2 → fieldAt (putField rooms m (2 + s) v) w (4 + z) ≡ fieldAt rooms w (4 + z) =
-      λ z hz. other rooms m (2 + s) v w (4 + z) (omega arith) (omega arith) (λ q. omega arith) in
+      let v : ℕ = max (fieldAt nodes m (2 + s)) (e (sideClaim nodes m s) k) in
+      let same-held : (z : ℕ) → z < 2 → fieldAt (putField nodes m (2 + s) v) w z ≡ fieldAt nodes w z =
+      λ z hz. other nodes m (2 + s) v w z (omega arith) (omega arith) (λ q. omega arith) in
+      let same-below : (z : ℕ) → z < 2 → fieldAt (putField nodes m (2 + s) v) w (4 + z) ≡ fieldAt nodes w (4 + z) =
+      λ z hz. other nodes m (2 + s) v w (4 + z) (omega arith) (omega arith) (λ q. omega arith) in
       record {
         left = rw (same-held 0 (lit< tt)) (h w hw .left);
         stored = λ z hz. rw (same-held z hz) (h w hw .stored z hz);
@@ -62,43 +62,43 @@ module _ (e : ℕ → ℕ → ℕ) (rooms : List ℕ) (m k : ℕ) where
       }
 
 -- what one turn of `placed` does
-module _ (f : ℕ) (e : ℕ → ℕ → ℕ) (used k m : ℕ) (rooms : List ℕ) where
-  pub placed-stop : fieldAt rooms m 1 ≡ 0 → placed (suc f) e used k m rooms ≡ grown (putField rooms m 1 (k + 1)) used
+module _ (f : ℕ) (e : ℕ → ℕ → ℕ) (used k m : ℕ) (nodes : List ℕ) where
+  pub placed-stop : fieldAt nodes m 1 ≡ 0 → placed (suc f) e used k m nodes ≡ grown (putField nodes m 1 (k + 1)) used
   unfolding placed
-  placed-stop z = rw (eq-eqb (fieldAt rooms m 1) 0 z)
+  placed-stop z = rw (eq-eqb (fieldAt nodes m 1) 0 z)
 
-  pub placed-new : (fieldAt rooms m 1 ≡ 0 → ⊥) → fieldAt rooms m (4 + nearSide e rooms m k) ≡ 0
-      → placed (suc f) e used k m rooms ≡ grown (newNode (putField (raise e rooms m (nearSide e rooms m k) k) m (4 + nearSide e rooms m k) (used + 1)) used k) (used + 1)
+  pub placed-new : (fieldAt nodes m 1 ≡ 0 → ⊥) → fieldAt nodes m (4 + nearSide e nodes m k) ≡ 0
+      → placed (suc f) e used k m nodes ≡ grown (newNode (putField (raise e nodes m (nearSide e nodes m k) k) m (4 + nearSide e nodes m k) (used + 1)) used k) (used + 1)
   unfolding placed
-  placed-new no1 z = rw (ne-eqb (fieldAt rooms m 1) 0 no1, eq-eqb (fieldAt rooms m (4 + nearSide e rooms m k)) 0 z)
+  placed-new no1 z = rw (ne-eqb (fieldAt nodes m 1) 0 no1, eq-eqb (fieldAt nodes m (4 + nearSide e nodes m k)) 0 z)
 
-  pub placed-down : (fieldAt rooms m 1 ≡ 0 → ⊥) → (fieldAt rooms m (4 + nearSide e rooms m k) ≡ 0 → ⊥)
-      → placed (suc f) e used k m rooms ≡ placed f e used k (fieldAt rooms m (4 + nearSide e rooms m k) - 1) (raise e rooms m (nearSide e rooms m k) k)
+  pub placed-down : (fieldAt nodes m 1 ≡ 0 → ⊥) → (fieldAt nodes m (4 + nearSide e nodes m k) ≡ 0 → ⊥)
+      → placed (suc f) e used k m nodes ≡ placed f e used k (fieldAt nodes m (4 + nearSide e nodes m k) - 1) (raise e nodes m (nearSide e nodes m k) k)
   unfolding placed
-  placed-down no1 no4 = rw (ne-eqb (fieldAt rooms m 1) 0 no1, ne-eqb (fieldAt rooms m (4 + nearSide e rooms m k)) 0 no4)
+  placed-down no1 no4 = rw (ne-eqb (fieldAt nodes m 1) 0 no1, ne-eqb (fieldAt nodes m (4 + nearSide e nodes m k)) 0 no4)
 
--- what holds at each turn of `enter`, at room m of rooms, where it began with rooms₀
-pub record Going (e : ℕ → ℕ → ℕ) (used k : ℕ) (rooms₀ rooms : List ℕ) (m : ℕ) : Type 0 where
+-- what holds at each turn of `enter`, at node m of nodes, where it began with nodes₀
+pub record Going (e : ℕ → ℕ → ℕ) (used k : ℕ) (nodes₀ nodes : List ℕ) (m : ℕ) : Type 0 where
   pub fuel : ℕ
   pub enough : used ≤ m + fuel
   pub inUse : m < used
-  pub long : length rooms ≡ length rooms₀
-  pub linked : Linked rooms used k
-  pub same : placed fuel e used k m rooms ≡ entered e used k rooms₀
+  pub long : length nodes ≡ length nodes₀
+  pub linked : Linked nodes used k
+  pub same : placed fuel e used k m nodes ≡ entered e used k nodes₀
 
-pub going-start : (e : ℕ → ℕ → ℕ) (used k : ℕ) (rooms : List ℕ) → (used ≡ 0 → ⊥) → Linked rooms used k → Going e used k rooms rooms 0
+pub going-start : (e : ℕ → ℕ → ℕ) (used k : ℕ) (nodes : List ℕ) → (used ≡ 0 → ⊥) → Linked nodes used k → Going e used k nodes nodes 0
 unfolding entered
-going-start e zero k rooms no0 h = absurd (no0 refl)
-going-start e (suc u) k rooms no0 h =
+going-start e zero k nodes no0 h = absurd (no0 refl)
+going-start e (suc u) k nodes no0 h =
     record { fuel = suc u; enough = omega arith; inUse = omega arith; long = refl; linked = h; same = refl }
 
-pub entered-first : (e : ℕ → ℕ → ℕ) (used k : ℕ) (rooms : List ℕ) → used ≡ 0 → entered e used k rooms ≡ grown (newNode rooms 0 k) 1
+pub entered-first : (e : ℕ → ℕ → ℕ) (used k : ℕ) (nodes : List ℕ) → used ≡ 0 → entered e used k nodes ≡ grown (newNode nodes 0 k) 1
 unfolding entered
-entered-first e used k rooms z = rw z
+entered-first e used k nodes z = rw z
 
-module _ (e : ℕ → ℕ → ℕ) (used k : ℕ) (rooms₀ rooms : List ℕ) (m : ℕ) (g : Going e used k rooms₀ rooms m) where
-  -- a claim of the room is stored
-  pub going-claim : (s : ℕ) → s < 2 → used * 6 + 6 ≤ length rooms₀ → (fieldAt rooms m 1 ≡ 0 → ⊥) → HasClaim rooms k m s
+module _ (e : ℕ → ℕ → ℕ) (used k : ℕ) (nodes₀ nodes : List ℕ) (m : ℕ) (g : Going e used k nodes₀ nodes m) where
+  -- a claim of the node is stored
+  pub going-claim : (s : ℕ) → s < 2 → used * 6 + 6 ≤ length nodes₀ → (fieldAt nodes m 1 ≡ 0 → ⊥) → HasClaim nodes k m s
   unfolding Linked
   going-claim zero hs room no1 =
       let ok = g .linked m (g .inUse) in
@@ -108,46 +108,46 @@ module _ (e : ℕ → ℕ → ℕ) (used k : ℕ) (rooms₀ rooms : List ℕ) (m
       record { inside = omega (arith, g .long); held = omega arith; stored = ok .stored 1 (lit< tt) }
   going-claim (suc (suc s)) hs room no1 = absurd (omega arith)
 
-  pub going-stop : fieldAt rooms m 1 ≡ 0 → entered e used k rooms₀ ≡ grown (putField rooms m 1 (k + 1)) used
+  pub going-stop : fieldAt nodes m 1 ≡ 0 → entered e used k nodes₀ ≡ grown (putField nodes m 1 (k + 1)) used
   going-stop z = go (g .fuel) (g .enough) (g .same)
     where
-      go : (f : ℕ) → used ≤ m + f → placed f e used k m rooms ≡ entered e used k rooms₀ → entered e used k rooms₀ ≡ grown (putField rooms m 1 (k + 1)) used
+      go : (f : ℕ) → used ≤ m + f → placed f e used k m nodes ≡ entered e used k nodes₀ → entered e used k nodes₀ ≡ grown (putField nodes m 1 (k + 1)) used
       go zero en sm = absurd (omega (arith, g .inUse))
-      go (suc f) en sm = sym sm ∙ placed-stop f e used k m rooms z
+      go (suc f) en sm = sym sm ∙ placed-stop f e used k m nodes z
 
-  module _ (s below : ℕ) (rooms' : List ℕ) (no1 : fieldAt rooms m 1 ≡ 0 → ⊥) (near : s ≡ nearSide e rooms m k)
-      (read : below ≡ fieldAt rooms m (4 + s)) (lifted : rooms' ≡ raise e rooms m s k) where
-    pub going-new : below ≡ 0 → entered e used k rooms₀ ≡ grown (newNode (putField rooms' m (4 + s) (used + 1)) used k) (used + 1)
+  module _ (s below : ℕ) (nodes' : List ℕ) (no1 : fieldAt nodes m 1 ≡ 0 → ⊥) (near : s ≡ nearSide e nodes m k)
+      (read : below ≡ fieldAt nodes m (4 + s)) (lifted : nodes' ≡ raise e nodes m s k) where
+    pub going-new : below ≡ 0 → entered e used k nodes₀ ≡ grown (newNode (putField nodes' m (4 + s) (used + 1)) used k) (used + 1)
     going-new z = rw (lifted, near) (go (g .fuel) (g .enough) (g .same))
       where
-        go : (f : ℕ) → used ≤ m + f → placed f e used k m rooms ≡ entered e used k rooms₀
-            → entered e used k rooms₀ ≡ grown (newNode (putField (raise e rooms m (nearSide e rooms m k) k) m (4 + nearSide e rooms m k) (used + 1)) used k) (used + 1)
+        go : (f : ℕ) → used ≤ m + f → placed f e used k m nodes ≡ entered e used k nodes₀
+            → entered e used k nodes₀ ≡ grown (newNode (putField (raise e nodes m (nearSide e nodes m k) k) m (4 + nearSide e nodes m k) (used + 1)) used k) (used + 1)
         go zero en sm = absurd (omega (arith, g .inUse))
-        go (suc f) en sm = sym sm ∙ placed-new f e used k m rooms no1 (rw (← near) (sym read ∙ z))
+        go (suc f) en sm = sym sm ∙ placed-new f e used k m nodes no1 (rw (← near) (sym read ∙ z))
 
     pub going-rises : (below ≡ 0 → ⊥) → m < below - 1
     unfolding Linked
     going-rises no4 =
-        let hs : s < 2 = rw near (side-small e rooms m k) in
+        let hs : s < 2 = rw near (side-small e nodes m k) in
         omega (arith, g .linked m (g .inUse) .rises s hs (λ q. no4 (read ∙ q)))
 
-    pub going-down : (below ≡ 0 → ⊥) → Going e used k rooms₀ rooms' (below - 1)
+    pub going-down : (below ≡ 0 → ⊥) → Going e used k nodes₀ nodes' (below - 1)
     unfolding Linked
     going-down no4 =
-        let hs : s < 2 = rw near (side-small e rooms m k) in
+        let hs : s < 2 = rw near (side-small e nodes m k) in
         let up = going-rises no4 in
         record {
           fuel = g .fuel - 1;
           enough = omega (arith, g .enough);
           inUse = omega (arith, g .linked m (g .inUse) .leads s hs);
-          long = rw lifted (raise-length e rooms m k s ∙ g .long);
-          linked = rw lifted (still-linked e rooms m k s used k hs (g .linked));
+          long = rw lifted (raise-length e nodes m k s ∙ g .long);
+          linked = rw lifted (still-linked e nodes m k s used k hs (g .linked));
           same = go (g .fuel) (g .enough) (g .same);
         }
       where
-        go : (f : ℕ) → used ≤ m + f → placed f e used k m rooms ≡ entered e used k rooms₀
-            → placed (f - 1) e used k (below - 1) rooms' ≡ entered e used k rooms₀
+        go : (f : ℕ) → used ≤ m + f → placed f e used k m nodes ≡ entered e used k nodes₀
+            → placed (f - 1) e used k (below - 1) nodes' ≡ entered e used k nodes₀
         go zero en sm = absurd (omega (arith, g .inUse))
         go (suc f) en sm =
             let pf : suc f - 1 ≡ f = omega arith in
-            rw (pf, lifted, read, near) (sym (placed-down f e used k m rooms no1 (λ q. no4 (read ∙ rw near q))) ∙ sm)
+            rw (pf, lifted, read, near) (sym (placed-down f e used k m nodes no1 (λ q. no4 (read ∙ rw near q))) ∙ sm)

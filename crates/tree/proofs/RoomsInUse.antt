@@ -1,4 +1,4 @@
--- [3.13] Entering reads no room that is not in use: two memories that agree on the rooms in use still agree afterwards, and a room that is
+-- [3.13] Entering reads no node that is not in use: two memories that agree on the nodes in use still agree afterwards, and a node that is
 -- not in use keeps what it held. Assumes nothing.
 use Prim.Native.Nat.{ℕ, zero, suc, _+_, _-_, _*_, _/_, _%_, _<_, _≤_, _^_}
 use mathlib.Core.Path.{_≡_, refl, sym, _∙_, subst}
@@ -15,7 +15,7 @@ use Rattle.tree.specs.Rooms.{Inside, Linked, Neartree, IsBuilt}
 use Rattle.tree.proofs.OneEntering.{still-linked, raise-length, side-small, placed-stop, placed-new, placed-down}
 use Rattle.tree.proofs.Keeping.{fresh-other, fresh-length, fresh-left, fresh-rest, keeps, place}
 
--- the first w rooms of the two are the same, and the second is no shorter
+-- the first w nodes of the two are the same, and the second is no shorter
 pub record Agree (w : ℕ) (a b : List ℕ) : Type 0 where
   pub long : length a ≤ length b
   pub same : (m g : ℕ) → m < w → g < 6 → fieldAt a m g ≡ fieldAt b m g
@@ -60,7 +60,7 @@ module _ (e : ℕ → ℕ → ℕ) (used k m : ℕ) (a b : List ℕ) (hm : m < u
 
 -- both grow alike
 pub record Alike (x y : Grown) : Type 0 where
-  pub agree : Agree (x .used) (x .rooms) (y .rooms)
+  pub agree : Agree (x .used) (x .nodes) (y .nodes)
   pub used : x .used ≡ y .used
 
 place-alike : (f : ℕ) (e : ℕ → ℕ → ℕ) (used k m : ℕ) (a b : List ℕ) → m < used → used ≤ m + f → used * 6 + 6 ≤ length a → Linked a used k → Agree used a b
@@ -118,9 +118,9 @@ place-alike (suc f) e used k m a b hm en room lk ag =
         (record { agree = agree-put used a b m 1 (k + 1) (k + 1) (omega arith) refl ag; used = refl })
     right (suc x) p deep = below (fieldAt a m (4 + s)) refl (λ z. omega arith) deep
 
--- a room that is not in use afterwards keeps what it held
+-- a node that is not in use afterwards keeps what it held
 Behind : List ℕ → Grown → Type 0
-Behind a x = (n g : ℕ) → x .used ≤ n → g < 6 → fieldAt (x .rooms) n g ≡ fieldAt a n g
+Behind a x = (n g : ℕ) → x .used ≤ n → g < 6 → fieldAt (x .nodes) n g ≡ fieldAt a n g
 
 put-behind : (a : List ℕ) (m f v n g : ℕ) → m < n → f < 6 → g < 6 → fieldAt (putField a m f v) n g ≡ fieldAt a n g
 put-behind a m f v n g h hf hg = getD-set-other a (m * 6 + f) (n * 6 + g) v 0 (λ q. omega arith)
@@ -148,7 +148,7 @@ place-behind (suc f) e used k m a hm en room lk =
 
     below : (x : ℕ) → fieldAt a m (4 + s) ≡ x → (fieldAt a m 1 ≡ 0 → ⊥)
         → ((w : ℕ) → w < used → used ≤ w + f → (n g : ℕ) → placed f e used k w (raise e a m s k) .used ≤ n → g < 6
-        → fieldAt (placed f e used k w (raise e a m s k) .rooms) n g ≡ fieldAt (raise e a m s k) n g)
+        → fieldAt (placed f e used k w (raise e a m s k) .nodes) n g ≡ fieldAt (raise e a m s k) n g)
         → ((w : ℕ) → w < used → used ≤ w + f → used ≤ placed f e used k w (raise e a m s k) .used)
         → Behind a (placed (suc f) e used k m a)
     below zero p no1 deep more = rw (placed-new f e used k m a no1 p)
@@ -164,7 +164,7 @@ place-behind (suc f) e used k m a hm en room lk =
 
     right : (x : ℕ) → fieldAt a m 1 ≡ x
         → ((w : ℕ) → w < used → used ≤ w + f → (n g : ℕ) → placed f e used k w (raise e a m s k) .used ≤ n → g < 6
-        → fieldAt (placed f e used k w (raise e a m s k) .rooms) n g ≡ fieldAt (raise e a m s k) n g)
+        → fieldAt (placed f e used k w (raise e a m s k) .nodes) n g ≡ fieldAt (raise e a m s k) n g)
         → ((w : ℕ) → w < used → used ≤ w + f → used ≤ placed f e used k w (raise e a m s k) .used)
         → Behind a (placed (suc f) e used k m a)
     right zero p deep more = rw (placed-stop f e used k m a p) (λ n g hn hg. put-behind a m 1 (k + 1) n g (omega arith) (lit< tt) hg)
@@ -178,20 +178,20 @@ enter-alike e zero k a b room lk ag = record { agree = agree-fresh 0 a b k (omeg
 enter-alike e (suc u) k a b room lk ag = place-alike (suc u) e (suc u) k 0 a b (omega arith) (omega arith) room lk ag
 
 enter-behind : (e : ℕ → ℕ → ℕ) (used k : ℕ) (a : List ℕ) → used * 6 + 6 ≤ length a → Linked a used k
-    → (n g : ℕ) → entered e used k a .used ≤ n → g < 6 → fieldAt (entered e used k a .rooms) n g ≡ fieldAt a n g
+    → (n g : ℕ) → entered e used k a .used ≤ n → g < 6 → fieldAt (entered e used k a .nodes) n g ≡ fieldAt a n g
 unfolding entered Behind
 enter-behind e zero k a room lk n g hn hg = fresh-other a 0 k n g (λ q. omega arith) hg
 enter-behind e (suc u) k a room lk n g hn hg = place-behind (suc u) e (suc u) k 0 a (omega arith) (omega arith) room lk n g hn hg
 
 -- what building gives, whatever the memory held
 pub record Built (e : ℕ → ℕ → ℕ) (n : ℕ) (a : List ℕ) (x : Grown) : Type 0 where
-  pub sound : Neartree (x .rooms) e (x .used) n
-  pub long : length (x .rooms) ≡ length a
+  pub sound : Neartree (x .nodes) e (x .used) n
+  pub long : length (x .nodes) ≡ length a
   pub few : x .used ≤ n
-  pub behind : (m g : ℕ) → x .used ≤ m → g < 6 → fieldAt (x .rooms) m g ≡ fieldAt a m g
+  pub behind : (m g : ℕ) → x .used ≤ m → g < 6 → fieldAt (x .nodes) m g ≡ fieldAt a m g
 
 pub enter-long : (e : ℕ → ℕ → ℕ) (used k : ℕ) (a : List ℕ) → used * 6 + 6 ≤ length a → Linked a used k
-    → (length (entered e used k a .rooms) ≡ length a) × (used ≤ entered e used k a .used) × (entered e used k a .used ≤ used + 1)
+    → (length (entered e used k a .nodes) ≡ length a) × (used ≤ entered e used k a .used) × (entered e used k a .used ≤ used + 1)
 unfolding entered
 enter-long e zero k a room lk = (fresh-length a 0 k, omega arith, omega arith)
 enter-long e (suc u) k a room lk =
@@ -208,14 +208,14 @@ build e zero a room few =
     }
 build e (suc n) a room few =
     let b = build e n a (omega arith) (omega arith) in
-    let r : built e n a .used * 6 + 6 ≤ length (built e n a .rooms) = omega (arith, b .long, b .few) in
-    let l = enter-long e (built e n a .used) n (built e n a .rooms) r (b .sound .linked) in
+    let r : built e n a .used * 6 + 6 ≤ length (built e n a .nodes) = omega (arith, b .long, b .few) in
+    let l = enter-long e (built e n a .used) n (built e n a .nodes) r (b .sound .linked) in
     let n1 : n + 1 ≡ suc n = omega arith in
     record {
-      sound = rw n1 at (keeps e (built e n a .used) n (built e n a .rooms) (b .sound) r (omega arith));
+      sound = rw n1 at (keeps e (built e n a .used) n (built e n a .nodes) (b .sound) r (omega arith));
       long = l .0 ∙ b .long;
       few = omega (arith, l .2, b .few);
-      behind = λ m g hm hg. enter-behind e (built e n a .used) n (built e n a .rooms) r (b .sound .linked) m g hm hg
+      behind = λ m g hm hg. enter-behind e (built e n a .used) n (built e n a .nodes) r (b .sound .linked) m g hm hg
           ∙ b .behind m g (omega (arith, l .1)) hg;
     }
 
@@ -226,13 +226,13 @@ build-alike e zero a b room few len = record { agree = record { long = len; same
 build-alike e (suc n) a b room few len =
     let p = build e n a (omega arith) (omega arith) in
     let h = build-alike e n a b (omega arith) (omega arith) len in
-    rw (← h .used) (enter-alike e (built e n a .used) n (built e n a .rooms) (built e n b .rooms)
+    rw (← h .used) (enter-alike e (built e n a .used) n (built e n a .nodes) (built e n b .nodes)
     (omega (arith, p .long, p .few)) (p .sound .linked) (h .agree))
 
-pub grown-eq : (x y : Grown) → x .rooms ≡ y .rooms → x .used ≡ y .used → x ≡ y
-grown-eq x y p q = λ i. record { rooms = p i; used = q i }
+pub grown-eq : (x y : Grown) → x .nodes ≡ y .nodes → x .used ≡ y .used → x ≡ y
+grown-eq x y p q = λ i. record { nodes = p i; used = q i }
 
--- lists that agree on the first w rooms and on all behind are equal
+-- lists that agree on the first w nodes and on all behind are equal
 pub same-list : (a b : List ℕ) (w : ℕ) → length a ≡ length b → Agree w b a → ((m g : ℕ) → w ≤ m → g < 6 → fieldAt a m g ≡ fieldAt b m g) → a ≡ b
 same-list a b w long ag rest = ext-getD 0 a b long (λ i hi. go i (decLe w (i / 6)))
   where
@@ -242,20 +242,20 @@ same-list a b w long ag rest = ext-getD 0 a b long (λ i hi. go i (decLe w (i / 
 
 -- a built table stays one when the next claim is entered
 pub stays-built : (e : ℕ → ℕ → ℕ) (n used : ℕ) (a : List ℕ) → n * 6 + 6 ≤ length a → n + 1 < 2 ^ 64 - 1 → IsBuilt e n a used
-    → IsBuilt e (suc n) (entered e used n a .rooms) (entered e used n a .used)
+    → IsBuilt e (suc n) (entered e used n a .nodes) (entered e used n a .used)
 unfolding IsBuilt built
 stays-built e n used a room few is =
     let pa : Built e n a (grown a used) = rw is at (build e n a (omega arith) (omega arith)) in
     let r : used * 6 + 6 ≤ length a = omega (arith, pa .few) in
     let l = enter-long e used n a r (pa .sound .linked) in
     let out : Grown = entered e used n a in
-    let x : Grown = built e n (out .rooms) in
-    let px : Built e n (out .rooms) x = build e n (out .rooms) (omega (arith, l .0)) (omega arith) in
-    let h₁ : Alike (grown a used) x = rw is at (build-alike e n a (out .rooms) (omega arith) (omega arith) (omega (arith, l .0))) in
-    let y : Grown = entered e used n (x .rooms) in
-    let h₂ : Alike out y = enter-alike e used n a (x .rooms) r (pa .sound .linked) (h₁ .agree) in
-    let lx : Linked (x .rooms) used n = subst (λ (u : ℕ). Linked (x .rooms) u n) (sym (h₁ .used)) (px .sound .linked) in
-    let rx : used * 6 + 6 ≤ length (x .rooms) = omega (arith, px .long, l .0) in
-    let ly = enter-long e used n (x .rooms) rx lx in
-    rw (← h₁ .used) (grown-eq y out (same-list (y .rooms) (out .rooms) (out .used) (ly .0 ∙ px .long) (h₂ .agree)
-    (λ m g hm hg. enter-behind e used n (x .rooms) rx lx m g (omega (arith, h₂ .used)) hg ∙ px .behind m g (omega (arith, h₁ .used, l .1)) hg)) (sym (h₂ .used)))
+    let x : Grown = built e n (out .nodes) in
+    let px : Built e n (out .nodes) x = build e n (out .nodes) (omega (arith, l .0)) (omega arith) in
+    let h₁ : Alike (grown a used) x = rw is at (build-alike e n a (out .nodes) (omega arith) (omega arith) (omega (arith, l .0))) in
+    let y : Grown = entered e used n (x .nodes) in
+    let h₂ : Alike out y = enter-alike e used n a (x .nodes) r (pa .sound .linked) (h₁ .agree) in
+    let lx : Linked (x .nodes) used n = subst (λ (u : ℕ). Linked (x .nodes) u n) (sym (h₁ .used)) (px .sound .linked) in
+    let rx : used * 6 + 6 ≤ length (x .nodes) = omega (arith, px .long, l .0) in
+    let ly = enter-long e used n (x .nodes) rx lx in
+    rw (← h₁ .used) (grown-eq y out (same-list (y .nodes) (out .nodes) (out .used) (ly .0 ∙ px .long) (h₂ .agree)
+    (λ m g hm hg. enter-behind e used n (x .nodes) rx lx m g (omega (arith, h₂ .used)) hg ∙ px .behind m g (omega (arith, h₁ .used, l .1)) hg)) (sym (h₂ .used)))

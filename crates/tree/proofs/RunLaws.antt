@@ -35,7 +35,7 @@ module _ (s : Store) (given : List ℕ) (places : List ℤ) where
         free = leb-true (s .table .count + length given) (s .table .capacity) (h3 .0);
       }
 
-  -- a run that is whole and has room is entered: no other test refuses it
+  -- a run that is whole and has node is entered: no other test refuses it
   pub enters-gives : Good s → length places ≡ s .table .d * length given → s .table .count + length given ≤ s .table .capacity
       → enterCall s given places ≡ gives (addedRun given places (length given) s)
   unfolding enterCall
@@ -53,7 +53,7 @@ module _ (s : Store) (given : List ℕ) (places : List ℤ) where
   enters-roomy why we z =
       let e = zero-enters (sym we ∙ z) in (record { good = e .good; free = e .free }, e .whole)
 
-  -- [8.4] 4 never arises: a sound table has a room free for each claim that it has room for
+  -- [8.4] 4 never arises: a sound table has a node free for each claim that it has node for
   pub four-never : enterCall s given places ≡ refused 4 → ⊥
   unfolding enterCall
   four-never e =

@@ -72,5 +72,5 @@ build-ext e e' zero a room few same = refl
 build-ext e e' (suc n) a room few same =
     let h = build-ext e e' n a (omega arith) (omega arith) (λ j k hj hk. same j k hj (omega arith)) in
     let b = build e n a (omega arith) (omega arith) in
-    enter-ext e e' (built e n a .used) n (built e n a .rooms) (b .sound .linked) (λ j hj. same j n hj (omega arith))
-    ∙ ap (λ (x : Grown). entered e' (x .used) n (x .rooms)) h
+    enter-ext e e' (built e n a .used) n (built e n a .nodes) (b .sound .linked) (λ j hj. same j n hj (omega arith))
+    ∙ ap (λ (x : Grown). entered e' (x .used) n (x .nodes)) h

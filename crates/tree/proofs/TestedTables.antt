@@ -38,7 +38,7 @@ module _ (s : Store) where
       let n : Bool = leb 1 c && leb c mostClaims in
       let m : Bool = leb c (length (s .references)) in
       let p : Bool = leb (c * s .table .d) (length (s .coordinates)) in
-      let q : Bool = leb (c * 6) (length (s .rooms)) in
+      let q : Bool = leb (c * 6) (length (s .nodes)) in
       let h1 = and-second r (n && (m && (p && q))) h in
       let h2 = and-second n (m && (p && q)) h1 in
       let h3 = and-second m (p && q) h2 in
@@ -52,7 +52,7 @@ module _ (s : Store) where
           narrow = range .narrow;
           most = leb-true c mostClaims (and-second (leb 1 c) (leb c mostClaims) hn);
           coordinates = leb-true (c * s .table .d) (length (s .coordinates)) (and-first p q h3);
-          rooms = leb-true (c * 6) (length (s .rooms)) (and-second p q h3);
+          nodes = leb-true (c * 6) (length (s .nodes)) (and-second p q h3);
         };
       }
 
@@ -65,7 +65,7 @@ module _ (s : Store) where
         le-leb c mostClaims (f .lent .most),
         le-leb c (length (s .references)) (f .references),
         le-leb (c * s .table .d) (length (s .coordinates)) (f .lent .coordinates),
-        le-leb (c * 6) (length (s .rooms)) (f .lent .rooms),
+        le-leb (c * 6) (length (s .nodes)) (f .lent .nodes),
       )
 
 -- the places of a table's first n claims are in the lent memory
@@ -74,11 +74,11 @@ lent-located t places numbers n l h = record { narrow = l .narrow; inside = omeg
 
 -- rebuilding
 
-module _ (measure d : ℕ) (coordinates : List ℤ) (rooms₀ rooms : List ℕ) (k used : ℕ) (is : grown rooms used ≡ built (apart measure d coordinates) k rooms₀) where
+module _ (measure d : ℕ) (coordinates : List ℤ) (nodes₀ nodes : List ℕ) (k used : ℕ) (is : grown nodes used ≡ built (apart measure d coordinates) k nodes₀) where
   -- after k claims the next can be entered
-  pub rebuild-ready : (n : ℕ) → n * 6 ≤ length rooms₀ → n ≤ mostClaims → Located d n coordinates → k < n → Enterable rooms used d coordinates k
+  pub rebuild-ready : (n : ℕ) → n * 6 ≤ length nodes₀ → n ≤ mostClaims → Located d n coordinates → k < n → Enterable nodes used d coordinates k
   rebuild-ready n room few l hk =
-      let b : Built (apart measure d coordinates) k rooms₀ (grown rooms used) = rw is (build (apart measure d coordinates) k rooms₀ (omega arith) (omega arith)) in
+      let b : Built (apart measure d coordinates) k nodes₀ (grown nodes used) = rw is (build (apart measure d coordinates) k nodes₀ (omega arith) (omega arith)) in
       let le : k + 1 ≤ n = omega arith in
       record {
         linked = b .sound .linked;
@@ -87,42 +87,42 @@ module _ (measure d : ℕ) (coordinates : List ℤ) (rooms₀ rooms : List ℕ) 
         located = record { narrow = l .narrow; inside = omega (arith, mul-le-mul-right d le, l .inside) };
       }
 
-  pub rebuild-next : (rooms' : List ℕ) (r : ℕ) → rooms' ≡ entered (apart measure d coordinates) used k rooms .rooms
-      → r ≡ entered (apart measure d coordinates) used k rooms .used → grown rooms' r ≡ built (apart measure d coordinates) (k + 1) rooms₀
+  pub rebuild-next : (nodes' : List ℕ) (r : ℕ) → nodes' ≡ entered (apart measure d coordinates) used k nodes .nodes
+      → r ≡ entered (apart measure d coordinates) used k nodes .used → grown nodes' r ≡ built (apart measure d coordinates) (k + 1) nodes₀
   unfolding built
-  rebuild-next rooms' r p q =
+  rebuild-next nodes' r p q =
       let e : ℕ → ℕ → ℕ = apart measure d coordinates in
-      grown-eq (grown rooms' r) (entered e used k rooms) p q
-      ∙ ap (λ (x : Grown). entered e (x .used) k (x .rooms)) is
-      ∙ ap (λ (m : ℕ). built e m rooms₀) (sym (add-one k))
+      grown-eq (grown nodes' r) (entered e used k nodes) p q
+      ∙ ap (λ (x : Grown). entered e (x .used) k (x .nodes)) is
+      ∙ ap (λ (m : ℕ). built e m nodes₀) (sym (add-one k))
 
   -- what rebuilding leaves of the memory
-  pub rebuild-few : k * 6 ≤ length rooms₀ → k ≤ mostClaims → (used ≤ k) × (length rooms ≡ length rooms₀)
+  pub rebuild-few : k * 6 ≤ length nodes₀ → k ≤ mostClaims → (used ≤ k) × (length nodes ≡ length nodes₀)
   rebuild-few room few =
-      let b : Built (apart measure d coordinates) k rooms₀ (grown rooms used) = rw is (build (apart measure d coordinates) k rooms₀ room (omega arith)) in
+      let b : Built (apart measure d coordinates) k nodes₀ (grown nodes used) = rw is (build (apart measure d coordinates) k nodes₀ room (omega arith)) in
       (b .few, b .long)
 
-pub rebuild-start : (e : ℕ → ℕ → ℕ) (rooms : List ℕ) → grown rooms 0 ≡ built e 0 rooms
+pub rebuild-start : (e : ℕ → ℕ → ℕ) (nodes : List ℕ) → grown nodes 0 ≡ built e 0 nodes
 unfolding built
-rebuild-start e rooms = refl
+rebuild-start e nodes = refl
 
 -- testing
 
--- memory of any contents gives what empty rooms give
-alike-afresh : (e : ℕ → ℕ → ℕ) (rooms : List ℕ) (n : ℕ) → n * 6 ≤ length rooms → n ≤ mostClaims → Alike (afresh e n) (built e n rooms)
+-- memory of any contents gives what empty nodes give
+alike-afresh : (e : ℕ → ℕ → ℕ) (nodes : List ℕ) (n : ℕ) → n * 6 ≤ length nodes → n ≤ mostClaims → Alike (afresh e n) (built e n nodes)
 unfolding afresh
-alike-afresh e rooms n room few =
+alike-afresh e nodes n room few =
     let l = length-replicate {A = ℕ} (n * 6) 0 in
-    build-alike e n (replicate (n * 6) 0) rooms (omega arith) (omega arith) (omega arith)
+    build-alike e n (replicate (n * 6) 0) nodes (omega arith) (omega arith) (omega arith)
 
 module _ (s : Store) where
   pub sound-over : s .table .capacity < s .table .count → false ≡ sound s
   unfolding sound
   sound-over h = rw (lt-leb (s .table .count) (s .table .capacity) h)
 
-  module _ (scratch rooms : List ℕ) (u : ℕ) (hc : s .table .count ≤ s .table .capacity) (most : s .table .capacity ≤ mostClaims)
-      (room : s .table .count * 6 ≤ length scratch) (is : grown rooms u ≡ built (apartIn s) (s .table .count) scratch) where
-    alike : Alike (afresh (apartIn s) (s .table .count)) (grown rooms u)
+  module _ (scratch nodes : List ℕ) (u : ℕ) (hc : s .table .count ≤ s .table .capacity) (most : s .table .capacity ≤ mostClaims)
+      (room : s .table .count * 6 ≤ length scratch) (is : grown nodes u ≡ built (apartIn s) (s .table .count) scratch) where
+    alike : Alike (afresh (apartIn s) (s .table .count)) (grown nodes u)
     alike = rw is (alike-afresh (apartIn s) scratch (s .table .count) room (omega arith))
 
     pub sound-other : (u ≡ s .table .used → ⊥) → false ≡ sound s
@@ -133,13 +133,13 @@ module _ (s : Store) where
           ne-eqb (afresh (apartIn s) (s .table .count) .used) (s .table .used) (λ p. ne (sym (alike .used) ∙ p)),
         )
 
-    pub sound-last : u ≡ s .table .used → sameFront (u * 6) rooms (s .rooms) ≡ sound s
+    pub sound-last : u ≡ s .table .used → sameFront (u * 6) nodes (s .nodes) ≡ sound s
     unfolding sound
     sound-last e =
         let n : ℕ = s .table .used * 6 in
-        let again : List ℕ = afresh (apartIn s) (s .table .count) .rooms in
-        let f : sameFront n again (s .rooms) ≡ sameFront n rooms (s .rooms) =
-        front-ext n again rooms (s .rooms) (agree-at (s .table .used) again rooms (λ m g hm hg. alike .agree .same m g (omega (arith, alike .used)) hg)) in
+        let again : List ℕ = afresh (apartIn s) (s .table .count) .nodes in
+        let f : sameFront n again (s .nodes) ≡ sameFront n nodes (s .nodes) =
+        front-ext n again nodes (s .nodes) (agree-at (s .table .used) again nodes (λ m g hm hg. alike .agree .same m g (omega (arith, alike .used)) hg)) in
         rw (le-leb (s .table .count) (s .table .capacity) hc, eq-eqb (afresh (apartIn s) (s .table .count) .used) (s .table .used) (alike .used ∙ e), f, e)
 
 -- a table that passes the tests is good
@@ -152,27 +152,27 @@ sound-good s f hs =
     let e : ℕ → ℕ → ℕ = apartIn s in
     let bc : Bool = leb n (t .capacity) in
     let bu : Bool = eqb (afresh e n .used) (t .used) in
-    let bf : Bool = sameFront (t .used * 6) (afresh e n .rooms) (s .rooms) in
+    let bf : Bool = sameFront (t .used * 6) (afresh e n .nodes) (s .nodes) in
     let hc : n ≤ t .capacity = leb-true n (t .capacity) (and-first bc (bu && bf) hs) in
     let rest = and-second bc (bu && bf) hs in
     let hu : afresh e n .used ≡ t .used = eqb-true (afresh e n .used) (t .used) (and-first bu bf rest) in
-    let same : (i : ℕ) → i < t .used * 6 → getD (afresh e n .rooms) i 0 ≡ getD (s .rooms) i 0 =
-    front-at (t .used * 6) (afresh e n .rooms) (s .rooms) (and-second bu bf rest) in
-    let room : n * 6 ≤ length (s .rooms) = omega (arith, f .lent .rooms) in
+    let same : (i : ℕ) → i < t .used * 6 → getD (afresh e n .nodes) i 0 ≡ getD (s .nodes) i 0 =
+    front-at (t .used * 6) (afresh e n .nodes) (s .nodes) (and-second bu bf rest) in
+    let room : n * 6 ≤ length (s .nodes) = omega (arith, f .lent .nodes) in
     let few : n ≤ mostClaims = omega (arith, f .lent .most) in
-    let h = alike-afresh e (s .rooms) n room few in
-    let b = build e n (s .rooms) room (omega arith) in
-    let x : Grown = built e n (s .rooms) in
+    let h = alike-afresh e (s .nodes) n room few in
+    let b = build e n (s .nodes) room (omega arith) in
+    let x : Grown = built e n (s .nodes) in
     let xu : x .used ≡ t .used = sym (h .used) ∙ hu in
-    let eq : x .rooms ≡ s .rooms = same-list (x .rooms) (s .rooms) (t .used) (b .long)
+    let eq : x .nodes ≡ s .nodes = same-list (x .nodes) (s .nodes) (t .used) (b .long)
     (record { long = omega (arith, b .long); same = λ m g hm hg. sym (same (m * 6 + g) (omega arith)) ∙ h .agree .same m g (omega (arith, hu)) hg })
     (λ m g hm hg. b .behind m g (omega (arith, xu)) hg) in
-    record { fit = f; count = hc; built = grown-eq x (grown (s .rooms) (t .used)) eq xu }
+    record { fit = f; count = hc; built = grown-eq x (grown (s .nodes) (t .used)) eq xu }
 
 -- and the other way round
 module _ (s : Store) (g : Good s) where
-  room : s .table .count * 6 ≤ length (s .rooms)
-  room = omega (arith, g .count, g .fit .lent .rooms)
+  room : s .table .count * 6 ≤ length (s .nodes)
+  room = omega (arith, g .count, g .fit .lent .nodes)
 
   pub good-few : s .table .count ≤ mostClaims
   good-few = omega (arith, g .count, g .fit .lent .most)
@@ -182,17 +182,17 @@ module _ (s : Store) (g : Good s) where
   good-sound =
       let n : ℕ = s .table .count in
       let e : ℕ → ℕ → ℕ = apartIn s in
-      let h : Alike (afresh e n) (grown (s .rooms) (s .table .used)) = rw (g .built) at (alike-afresh e (s .rooms) n room good-few) in
+      let h : Alike (afresh e n) (grown (s .nodes) (s .table .used)) = rw (g .built) at (alike-afresh e (s .nodes) n room good-few) in
       rw (le-leb n (s .table .capacity) (g .count), eq-eqb (afresh e n .used) (s .table .used) (h .used))
-      (front-all (s .table .used * 6) (afresh e n .rooms) (s .rooms)
-      (agree-at (s .table .used) (afresh e n .rooms) (s .rooms) (λ m f hm hf. h .agree .same m f (omega (arith, h .used)) hf)))
+      (front-all (s .table .used * 6) (afresh e n .nodes) (s .nodes)
+      (agree-at (s .table .used) (afresh e n .nodes) (s .nodes) (λ m f hm hf. h .agree .same m f (omega (arith, h .used)) hf)))
 
-  pub good-built : Built (apartIn s) (s .table .count) (s .rooms) (grown (s .rooms) (s .table .used))
+  pub good-built : Built (apartIn s) (s .table .count) (s .nodes) (grown (s .nodes) (s .table .used))
   unfolding IsBuilt
-  good-built = rw (g .built) at (build (apartIn s) (s .table .count) (s .rooms) room (omega (arith, good-few)))
+  good-built = rw (g .built) at (build (apartIn s) (s .table .count) (s .nodes) room (omega (arith, good-few)))
 
   -- what a walk needs
-  pub good-tree : Neartree (s .rooms) (apartIn s) (s .table .used) (s .table .count)
+  pub good-tree : Neartree (s .nodes) (apartIn s) (s .table .used) (s .table .count)
   good-tree = good-built .sound
 
   pub good-used : s .table .used ≤ s .table .count

@@ -1,5 +1,5 @@
--- What a walk may rely on: the facts of rooms that entering has built. Here claims j and k are `e j k` apart, there are `n` claims, and the
--- first `used` rooms are in use. Definitions only.
+-- What a walk may rely on: the facts of nodes that entering has built. Here claims j and k are `e j k` apart, there are `n` claims, and the
+-- first `used` nodes are in use. Definitions only.
 use Prim.Native.Nat.{ℕ, _+_, _-_, _*_, _<_, _≤_, _^_}
 use mathlib.Core.Path.{_≡_}
 use mathlib.Core.List.{List}
@@ -8,52 +8,52 @@ use lib.ListN.{length}
 use Rattle.paper.specs.Tree.{fieldAt, grown, built}
 use Rattle.paper.specs.Limits.{mostPlaces}
 
--- room m has all of its six numbers
+-- node m has all of its six numbers
 abbrev pub Inside : List ℕ → ℕ → Type 0
-Inside rooms m = m * 6 + 5 < length rooms
+Inside nodes m = m * 6 + 5 < length nodes
 
--- the numbers of room m are claims that are stored, and rooms in use that lie above m
-pub record RoomOk (rooms : List ℕ) (used n m : ℕ) : Type 0 where
-  pub left : 0 < fieldAt rooms m 0
-  pub stored : (s : ℕ) → s < 2 → fieldAt rooms m s ≤ n
-  pub rises : (s : ℕ) → s < 2 → (fieldAt rooms m (4 + s) ≡ 0 → ⊥) → m + 1 < fieldAt rooms m (4 + s)
-  pub leads : (s : ℕ) → s < 2 → fieldAt rooms m (4 + s) ≤ used
+-- the numbers of node m are claims that are stored, and nodes in use that lie above m
+pub record RoomOk (nodes : List ℕ) (used n m : ℕ) : Type 0 where
+  pub left : 0 < fieldAt nodes m 0
+  pub stored : (s : ℕ) → s < 2 → fieldAt nodes m s ≤ n
+  pub rises : (s : ℕ) → s < 2 → (fieldAt nodes m (4 + s) ≡ 0 → ⊥) → m + 1 < fieldAt nodes m (4 + s)
+  pub leads : (s : ℕ) → s < 2 → fieldAt nodes m (4 + s) ≤ used
 
 unfoldable pub Linked : List ℕ → ℕ → ℕ → Type 0
-Linked rooms used n = (m : ℕ) → m < used → RoomOk rooms used n m
+Linked nodes used n = (m : ℕ) → m < used → RoomOk nodes used n m
 
--- [3.8] [3.9] claim j is on side s of room m, or below it: then the side's far distance reaches it, and the side is the nearer one of the
--- room's two, the left one of two as near
-pub data Under (rooms : List ℕ) (e : ℕ → ℕ → ℕ) : ℕ → ℕ → ℕ → Type 0 where
-  here : {m s j : ℕ} → fieldAt rooms m s ≡ j + 1 → Under rooms e m s j
-  deeper : {m s j : ℕ} (k o w z : ℕ) → fieldAt rooms m s ≡ k + 1 → e k j ≤ fieldAt rooms m (2 + s) → fieldAt rooms m (1 - s) ≡ o + 1 → e k j + s ≤ e o j
-      → fieldAt rooms m (4 + s) ≡ w + 1 → z < 2 → Under rooms e w z j → Under rooms e m s j
+-- [3.8] [3.9] claim j is on side s of node m, or below it: then the side's far distance reaches it, and the side is the nearer one of the
+-- node's two, the left one of two as near
+pub data Under (nodes : List ℕ) (e : ℕ → ℕ → ℕ) : ℕ → ℕ → ℕ → Type 0 where
+  here : {m s j : ℕ} → fieldAt nodes m s ≡ j + 1 → Under nodes e m s j
+  deeper : {m s j : ℕ} (k o w z : ℕ) → fieldAt nodes m s ≡ k + 1 → e k j ≤ fieldAt nodes m (2 + s) → fieldAt nodes m (1 - s) ≡ o + 1 → e k j + s ≤ e o j
+      → fieldAt nodes m (4 + s) ≡ w + 1 → z < 2 → Under nodes e w z j → Under nodes e m s j
 
--- claim j is on a side of room m, or below it
-pub record Holds (rooms : List ℕ) (e : ℕ → ℕ → ℕ) (m j : ℕ) : Type 0 where
+-- claim j is on a side of node m, or below it
+pub record Holds (nodes : List ℕ) (e : ℕ → ℕ → ℕ) (m j : ℕ) : Type 0 where
   pub side : ℕ
   pub which : side < 2
-  pub under : Under rooms e m side j
+  pub under : Under nodes e m side j
 
--- what a search from room m needs
-pub record Searchable (rooms : List ℕ) (used n m : ℕ) : Type 0 where
-  pub linked : Linked rooms used n
-  pub room : used * 6 ≤ length rooms
+-- what a search from node m needs
+pub record Searchable (nodes : List ℕ) (used n m : ℕ) : Type 0 where
+  pub linked : Linked nodes used n
+  pub room : used * 6 ≤ length nodes
   pub inUse : m < used
 
--- the rooms are a neartree of the n claims
-pub record Neartree (rooms : List ℕ) (e : ℕ → ℕ → ℕ) (used n : ℕ) : Type 0 where
-  pub linked : Linked rooms used n
-  pub room : used * 6 ≤ length rooms
+-- the nodes are a neartree of the n claims
+pub record Neartree (nodes : List ℕ) (e : ℕ → ℕ → ℕ) (used n : ℕ) : Type 0 where
+  pub linked : Linked nodes used n
+  pub room : used * 6 ≤ length nodes
   pub few : n < 2 ^ 64 - 1
   pub empty : used ≡ 0 → n ≡ 0
-  pub all : (j : ℕ) → j < n → Holds rooms e 0 j
+  pub all : (j : ℕ) → j < n → Holds nodes e 0 j
 
--- side s of room m has a stored claim
-pub record HasClaim (rooms : List ℕ) (n m s : ℕ) : Type 0 where
-  pub inside : Inside rooms m
-  pub held : 0 < fieldAt rooms m s
-  pub stored : fieldAt rooms m s ≤ n
+-- side s of node m has a stored claim
+pub record HasClaim (nodes : List ℕ) (n m s : ℕ) : Type 0 where
+  pub inside : Inside nodes m
+  pub held : 0 < fieldAt nodes m s
+  pub stored : fieldAt nodes m s ≤ n
 
 -- claims numbered below n have their d coordinates in the lent memory
 pub record Located (d n : ℕ) (coordinates : List ℤ) : Type 0 where
@@ -61,12 +61,12 @@ pub record Located (d n : ℕ) (coordinates : List ℤ) : Type 0 where
   pub inside : n * d ≤ length coordinates
 
 -- claim k, the first that is not entered yet, can be
-pub record Enterable (rooms : List ℕ) (used d : ℕ) (coordinates : List ℤ) (k : ℕ) : Type 0 where
-  pub linked : Linked rooms used k
-  pub room : used * 6 + 6 ≤ length rooms
+pub record Enterable (nodes : List ℕ) (used d : ℕ) (coordinates : List ℤ) (k : ℕ) : Type 0 where
+  pub linked : Linked nodes used k
+  pub room : used * 6 + 6 ≤ length nodes
   pub few : k + 1 < 2 ^ 64
   pub located : Located d (k + 1) coordinates
 
--- [3.12] the rooms are what entering the n claims gives: to enter them again changes nothing
+-- [3.12] the nodes are what entering the n claims gives: to enter them again changes nothing
 unfoldable pub IsBuilt : (ℕ → ℕ → ℕ) → ℕ → List ℕ → ℕ → Type 0
-IsBuilt e n rooms used = built e n rooms ≡ grown rooms used
+IsBuilt e n nodes used = built e n nodes ≡ grown nodes used

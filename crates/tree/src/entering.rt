@@ -3,9 +3,9 @@ ghost use mathlib.Core.Path.{_≡_};
 ghost use Prim.Native.Nat.{_+_, _<_, max};
 ghost use Rattle.paper.specs.Tree.{fieldAt, putField, sideClaim, nearSide, entered, apart};
 ghost use Rattle.tree.specs.Rooms.{Inside, HasClaim, Located, Enterable};
-use super::rooms::field;
-use super::rooms::make;
-use super::rooms::store;
+use super::nodes::field;
+use super::nodes::make;
+use super::nodes::store;
 
 // How far claims j and k are apart.
 pub fn between(measure: u8, d: usize, coordinates: &[i32], j: u64, k: u64) -> u64
@@ -17,20 +17,20 @@ pub fn between(measure: u8, d: usize, coordinates: &[i32], j: u64, k: u64) -> u6
     measure::distance(measure, d, coordinates, at, coordinates, bt)
 }
 
-// The side of a room that is nearer to a claim, and how far that side's claim is from it.
+// The side of a node that is nearer to a claim, and how far that side's claim is from it.
 pub struct NearSide {
     pub side: usize,
     pub distance: u64,
 }
 
-// [3.8] The side of room m that claim k goes below: the left one of two as near.
-fn nearer(rooms: &[u64], measure: u8, d: usize, coordinates: &[i32], m: usize, k: u64) -> NearSide
-    requires { ⌜ (HasClaim (now rooms) k m 0 × HasClaim (now rooms) k m 1) × Located d (k + 1) (now coordinates) ⌝ }
-    ensures { λ r. ⌜ (r .side ≡ nearSide (apart measure d (now (coordinates .entry))) (now (rooms .entry)) m k)
-        × (r .distance ≡ apart measure d (now (coordinates .entry)) (claimAt (now (rooms .entry)) m (r .side)) k) ⌝ }
+// [3.8] The side of node m that claim k goes below: the left one of two as near.
+fn nearer(nodes: &[u64], measure: u8, d: usize, coordinates: &[i32], m: usize, k: u64) -> NearSide
+    requires { ⌜ (HasClaim (now nodes) k m 0 × HasClaim (now nodes) k m 1) × Located d (k + 1) (now coordinates) ⌝ }
+    ensures { λ r. ⌜ (r .side ≡ nearSide (apart measure d (now (coordinates .entry))) (now (nodes .entry)) m k)
+        × (r .distance ≡ apart measure d (now (coordinates .entry)) (claimAt (now (nodes .entry)) m (r .side)) k) ⌝ }
 {
-    let left = field(rooms, m, 0);
-    let right = field(rooms, m, 1);
+    let left = field(nodes, m, 0);
+    let right = field(nodes, m, 1);
     let to_left = between(measure, d, coordinates, left - 1, k);
     let to_right = between(measure, d, coordinates, right - 1, k);
     if to_left <= to_right {
@@ -51,45 +51,45 @@ fn larger(a: u64, b: u64) -> u64
     if a < b { b } else { a }
 }
 
-// [3.9] Has the far distance of side s of room m reach as far as `distance`.
-fn widen(rooms: &mut [u64], m: usize, s: usize, distance: u64)
-    requires { ⌜ (s < 2) × Inside (now rooms) m ⌝ }
-    ensures { λ _. ⌜ now (rooms .exit) ≡ putField (now (rooms .entry)) m (2 + s) (max (fieldAt (now (rooms .entry)) m (2 + s)) distance) ⌝ }
+// [3.9] Has the far distance of side s of node m reach as far as `distance`.
+fn widen(nodes: &mut [u64], m: usize, s: usize, distance: u64)
+    requires { ⌜ (s < 2) × Inside (now nodes) m ⌝ }
+    ensures { λ _. ⌜ now (nodes .exit) ≡ putField (now (nodes .entry)) m (2 + s) (max (fieldAt (now (nodes .entry)) m (2 + s)) distance) ⌝ }
 {
-    let far = field(rooms, m, 2 + s);
-    store(rooms, m, 2 + s, larger(far, distance));
+    let far = field(nodes, m, 2 + s);
+    store(nodes, m, 2 + s, larger(far, distance));
 }
 
-// [3.5] [3.7] [3.10] [3.11] Enters claim k, and gives the number of rooms then in use.
+// [3.5] [3.7] [3.10] [3.11] Enters claim k, and gives the number of nodes then in use.
 pub fn enter(
-    rooms: &mut [u64],
+    nodes: &mut [u64],
     measure: u8,
     d: usize,
     coordinates: &[i32],
     used: usize,
     k: u64,
 ) -> usize
-    requires { ⌜ Enterable (now rooms) used d (now coordinates) k ⌝ }
-    ensures rooms { λ _. ⌜ now (rooms .exit) ≡ entered (apart measure d (now (coordinates .entry))) used k (now (rooms .entry)) .rooms ⌝ }
-    ensures used { λ r. ⌜ r ≡ entered (apart measure d (now (coordinates .entry))) used k (now (rooms .entry)) .used ⌝ }
+    requires { ⌜ Enterable (now nodes) used d (now coordinates) k ⌝ }
+    ensures nodes { λ _. ⌜ now (nodes .exit) ≡ entered (apart measure d (now (coordinates .entry))) used k (now (nodes .entry)) .nodes ⌝ }
+    ensures used { λ r. ⌜ r ≡ entered (apart measure d (now (coordinates .entry))) used k (now (nodes .entry)) .used ⌝ }
 {
     if used == 0 {
-        make(rooms, 0, k);
+        make(nodes, 0, k);
         return 1;
     }
     let mut m = 0;
     loop {
-        if field(rooms, m, 1) == 0 {
-            store(rooms, m, 1, k + 1);
+        if field(nodes, m, 1) == 0 {
+            store(nodes, m, 1, k + 1);
             return used;
         }
-        let near = nearer(rooms, measure, d, coordinates, m, k);
+        let near = nearer(nodes, measure, d, coordinates, m, k);
         let s = near.side;
-        let below = field(rooms, m, 4 + s);
-        widen(rooms, m, s, near.distance);
+        let below = field(nodes, m, 4 + s);
+        widen(nodes, m, s, near.distance);
         if below == 0 {
-            store(rooms, m, 4 + s, used as u64 + 1);
-            make(rooms, used, k);
+            store(nodes, m, 4 + s, used as u64 + 1);
+            make(nodes, used, k);
             return used + 1;
         }
         m = (below - 1) as usize;

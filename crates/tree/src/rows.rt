@@ -4,7 +4,7 @@ ghost use Prim.Native.Nat.{_<_};
 ghost use lib.ListN.{length};
 ghost use Rattle.paper.specs.Tree.{referenceAt, withReference};
 
-// A reference at the width of a room's numbers.
+// A reference at the width of a node's numbers.
 fn wide(x: u32) -> u64
     ensures { λ r. ⌜ r ≡ x ⌝ }
 {

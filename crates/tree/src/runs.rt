@@ -1,4 +1,4 @@
-// Entering claims in runs, where a table has room for them. What may be entered is tested above.
+// Entering claims in runs, where a table has node for them. What may be entered is tested above.
 ghost use mathlib.Core.Path.{_≡_};
 ghost use Prim.Native.Nat.{_+_, _*_, _≤_};
 ghost use lib.ListN.{length, drop};
@@ -23,25 +23,25 @@ fn copy(coordinates: &mut [i32], at: usize, places: &[i32], from: usize, n: usiz
     }
 }
 
-// [3.14] Enters claim i of a run into a sound table with room for it.
+// [3.14] Enters claim i of a run into a sound table with node for it.
 pub fn add(
     t: Table,
     references: &mut [u32],
     coordinates: &mut [i32],
-    rooms: &mut [u64],
+    nodes: &mut [u64],
     reference: u32,
     places: &[i32],
     i: usize,
 ) -> Table
-    requires { ⌜ Roomy (lent t references coordinates rooms) 1 × (i * t .d + t .d ≤ length (now places)) ⌝ }
-    ensures { λ r. ⌜ lent r (references .exit) (coordinates .exit) (rooms .exit)
-        ≡ added (lent t (references .entry) (coordinates .entry) (rooms .entry)) reference (point (t .d) (now (places .entry)) i) ⌝ }
+    requires { ⌜ Roomy (lent t references coordinates nodes) 1 × (i * t .d + t .d ≤ length (now places)) ⌝ }
+    ensures { λ r. ⌜ lent r (references .exit) (coordinates .exit) (nodes .exit)
+        ≡ added (lent t (references .entry) (coordinates .entry) (nodes .entry)) reference (point (t .d) (now (places .entry)) i) ⌝ }
 {
     let k = t.count;
     let d = t.d;
     put_reference(references, k, reference);
     copy(coordinates, k * d, places, i * d, d);
-    let used = enter(rooms, t.measure, d, coordinates, t.used, k as u64);
+    let used = enter(nodes, t.measure, d, coordinates, t.used, k as u64);
     Table {
         number: t.number,
         measure: t.measure,
@@ -52,23 +52,23 @@ pub fn add(
     }
 }
 
-// [3.15] Enters a run of claims into a sound table with room for it.
+// [3.15] Enters a run of claims into a sound table with node for it.
 pub fn add_run(
     t: Table,
     references: &mut [u32],
     coordinates: &mut [i32],
-    rooms: &mut [u64],
+    nodes: &mut [u64],
     given: &[u32],
     places: &[i32],
 ) -> Table
-    requires { ⌜ Roomy (lent t references coordinates rooms) (length (now given)) × (length (now places) ≡ t .d * length (now given)) ⌝ }
-    ensures { λ r. ⌜ lent r (references .exit) (coordinates .exit) (rooms .exit)
-        ≡ addedRun (now (given .entry)) (now (places .entry)) (length (now (given .entry))) (lent t (references .entry) (coordinates .entry) (rooms .entry)) ⌝ }
+    requires { ⌜ Roomy (lent t references coordinates nodes) (length (now given)) × (length (now places) ≡ t .d * length (now given)) ⌝ }
+    ensures { λ r. ⌜ lent r (references .exit) (coordinates .exit) (nodes .exit)
+        ≡ addedRun (now (given .entry)) (now (places .entry)) (length (now (given .entry))) (lent t (references .entry) (coordinates .entry) (nodes .entry)) ⌝ }
 {
     let mut held = t;
     let mut i = 0;
     while i < given.len() {
-        held = add(held, references, coordinates, rooms, given[i], places, i);
+        held = add(held, references, coordinates, nodes, given[i], places, i);
         i += 1;
     }
     held

@@ -1,4 +1,4 @@
-// Knowing a table: its range and lent memory, and whether its rooms in use hold what entering its claims gives.
+// Knowing a table: its range and lent memory, and whether its nodes in use hold what entering its claims gives.
 ghost use mathlib.Core.Path.{_≡_};
 ghost use Prim.Native.Nat.{ℕ, _*_, _≤_};
 ghost use mathlib.Core.List.{List};
@@ -10,12 +10,12 @@ ghost use Rattle.paper.specs.Limits.{mostClaims};
 use super::entering::enter;
 use checks::in_range;
 use paper::limits::MOST_CLAIMS;
-use paper::limits::SCRATCH_ROOM;
+use paper::limits::SCRATCH_NODES;
 use paper::tables::Table;
 
 // [8.1] Whether the table is in range, and the lent memory holds what it needs.
-pub fn is_fit(t: Table, references: &[u32], coordinates: &[i32], rooms: &[u64]) -> bool
-    ensures { λ r. ⌜ r ≡ fits (lent t (references .entry) (coordinates .entry) (rooms .entry)) ⌝ }
+pub fn is_fit(t: Table, references: &[u32], coordinates: &[i32], nodes: &[u64]) -> bool
+    ensures { λ r. ⌜ r ≡ fits (lent t (references .entry) (coordinates .entry) (nodes .entry)) ⌝ }
 {
     if !in_range(t.measure, t.d) {
         return false;
@@ -33,21 +33,21 @@ pub fn is_fit(t: Table, references: &[u32], coordinates: &[i32], rooms: &[u64]) 
     if coordinates.len() < c * t.d {
         return false;
     }
-    if rooms.len() < c * 6 {
+    if nodes.len() < c * 6 {
         return false;
     }
     true
 }
 
-// Enters claims 0 to n - 1 one by one, and gives the number of rooms then in use.
-fn rebuild(rooms: &mut [u64], measure: u8, d: usize, coordinates: &[i32], n: usize) -> usize
-    requires { ⌜ ((n * 6 ≤ length (now rooms)) × (n ≤ mostClaims)) × Located d n (now coordinates) ⌝ }
-    ensures { λ r. ⌜ grown (now (rooms .exit)) r ≡ built (apart measure d (now (coordinates .entry))) n (now (rooms .entry)) ⌝ }
+// Enters claims 0 to n - 1 one by one, and gives the number of nodes then in use.
+fn rebuild(nodes: &mut [u64], measure: u8, d: usize, coordinates: &[i32], n: usize) -> usize
+    requires { ⌜ ((n * 6 ≤ length (now nodes)) × (n ≤ mostClaims)) × Located d n (now coordinates) ⌝ }
+    ensures { λ r. ⌜ grown (now (nodes .exit)) r ≡ built (apart measure d (now (coordinates .entry))) n (now (nodes .entry)) ⌝ }
 {
     let mut used = 0;
     let mut k = 0;
     while k < n {
-        used = enter(rooms, measure, d, coordinates, used, k as u64);
+        used = enter(nodes, measure, d, coordinates, used, k as u64);
         k += 1;
     }
     used
@@ -68,19 +68,19 @@ fn same_front(a: &[u64], b: &[u64], w: usize) -> bool
     true
 }
 
-// [3.12] [8.2] Whether the table is sound. Its claims are entered again, into rooms of its own, and the rooms in use are compared.
-pub fn is_sound(t: Table, coordinates: &[i32], rooms: &[u64]) -> bool
-    requires { ⌜ Lent t (length (now coordinates)) (length (now rooms)) ⌝ }
-    ensures { λ r. ⌜ ((references : List ℕ) → r ≡ sound (store t references (now (coordinates .entry)) (now (rooms .entry)))) ⌝ }
+// [3.12] [8.2] Whether the table is sound. Its claims are entered again, into nodes of its own, and the nodes in use are compared.
+pub fn is_sound(t: Table, coordinates: &[i32], nodes: &[u64]) -> bool
+    requires { ⌜ Lent t (length (now coordinates)) (length (now nodes)) ⌝ }
+    ensures { λ r. ⌜ ((references : List ℕ) → r ≡ sound (store t references (now (coordinates .entry)) (now (nodes .entry)))) ⌝ }
 {
     let n = t.count;
     if t.capacity < n {
         return false;
     }
-    let mut scratch = [0u64; SCRATCH_ROOM];
+    let mut scratch = [0u64; SCRATCH_NODES];
     let used = rebuild(&mut scratch, t.measure, t.d, coordinates, n);
     if used != t.used {
         return false;
     }
-    same_front(&scratch, rooms, used * 6)
+    same_front(&scratch, nodes, used * 6)
 }

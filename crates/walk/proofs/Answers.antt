@@ -57,7 +57,7 @@ module _ (s : Store) (probe : List ℤ) (asks : Answerable s probe) (order : Ord
   Page place size = pageOf (tableQuery (s .table) order probe reach) (claimsIn s) place size
 
   abbrev PageAsks : Asked → List ℕ → Type 0
-  PageAsks ask o = PageAsk (s .references) (s .coordinates) (s .rooms) probe ask o
+  PageAsks ask o = PageAsk (s .references) (s .coordinates) (s .nodes) probe ask o
 
   abbrev FilledBy : Asked → List ℕ → List ℕ → ℕ → Type 0
   FilledBy ask o o' r = AskFilled ask (s .references) (distBy ask (s .coordinates) probe) o o' r
@@ -187,7 +187,7 @@ page-front q cs place size o o' r h =
 module _ (s : Store) (g : Good s) (probe : List ℤ) (h : length probe ≡ s .table .d) where
   pub good-measurable : Measurable (s .table) (s .coordinates) probe
   good-measurable =
-      record { located = lent-located (s .table) (s .coordinates) (length (s .rooms)) (s .table .count) (g .fit .lent) (g .count); aimed = omega arith }
+      record { located = lent-located (s .table) (s .coordinates) (length (s .nodes)) (s .table .count) (g .fit .lent) (g .count); aimed = omega arith }
 
   pub good-answerable : Answerable s probe
   good-answerable = record { tree = good-tree s g; measurable = good-measurable; named = omega (arith, g .count, g .fit .references) }

@@ -52,7 +52,7 @@ pub record Measurable (t : Table) (coordinates probe : List ℤ) : Type 0 where
 
 -- the table is sound, as far as a search needs it
 pub record Answerable (s : Store) (probe : List ℤ) : Type 0 where
-  pub tree : Neartree (s .rooms) (apartIn s) (s .table .used) (s .table .count)
+  pub tree : Neartree (s .nodes) (apartIn s) (s .table .used) (s .table .count)
   pub measurable : Measurable (s .table) (s .coordinates) probe
   pub named : s .table .count ≤ length (s .references)
 

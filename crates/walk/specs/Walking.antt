@@ -46,25 +46,25 @@ pub record Metric (e : ℕ → ℕ → ℕ) (dist : ℕ → ℕ) : Type 0 where
   pub between : (k j : ℕ) → e k j ≤ dist k + dist j
 
 -- a claim below side s of room m, where k is the side's claim
-pub record Below (rooms : List ℕ) (e : ℕ → ℕ → ℕ) (m s k j : ℕ) : Type 0 where
-  pub near : e k j ≤ fieldAt rooms m (2 + s)
-  pub beside : fieldAt rooms m (1 - s) ≡ 0 → ⊥
-  pub closer : e k j + s ≤ e (fieldAt rooms m (1 - s) - 1) j
+pub record Below (nodes : List ℕ) (e : ℕ → ℕ → ℕ) (m s k j : ℕ) : Type 0 where
+  pub near : e k j ≤ fieldAt nodes m (2 + s)
+  pub beside : fieldAt nodes m (1 - s) ≡ 0 → ⊥
+  pub closer : e k j + s ≤ e (fieldAt nodes m (1 - s) - 1) j
   pub room : ℕ
-  pub leads : fieldAt rooms m (4 + s) ≡ room + 1
-  pub holds : Holds rooms e room j
+  pub leads : fieldAt nodes m (4 + s) ≡ room + 1
+  pub holds : Holds nodes e room j
 
 -- a claim in or below room `way` less one; none where `way` is 0
-pub record Reached (rooms : List ℕ) (e : ℕ → ℕ → ℕ) (way j : ℕ) : Type 0 where
+pub record Reached (nodes : List ℕ) (e : ℕ → ℕ → ℕ) (way j : ℕ) : Type 0 where
   pub some : way ≡ 0 → ⊥
-  pub holds : Holds rooms e (way - 1) j
+  pub holds : Holds nodes e (way - 1) j
 
 -- [4.11] the room below side s of room m, plus one, or 0 where all below comes before the mark or is beyond what is still wanted: the
 -- side's claim is at rank x, the other side's at rank y
 unfoldable pub wayDown : List ℕ → Asked → ℕ → ℕ → ℕ → ℕ → List ℕ → ℕ → ℕ
-wayDown rooms ask m s x y o count =
-    cond (passedOf ask x (fieldAt rooms m (2 + s))) 0
-    (cond (beyondOf (ask .order) (boundOf ask o count) x y s (fieldAt rooms m (2 + s))) 0 (fieldAt rooms m (4 + s)))
+wayDown nodes ask m s x y o count =
+    cond (passedOf ask x (fieldAt nodes m (2 + s))) 0
+    (cond (beyondOf (ask .order) (boundOf ask o count) x y s (fieldAt nodes m (2 + s))) 0 (fieldAt nodes m (4 + s)))
 
 -- what the question's walk over the claims of C does
 abbrev pub AskWalked : Asked → List ℕ → (ℕ → ℕ) → (ℕ → Type 0) → List ℕ → ℕ → List ℕ → ℕ → Type 0
@@ -88,26 +88,26 @@ pub record StepAsk (ask : Asked) (references : List ℕ) (k : ℕ) (o : List ℕ
   pub roomy : Roomy (ask .size) o count
 
 -- what the walk of room m asks
-pub record NodeAsk (references : List ℕ) (coordinates : List ℤ) (rooms : List ℕ) (probe : List ℤ) (ask : Asked) (m : ℕ) (o : List ℕ) (count : ℕ) : Type 0 where
-  pub walk : Searchable rooms (ask .used) (ask .claims) m
+pub record NodeAsk (references : List ℕ) (coordinates : List ℤ) (nodes : List ℕ) (probe : List ℤ) (ask : Asked) (m : ℕ) (o : List ℕ) (count : ℕ) : Type 0 where
+  pub walk : Searchable nodes (ask .used) (ask .claims) m
   pub lent : Lent ask references coordinates probe
   pub roomy : Roomy (ask .size) o count
 
 -- what the tests of side s of room m ask
-pub record WayAsk (rooms : List ℕ) (ask : Asked) (m s : ℕ) (o : List ℕ) (count : ℕ) : Type 0 where
+pub record WayAsk (nodes : List ℕ) (ask : Asked) (m s : ℕ) (o : List ℕ) (count : ℕ) : Type 0 where
   pub which : s < 2
-  pub inside : Inside rooms m
+  pub inside : Inside nodes m
   pub roomy : Roomy (ask .size) o count
 
 -- what the walk below a side asks
-pub record SideAsk (references : List ℕ) (coordinates : List ℤ) (rooms : List ℕ) (probe : List ℤ) (ask : Asked) (way : ℕ) (o : List ℕ) (count : ℕ) : Type 0 where
-  pub walk : (way ≡ 0 → ⊥) → Searchable rooms (ask .used) (ask .claims) (way - 1)
+pub record SideAsk (references : List ℕ) (coordinates : List ℤ) (nodes : List ℕ) (probe : List ℤ) (ask : Asked) (way : ℕ) (o : List ℕ) (count : ℕ) : Type 0 where
+  pub walk : (way ≡ 0 → ⊥) → Searchable nodes (ask .used) (ask .claims) (way - 1)
   pub lent : Lent ask references coordinates probe
   pub roomy : Roomy (ask .size) o count
 
 -- what a page asks
-pub record PageAsk (references : List ℕ) (coordinates : List ℤ) (rooms : List ℕ) (probe : List ℤ) (ask : Asked) (o : List ℕ) : Type 0 where
-  pub tree : Neartree rooms (apartBy ask coordinates) (ask .used) (ask .claims)
+pub record PageAsk (references : List ℕ) (coordinates : List ℤ) (nodes : List ℕ) (probe : List ℤ) (ask : Asked) (o : List ℕ) : Type 0 where
+  pub tree : Neartree nodes (apartBy ask coordinates) (ask .used) (ask .claims)
   pub lent : Lent ask references coordinates probe
   pub roomy : Roomy (ask .size) o 0
 

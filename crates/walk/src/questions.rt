@@ -57,7 +57,7 @@ pub fn fill(
     t: Table,
     references: &[u32],
     coordinates: &[i32],
-    rooms: &[u64],
+    nodes: &[u64],
     order: Order,
     probe: &[i32],
     reach: u64,
@@ -65,12 +65,12 @@ pub fn fill(
     size: usize,
     room: &mut [u64],
 ) -> usize
-    requires { ⌜ Answerable (lent t references coordinates rooms) (now probe) ⌝ }
+    requires { ⌜ Answerable (lent t references coordinates nodes) (now probe) ⌝ }
     requires { ⌜ Pageable t place size (now room) ⌝ }
-    ensures { λ r. ⌜ Fills (pageOf (tableQuery t order (now (probe .entry)) reach) (claimsIn (lent t (references .entry) (coordinates .entry) (rooms .entry))) place size) (now (room .entry)) (now (room .exit)) r ⌝ }
+    ensures { λ r. ⌜ Fills (pageOf (tableQuery t order (now (probe .entry)) reach) (claimsIn (lent t (references .entry) (coordinates .entry) (nodes .entry))) place size) (now (room .entry)) (now (room .exit)) r ⌝ }
 {
     let ask = asked(t, order, reach, place, size);
-    page(references, coordinates, rooms, probe, ask, room)
+    page(references, coordinates, nodes, probe, ask, room)
 }
 
 // [4.6] [4.7] A page: so many claims at the front of the room, and whether they are fewer than were asked for.
@@ -78,7 +78,7 @@ pub fn page_of(
     t: Table,
     references: &[u32],
     coordinates: &[i32],
-    rooms: &[u64],
+    nodes: &[u64],
     order: Order,
     probe: &[i32],
     reach: u64,
@@ -86,15 +86,15 @@ pub fn page_of(
     size: usize,
     room: &mut [u64],
 ) -> Paged
-    requires { ⌜ Answerable (lent t references coordinates rooms) (now probe) ⌝ }
+    requires { ⌜ Answerable (lent t references coordinates nodes) (now probe) ⌝ }
     requires { ⌜ Pageable t place size (now room) ⌝ }
-    ensures { λ r. ⌜ PageIs (tableQuery t order (now (probe .entry)) reach) (claimsIn (lent t (references .entry) (coordinates .entry) (rooms .entry))) place size (now (room .entry)) (now (room .exit)) r ⌝ }
+    ensures { λ r. ⌜ PageIs (tableQuery t order (now (probe .entry)) reach) (claimsIn (lent t (references .entry) (coordinates .entry) (nodes .entry))) place size (now (room .entry)) (now (room .exit)) r ⌝ }
 {
     let count = fill(
         t,
         references,
         coordinates,
-        rooms,
+        nodes,
         order,
         probe,
         reach,
@@ -113,13 +113,13 @@ fn first(
     t: Table,
     references: &[u32],
     coordinates: &[i32],
-    rooms: &[u64],
+    nodes: &[u64],
     order: Order,
     probe: &[i32],
     reach: u64,
 ) -> Found
-    requires { ⌜ Answerable (lent t references coordinates rooms) (now probe) ⌝ }
-    ensures { λ r. ⌜ told r ≡ firstOf (listed (tableQuery t order (now (probe .entry)) reach) (claimsIn (lent t (references .entry) (coordinates .entry) (rooms .entry))) (t .count)) ⌝ }
+    requires { ⌜ Answerable (lent t references coordinates nodes) (now probe) ⌝ }
+    ensures { λ r. ⌜ told r ≡ firstOf (listed (tableQuery t order (now (probe .entry)) reach) (claimsIn (lent t (references .entry) (coordinates .entry) (nodes .entry))) (t .count)) ⌝ }
 {
     let mut room = [0u64; 3];
     let start = Place::Start;
@@ -127,7 +127,7 @@ fn first(
         t,
         references,
         coordinates,
-        rooms,
+        nodes,
         order,
         probe,
         reach,
@@ -146,15 +146,15 @@ pub fn nearest(
     t: Table,
     references: &[u32],
     coordinates: &[i32],
-    rooms: &[u64],
+    nodes: &[u64],
     probe: &[i32],
     reach: u64,
 ) -> Found
-    requires { ⌜ Answerable (lent t references coordinates rooms) (now probe) ⌝ }
-    ensures { λ r. ⌜ told r ≡ nearestOf (tableQuery t Near (now (probe .entry)) reach) (claimsIn (lent t (references .entry) (coordinates .entry) (rooms .entry))) ⌝ }
+    requires { ⌜ Answerable (lent t references coordinates nodes) (now probe) ⌝ }
+    ensures { λ r. ⌜ told r ≡ nearestOf (tableQuery t Near (now (probe .entry)) reach) (claimsIn (lent t (references .entry) (coordinates .entry) (nodes .entry))) ⌝ }
 {
     let near = Order::Near;
-    first(t, references, coordinates, rooms, near, probe, reach)
+    first(t, references, coordinates, nodes, near, probe, reach)
 }
 
 // [4.2] [1.9] The farthest claim. None is beyond the measure's greatest distance.
@@ -162,15 +162,15 @@ pub fn farthest(
     t: Table,
     references: &[u32],
     coordinates: &[i32],
-    rooms: &[u64],
+    nodes: &[u64],
     probe: &[i32],
 ) -> Found
-    requires { ⌜ Answerable (lent t references coordinates rooms) (now probe) ⌝ }
-    ensures { λ r. ⌜ told r ≡ farthestOf (tableQuery t Near (now (probe .entry)) 0) (claimsIn (lent t (references .entry) (coordinates .entry) (rooms .entry))) ⌝ }
+    requires { ⌜ Answerable (lent t references coordinates nodes) (now probe) ⌝ }
+    ensures { λ r. ⌜ told r ≡ farthestOf (tableQuery t Near (now (probe .entry)) 0) (claimsIn (lent t (references .entry) (coordinates .entry) (nodes .entry))) ⌝ }
 {
     let far = Order::Far;
     let greatest = Measure::numbered(t.measure).greatest(t.d as u64);
-    first(t, references, coordinates, rooms, far, probe, greatest)
+    first(t, references, coordinates, nodes, far, probe, greatest)
 }
 
 // [8.8] Whether a place's mark is a claim of its snapshot, at that claim's distance, within reach.

@@ -3,7 +3,7 @@ ghost use mathlib.Core.Path.{_≡_};
 ghost use Rattle.tree.specs.Rooms.{Holds};
 ghost use Rattle.walk.specs.Walking.{distOf, distBy, InSight, apartBy, wayDown, WayAsk, Reached, AskWalked, Stepped, StepAsk, NodeAsk, SideAsk, PageAsk, AskFilled};
 use keep::Asked;
-use tree::rooms::field;
+use tree::nodes::field;
 use tree::rows::reference;
 
 // How far claim k is from the probe.
@@ -30,7 +30,7 @@ fn consider(references: &[u32], ask: Asked, k: u64, x: u64, room: &mut [u64], co
 // [4.11] The room to go to below side s of room m, plus one, or 0 where nothing below it can change the answer. The side's claim is at
 // rank x, the other side's at rank y.
 fn way_down(
-    rooms: &[u64],
+    nodes: &[u64],
     ask: Asked,
     m: usize,
     s: usize,
@@ -39,14 +39,14 @@ fn way_down(
     room: &[u64],
     count: usize,
 ) -> u64
-    requires { ⌜ WayAsk (now rooms) ask m s (now room) count ⌝ }
-    ensures { λ r. ⌜ r ≡ wayDown (now (rooms .entry)) ask m s x y (now (room .entry)) count ⌝ }
+    requires { ⌜ WayAsk (now nodes) ask m s (now room) count ⌝ }
+    ensures { λ r. ⌜ r ≡ wayDown (now (nodes .entry)) ask m s x y (now (room .entry)) count ⌝ }
 {
-    let below = field(rooms, m, 4 + s);
+    let below = field(nodes, m, 4 + s);
     if below == 0 {
         return 0;
     }
-    let far = field(rooms, m, 2 + s);
+    let far = field(nodes, m, 2 + s);
     if keep::passed(ask, x, far) {
         return 0;
     }
@@ -62,21 +62,21 @@ fn way_down(
 fn node(
     references: &[u32],
     coordinates: &[i32],
-    rooms: &[u64],
+    nodes: &[u64],
     probe: &[i32],
     ask: Asked,
     m: usize,
     room: &mut [u64],
     count: usize,
 ) -> usize
-    requires { ⌜ NodeAsk (now references) (now coordinates) (now rooms) (now probe) ask m (now room) count ⌝ }
-    ensures { λ r. ⌜ AskWalked ask (now (references .entry)) (distBy ask (now (coordinates .entry)) (now (probe .entry))) (Holds (now (rooms .entry)) (apartBy ask (now (coordinates .entry))) m) (now (room .entry)) count (now (room .exit)) r ⌝ }
+    requires { ⌜ NodeAsk (now references) (now coordinates) (now nodes) (now probe) ask m (now room) count ⌝ }
+    ensures { λ r. ⌜ AskWalked ask (now (references .entry)) (distBy ask (now (coordinates .entry)) (now (probe .entry))) (Holds (now (nodes .entry)) (apartBy ask (now (coordinates .entry))) m) (now (room .entry)) count (now (room .exit)) r ⌝ }
 {
     let order = ask.order;
-    let kl = field(rooms, m, 0) - 1;
+    let kl = field(nodes, m, 0) - 1;
     let xl = from_probe(ask.measure, ask.d, coordinates, probe, kl);
     let one = consider(references, ask, kl, xl, room, count);
-    let right = field(rooms, m, 1);
+    let right = field(nodes, m, 1);
     if right == 0 {
         return one;
     }
@@ -86,15 +86,15 @@ fn node(
     let rl = order.rank(xl);
     let rr = order.rank(xr);
     if rr < rl {
-        let way = way_down(rooms, ask, m, 1, rr, rl, room, two);
-        let three = side(references, coordinates, rooms, probe, ask, way, room, two);
-        let way = way_down(rooms, ask, m, 0, rl, rr, room, three);
-        return side(references, coordinates, rooms, probe, ask, way, room, three);
+        let way = way_down(nodes, ask, m, 1, rr, rl, room, two);
+        let three = side(references, coordinates, nodes, probe, ask, way, room, two);
+        let way = way_down(nodes, ask, m, 0, rl, rr, room, three);
+        return side(references, coordinates, nodes, probe, ask, way, room, three);
     }
-    let way = way_down(rooms, ask, m, 0, rl, rr, room, two);
-    let three = side(references, coordinates, rooms, probe, ask, way, room, two);
-    let way = way_down(rooms, ask, m, 1, rr, rl, room, three);
-    side(references, coordinates, rooms, probe, ask, way, room, three)
+    let way = way_down(nodes, ask, m, 0, rl, rr, room, two);
+    let three = side(references, coordinates, nodes, probe, ask, way, room, two);
+    let way = way_down(nodes, ask, m, 1, rr, rl, room, three);
+    side(references, coordinates, nodes, probe, ask, way, room, three)
 }
 
 // [4.10] The claims below a side, where `way` is the room below it plus one, or 0 where none of them can change the answer. The tests
@@ -102,38 +102,38 @@ fn node(
 fn side(
     references: &[u32],
     coordinates: &[i32],
-    rooms: &[u64],
+    nodes: &[u64],
     probe: &[i32],
     ask: Asked,
     way: u64,
     room: &mut [u64],
     count: usize,
 ) -> usize
-    requires { ⌜ SideAsk (now references) (now coordinates) (now rooms) (now probe) ask way (now room) count ⌝ }
-    ensures { λ r. ⌜ AskWalked ask (now (references .entry)) (distBy ask (now (coordinates .entry)) (now (probe .entry))) (Reached (now (rooms .entry)) (apartBy ask (now (coordinates .entry))) way) (now (room .entry)) count (now (room .exit)) r ⌝ }
+    requires { ⌜ SideAsk (now references) (now coordinates) (now nodes) (now probe) ask way (now room) count ⌝ }
+    ensures { λ r. ⌜ AskWalked ask (now (references .entry)) (distBy ask (now (coordinates .entry)) (now (probe .entry))) (Reached (now (nodes .entry)) (apartBy ask (now (coordinates .entry))) way) (now (room .entry)) count (now (room .exit)) r ⌝ }
 {
     if way == 0 {
         return count;
     }
     let m = (way - 1) as usize;
-    node(references, coordinates, rooms, probe, ask, m, room, count)
+    node(references, coordinates, nodes, probe, ask, m, room, count)
 }
 
 // [4.6] [4.8] Puts the first `size` admitted claims, in order, at the front of the room, three numbers each, and gives how many they are.
 pub fn page(
     references: &[u32],
     coordinates: &[i32],
-    rooms: &[u64],
+    nodes: &[u64],
     probe: &[i32],
     ask: Asked,
     room: &mut [u64],
 ) -> usize
-    requires { ⌜ PageAsk (now references) (now coordinates) (now rooms) (now probe) ask (now room) ⌝ }
+    requires { ⌜ PageAsk (now references) (now coordinates) (now nodes) (now probe) ask (now room) ⌝ }
     ensures { λ r. ⌜ AskFilled ask (now (references .entry)) (distBy ask (now (coordinates .entry)) (now (probe .entry))) (now (room .entry)) (now (room .exit)) r ⌝ }
 {
     let used = ask.used;
     if used == 0 {
         return 0;
     }
-    node(references, coordinates, rooms, probe, ask, 0, room, 0)
+    node(references, coordinates, nodes, probe, ask, 0, room, 0)
 }

@@ -11,7 +11,7 @@ refused-requires c κs = search needs
 returns : tie.Need-returns
 returns c =
     let a = c .before .before .before .before .before .before .before .args in
-    let s = store (a .t) (a .references .now) (a .coordinates .now) (a .rooms .now) in
+    let s = store (a .t) (a .references .now) (a .coordinates .now) (a .nodes .now) in
     all-12 s (a .asks .now) (a .outcomes .now) (a .out .now) _ (c .before .if1 .taken) (c .refused .ensures)
 
 table-refusal-requires : tie.Need-table-refusal-requires
@@ -23,7 +23,7 @@ refused-requires-2 c κs = search needs
 returns-2 : tie.Need-returns-2
 returns-2 c =
     let a = c .before .before .before .before .before .before .before .before .before .args in
-    let s = store (a .t) (a .references .now) (a .coordinates .now) (a .rooms .now) in
+    let s = store (a .t) (a .references .now) (a .coordinates .now) (a .nodes .now) in
     all-refused s (a .asks .now) (a .outcomes .now) (a .out .now) _ (c .before .before .before .if1 .left) _ (c .before .before .table-refusal .ensures) (c .before .if2 .taken) (c .refused2 .ensures)
 
 answer-lines-requires : tie.Need-answer-lines-requires
@@ -38,7 +38,7 @@ same-length-2 c = search needs
 returns-3 : tie.Need-returns-3
 returns-3 c =
     let a = c .before .before .before .before .before .before .before .before .before .before .before .before .before .before .before .args in
-    let s = store (a .t) (a .references .now) (a .coordinates .now) (a .rooms .now) in
+    let s = store (a .t) (a .references .now) (a .coordinates .now) (a .nodes .now) in
     all-answered s (a .asks .now) (a .outcomes .now) (a .out .now) _ (c .before .before .before .before .before .before .before .before .before .if1 .left) _ (c .before .before .before .before .before .before .before .before .table-refusal .ensures) (c .before .before .before .before .before .before .before .if2 .left) _ _ (c .before .before .before .before .answer-lines .ensures)
 
 pub answer-all-spec : {M : Type 1} → statement M

@@ -5,10 +5,10 @@ use Rattle.scan_beside.proofs.questions.Statement.{statement}
 use Rattle.scan_beside.proofs.questions.Tie as tie
 
 abbrev Inv-loop : tie.InvT-loop
-Inv-loop t references coordinates rooms points spread seed codes₀ probe₀ sum₀ x₀ i₀ codes probe sum x i = i ≤ 150
+Inv-loop t references coordinates nodes points spread seed codes₀ probe₀ sum₀ x₀ i₀ codes probe sum x i = i ≤ 150
 
 abbrev μ-loop : tie.MeasureT-loop
-μ-loop t references coordinates rooms points spread seed codes₀ probe₀ sum₀ x₀ i₀ codes probe sum x i = 150 - i
+μ-loop t references coordinates nodes points spread seed codes₀ probe₀ sum₀ x₀ i₀ codes probe sum x i = 150 - i
 
 loop-holds : tie.Need-loop-holds Inv-loop μ-loop
 loop-holds c = search needs

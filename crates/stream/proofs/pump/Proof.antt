@@ -9,10 +9,10 @@ use Rattle.stream.proofs.pump.Statement.{statement}
 use Rattle.stream.proofs.pump.Tie as tie
 
 abbrev Inv-loop : tie.InvT-loop
-Inv-loop references₀ coordinates₀ rooms₀ line₀ chunk out₀ n₀ references coordinates rooms line out n = Pumping chunk references₀ coordinates₀ rooms₀ line₀ out₀ n₀ references coordinates rooms line out n
+Inv-loop references₀ coordinates₀ nodes₀ line₀ chunk out₀ n₀ references coordinates nodes line out n = Pumping chunk references₀ coordinates₀ nodes₀ line₀ out₀ n₀ references coordinates nodes line out n
 
 abbrev μ-loop : tie.MeasureT-loop
-μ-loop references₀ coordinates₀ rooms₀ line₀ chunk out₀ n₀ references coordinates rooms line out n = length chunk - n .at
+μ-loop references₀ coordinates₀ nodes₀ line₀ chunk out₀ n₀ references coordinates nodes line out n = length chunk - n .at
 
 anew-requires : tie.Need-anew-requires Inv-loop μ-loop
 anew-requires c κs = tt
@@ -62,7 +62,7 @@ same-length-2 : tie.Need-same-length-2 Inv-loop μ-loop
 same-length-2 c = c .before .before .loop .inv .coordinates
 
 same-length-3 : tie.Need-same-length-3 Inv-loop μ-loop
-same-length-3 c = c .before .before .loop .inv .rooms
+same-length-3 c = c .before .before .loop .inv .nodes
 
 same-length-4 : tie.Need-same-length-4 Inv-loop μ-loop
 same-length-4 c = c .before .before .loop .inv .line
@@ -77,7 +77,7 @@ returns c =
       v .ready,
       λ o st.
           reading-done o _ _ _ _
-          (v .reading o (stands-anew (a .references .now) (a .coordinates .now) (a .rooms .now) (a .line .now) (a .d) _ o (c .before .before .before .anew .ensures) st))
+          (v .reading o (stands-anew (a .references .now) (a .coordinates .now) (a .nodes .now) (a .line .now) (a .d) _ o (c .before .before .before .anew .ensures) st))
           (c .before .unread .ensures .1 (c .if1 .left)),
     )
 

@@ -9,10 +9,10 @@ use Rattle.stream.proofs.run.Tie as tie
 use Rattle.paper.specs.Limits.{longestAnswer}
 
 abbrev Inv-loop : tie.InvT-loop
-Inv-loop references₀ coordinates₀ rooms₀ line₀ chunk₀ out₀ d₀ open₀ turns₀ references coordinates rooms line chunk out d «open» turns = Running references₀ coordinates₀ rooms₀ line₀ out₀ references coordinates rooms line out d × (length chunk ≡ length chunk₀)
+Inv-loop references₀ coordinates₀ nodes₀ line₀ chunk₀ out₀ d₀ open₀ turns₀ references coordinates nodes line chunk out d «open» turns = Running references₀ coordinates₀ nodes₀ line₀ out₀ references coordinates nodes line out d × (length chunk ≡ length chunk₀)
 
 abbrev μ-loop : tie.MeasureT-loop
-μ-loop references₀ coordinates₀ rooms₀ line₀ chunk₀ out₀ d₀ open₀ turns₀ references coordinates rooms line chunk out d «open» turns = turns
+μ-loop references₀ coordinates₀ nodes₀ line₀ chunk₀ out₀ d₀ open₀ turns₀ references coordinates nodes line chunk out d «open» turns = turns
 
 open-sitting-requires : tie.Need-open-sitting-requires Inv-loop μ-loop
 open-sitting-requires c κs = tt
@@ -41,7 +41,7 @@ loop-again c =
         reached = reached-more _ _ _ _ _ _ _ (v .reached) (o .ensures .1);
         references = o .kept .1 .0 ∙ v .references;
         coordinates = o .kept .1 .1 .0 ∙ v .coordinates;
-        rooms = o .kept .1 .1 .1 .0 ∙ v .rooms;
+        nodes = o .kept .1 .1 .1 .0 ∙ v .nodes;
         line = o .kept .1 .1 .1 .1 .0 ∙ v .line;
         out = o .kept .1 .1 .1 .1 .1 .1 .0 ∙ v .out;
       },
@@ -76,7 +76,7 @@ same-length-2 : tie.Need-same-length-2 Inv-loop μ-loop
 same-length-2 c = c .before .before .before .before .before .before .before .before .before .before .finish .kept .1 .1 .0 ∙ c .before .before .before .before .before .before .before .before .before .before .before .before .before .before .before .before .before .before .before .loop .inv .0 .coordinates
 
 same-length-3 : tie.Need-same-length-3 Inv-loop μ-loop
-same-length-3 c = c .before .before .before .before .before .before .before .before .before .before .finish .kept .1 .1 .1 .0 ∙ c .before .before .before .before .before .before .before .before .before .before .before .before .before .before .before .before .before .before .before .loop .inv .0 .rooms
+same-length-3 c = c .before .before .before .before .before .before .before .before .before .before .finish .kept .1 .1 .1 .0 ∙ c .before .before .before .before .before .before .before .before .before .before .before .before .before .before .before .before .before .before .before .loop .inv .0 .nodes
 
 same-length-4 : tie.Need-same-length-4 Inv-loop μ-loop
 same-length-4 c = c .before .before .before .before .before .before .before .before .before .before .before .before .before .before .before .before .before .before .before .loop .inv .0 .line

@@ -11,12 +11,12 @@ place-refusal-requires c κs = search needs
 returns : tie.Need-returns
 returns c =
     let a = c .before .before .before .before .before .args in
-    page-refuses (a .order) (store (a .t) (a .references .now) (a .coordinates .now) (a .rooms .now)) (a .probe .now) (a .reach) (a .place) (a .size) (a .room .now) (c .before .before .before .before .before .pre) _ (c .before .place-refusal .ensures) (c .if1 .taken)
+    page-refuses (a .order) (store (a .t) (a .references .now) (a .coordinates .now) (a .nodes .now)) (a .probe .now) (a .reach) (a .place) (a .size) (a .room .now) (c .before .before .before .before .before .pre) _ (c .before .place-refusal .ensures) (c .if1 .taken)
 
 page-of-requires : tie.Need-page-of-requires
 page-of-requires c κs =
     let a = c .before .before .before .before .before .before .args in
-    let s = store (a .t) (a .references .now) (a .coordinates .now) (a .rooms .now) in
+    let s = store (a .t) (a .references .now) (a .coordinates .now) (a .nodes .now) in
     (page-answerable (a .order) s (a .probe .now) (a .reach) (a .place) (a .size) (a .room .now) (c .before .before .before .before .before .before .pre) _ (c .before .before .place-refusal .ensures) (c .before .if1 .left), page-pageable (a .order) s (a .probe .now) (a .reach) (a .place) (a .size) (a .room .now) (c .before .before .before .before .before .before .pre) _ (c .before .before .place-refusal .ensures) (c .before .if1 .left))
 
 same-length : tie.Need-same-length
@@ -25,7 +25,7 @@ same-length c = search needs
 returns-2 : tie.Need-returns-2
 returns-2 c =
     let a = c .before .before .before .before .before .before .before .before .before .args in
-    page-filled (a .order) (store (a .t) (a .references .now) (a .coordinates .now) (a .rooms .now)) (a .probe .now) (a .reach) (a .place) (a .size) (a .room .now) (c .before .before .before .before .before .before .before .before .before .pre) _ (c .before .before .before .before .before .place-refusal .ensures) (c .before .before .before .before .if1 .left) _ _ (c .before .before .page-of .ensures)
+    page-filled (a .order) (store (a .t) (a .references .now) (a .coordinates .now) (a .nodes .now)) (a .probe .now) (a .reach) (a .place) (a .size) (a .room .now) (c .before .before .before .before .before .before .before .before .before .pre) _ (c .before .before .before .before .before .place-refusal .ensures) (c .before .before .before .before .if1 .left) _ _ (c .before .before .page-of .ensures)
 
 pub page-here-spec : {M : Type 1} → statement M
 page-here-spec =

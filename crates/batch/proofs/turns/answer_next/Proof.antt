@@ -12,7 +12,7 @@ use Rattle.batch.proofs.turns.answer_next.Tie as tie
 line-end-requires : tie.Need-line-end-requires
 line-end-requires c κs =
     let a = c .before .before .before .before .before .args in
-    let s = store (a .t) (a .references .now) (a .coordinates .now) (a .rooms .now) in
+    let s = store (a .t) (a .references .now) (a .coordinates .now) (a .nodes .now) in
     has s (a .asks .now) (a .d) (a .outcomes .now) (a .out .now) (c .before .before .before .before .before .pre) .unread
 
 sub-answer-line : tie.Need-sub-answer-line
@@ -24,20 +24,20 @@ part-answer-line-start c = search needs
 part-answer-line-end : tie.Need-part-answer-line-end
 part-answer-line-end c =
     let a = c .before .before .before .before .before .before .args in
-    let s = store (a .t) (a .references .now) (a .coordinates .now) (a .rooms .now) in
+    let s = store (a .t) (a .references .now) (a .coordinates .now) (a .nodes .now) in
     end-inside s (a .asks .now) (a .d) (a .outcomes .now) (a .out .now) (c .before .before .before .before .before .before .pre) _ (c .line-end .ensures)
 
 sub-answer-line-2 : tie.Need-sub-answer-line-2
 sub-answer-line-2 c =
     let a = c .before .before .before .before .before .before .before .args in
-    let s = store (a .t) (a .references .now) (a .coordinates .now) (a .rooms .now) in
+    let s = store (a .t) (a .references .now) (a .coordinates .now) (a .nodes .now) in
     let h = has s (a .asks .now) (a .d) (a .outcomes .now) (a .out .now) (c .before .before .before .before .before .before .before .pre) .room in
     omega arith
 
 part-answer-line-start-2 : tie.Need-part-answer-line-start-2
 part-answer-line-start-2 c =
     let a = c .before .before .before .before .before .before .before .args in
-    let s = store (a .t) (a .references .now) (a .coordinates .now) (a .rooms .now) in
+    let s = store (a .t) (a .references .now) (a .coordinates .now) (a .nodes .now) in
     let h = has s (a .asks .now) (a .d) (a .outcomes .now) (a .out .now) (c .before .before .before .before .before .before .before .pre) .room in
     omega arith
 
@@ -47,7 +47,7 @@ part-answer-line-end-2 c = search needs
 answer-line-requires : tie.Need-answer-line-requires
 answer-line-requires c κs =
     let a = c .before .before .before .before .before .before .before .before .args in
-    let s = store (a .t) (a .references .now) (a .coordinates .now) (a .rooms .now) in
+    let s = store (a .t) (a .references .now) (a .coordinates .now) (a .nodes .now) in
     line-open s (a .asks .now) (a .d) (a .outcomes .now) (a .out .now) (c .before .before .before .before .before .before .before .before .pre) _ (c .before .before .line-end .ensures) _ refl
 
 said-of-requires : tie.Need-said-of-requires
@@ -56,13 +56,13 @@ said-of-requires c κs = search needs
 put-row-requires : tie.Need-put-row-requires
 put-row-requires c κs =
     let a = c .before .before .before .before .before .before .before .before .before .before .before .before .before .args in
-    let s = store (a .t) (a .references .now) (a .coordinates .now) (a .rooms .now) in
+    let s = store (a .t) (a .references .now) (a .coordinates .now) (a .nodes .now) in
     has s (a .asks .now) (a .d) (a .outcomes .now) (a .out .now) (c .before .before .before .before .before .before .before .before .before .before .before .before .before .pre) .row
 
 add-t16 : tie.Need-add-t16
 add-t16 c =
     let a = c .before .before .before .before .before .before .before .before .before .before .before .before .before .before .before .before .args in
-    let s = store (a .t) (a .references .now) (a .coordinates .now) (a .rooms .now) in
+    let s = store (a .t) (a .references .now) (a .coordinates .now) (a .nodes .now) in
     let g = c .before .before .before .before .before .before .before .before .before .before .before .before .before .before .before .before .good .1 .1 .1 .1 .1 .1 .0 in
     let h : 2 * a .d .lines + 2 ≤ length (a .outcomes .now) = has s (a .asks .now) (a .d) (a .outcomes .now) (a .out .now) (c .before .before .before .before .before .before .before .before .before .before .before .before .before .before .before .before .pre) .row in
     omega arith
@@ -70,7 +70,7 @@ add-t16 c =
 add-t20 : tie.Need-add-t20
 add-t20 c =
     let a = c .before .before .before .before .before .before .before .before .before .before .before .before .before .before .before .before .before .args in
-    let s = store (a .t) (a .references .now) (a .coordinates .now) (a .rooms .now) in
+    let s = store (a .t) (a .references .now) (a .coordinates .now) (a .nodes .now) in
     let g = c .before .before .before .before .before .before .before .before .before .before .before .before .before .before .before .before .before .good .1 .1 .1 .1 .1 .1 .1 .0 in
     let h = said-inside s (a .asks .now) (a .d) (a .outcomes .now) (a .out .now) (c .before .before .before .before .before .before .before .before .before .before .before .before .before .before .before .before .before .pre) _ (c .before .before .before .before .before .before .before .before .before .before .before .line-end .ensures) _ refl _ _ (c .before .before .before .before .before .before .before .before .answer-line .ensures) _ (c .before .before .before .before .before .said-of .ensures) (c .before .before .before .before .before .before .before .before .answer-line .kept .1 .1 .1 .1 .1 .0) in
     omega arith
@@ -84,7 +84,7 @@ same-length-2 c = search needs
 returns : tie.Need-returns
 returns c =
     let a = c .before .before .before .before .before .before .before .before .before .before .before .before .before .before .before .before .before .args in
-    let s = store (a .t) (a .references .now) (a .coordinates .now) (a .rooms .now) in
+    let s = store (a .t) (a .references .now) (a .coordinates .now) (a .nodes .now) in
     next-stands s (a .asks .now) (a .d) (a .outcomes .now) (a .out .now) (c .before .before .before .before .before .before .before .before .before .before .before .before .before .before .before .before .before .pre) _ (c .before .before .before .before .before .before .before .before .before .before .before .line-end .ensures) _ refl _ _ (c .before .before .before .before .before .before .before .before .answer-line .ensures) _ (c .before .before .before .before .before .said-of .ensures) _ (c .before .before .before .put-row .ensures)
 
 pub answer-next-spec : {M : Type 1} → statement M

@@ -11,12 +11,12 @@ is-ours-requires c κs = search needs
 returns : tie.Need-returns
 returns c =
     let a = c .before .before .before .before .before .before .args in
-    ask-11 (store (a .t) (a .references .now) (a .coordinates .now) (a .rooms .now)) (a .ask) _ (c .before .is-ours .ensures) _ (c .if1 .taken)
+    ask-11 (store (a .t) (a .references .now) (a .coordinates .now) (a .nodes .now)) (a .ask) _ (c .before .is-ours .ensures) _ (c .if1 .taken)
 
 answer-here-requires : tie.Need-answer-here-requires
 answer-here-requires c κs =
     let a = c .before .before .before .before .before .before .before .before .args in
-    ask-ready (store (a .t) (a .references .now) (a .coordinates .now) (a .rooms .now)) (a .ask) _ (c .before .before .before .is-ours .ensures) (c .before .before .if1 .left) _ (c .before .before .before .before .before .before .before .before .pre)
+    ask-ready (store (a .t) (a .references .now) (a .coordinates .now) (a .nodes .now)) (a .ask) _ (c .before .before .before .is-ours .ensures) (c .before .before .if1 .left) _ (c .before .before .before .before .before .before .before .before .pre)
 
 same-length : tie.Need-same-length
 same-length c = search needs
@@ -24,7 +24,7 @@ same-length c = search needs
 returns-2 : tie.Need-returns-2
 returns-2 c =
     let a = c .before .before .before .before .before .before .before .before .before .before .before .args in
-    ask-here (store (a .t) (a .references .now) (a .coordinates .now) (a .rooms .now)) (a .ask) _ (c .before .before .before .before .before .before .is-ours .ensures) (c .before .before .before .before .before .if1 .left) _ _ _ (c .before .before .answer-here .ensures)
+    ask-here (store (a .t) (a .references .now) (a .coordinates .now) (a .nodes .now)) (a .ask) _ (c .before .before .before .before .before .before .is-ours .ensures) (c .before .before .before .before .before .if1 .left) _ _ _ (c .before .before .answer-here .ensures)
 
 pub answer-ask-spec : {M : Type 1} → statement M
 answer-ask-spec =

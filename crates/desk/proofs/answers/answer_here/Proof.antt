@@ -21,7 +21,7 @@ returns : tie.Need-returns
 returns c =
     let a = c .before .before .before .before .before .before .args in
     let holds = stored-at (a .p) (a .t .count) _ _ (c .before .before .place-of .ensures) (c .before .snapshot-holds .ensures) in
-    here-7 (store (a .t) (a .references .now) (a .coordinates .now) (a .rooms .now)) (a .q) (a .p) (a .size) _ holds _ (c .if1 .taken)
+    here-7 (store (a .t) (a .references .now) (a .coordinates .now) (a .nodes .now)) (a .q) (a .p) (a .size) _ holds _ (c .if1 .taken)
 
 array-share-prefix-probe : tie.Need-array-share-prefix-probe
 array-share-prefix-probe c =
@@ -36,7 +36,7 @@ slice-aggregate-mark-holds c =
 mark-holds-requires : tie.Need-mark-holds-requires
 mark-holds-requires c κs =
     let a = c .before .before .before .before .before .before .before .before .args in
-    let s = store (a .t) (a .references .now) (a .coordinates .now) (a .rooms .now) in
+    let s = store (a .t) (a .references .now) (a .coordinates .now) (a .nodes .now) in
     let long : 7 < length (a .q .probe) = search (needs, c .before .before .before .before .before .before .before .before .good .1 .1 .1 .1 .0) in
     let holds = stored-at (a .p) (a .t .count) _ _ (c .before .before .before .before .place-of .ensures) (c .before .before .before .snapshot-holds .ensures) in
     markable s (a .q) (a .p) (a .size) _ (c .before .before .before .before .before .before .before .before .pre) long _ (c .before .before .before .before .place-of .ensures)
@@ -46,14 +46,14 @@ returns-2 : tie.Need-returns-2
 returns-2 c =
     let a = c .before .before .before .before .before .before .before .before .before .before .args in
     let holds = stored-at (a .p) (a .t .count) _ _ (c .before .before .before .before .before .before .place-of .ensures) (c .before .before .before .before .before .snapshot-holds .ensures) in
-    here-8 (store (a .t) (a .references .now) (a .coordinates .now) (a .rooms .now)) (a .q) (a .p) (a .size) _ holds
+    here-8 (store (a .t) (a .references .now) (a .coordinates .now) (a .nodes .now)) (a .q) (a .p) (a .size) _ holds
     _ (c .before .before .before .before .before .before .before .before .before .before .pre) _ _ (c .before .before .before .before .before .before .place-of .ensures)
     (c .before .mark-holds .ensures (a .q .order) (a .references .now)) (c .before .before .before .before .if1 .left) _ (c .if2 .taken)
 
 tell-page-requires : tie.Need-tell-page-requires
 tell-page-requires c κs =
     let a = c .before .before .before .before .before .before .before .before .before .before .before .args in
-    let s = store (a .t) (a .references .now) (a .coordinates .now) (a .rooms .now) in
+    let s = store (a .t) (a .references .now) (a .coordinates .now) (a .nodes .now) in
     let holds = stored-at (a .p) (a .t .count) _ _ (c .before .before .before .before .before .before .before .place-of .ensures) (c .before .before .before .before .before .before .snapshot-holds .ensures) in
     record { asking = c .before .before .before .before .before .before .before .before .before .before .before .pre; stored = here-stored s (a .q) (a .p) (a .size) _ holds (c .before .before .before .before .before .if1 .left) }
 
@@ -64,7 +64,7 @@ returns-3 : tie.Need-returns-3
 returns-3 c =
     let a = c .before .before .before .before .before .before .before .before .before .before .before .before .before .before .args in
     let holds = stored-at (a .p) (a .t .count) _ _ (c .before .before .before .before .before .before .before .before .before .before .place-of .ensures) (c .before .before .before .before .before .before .before .before .before .snapshot-holds .ensures) in
-    here-page (store (a .t) (a .references .now) (a .coordinates .now) (a .rooms .now)) (a .q) (a .p) (a .size) _ holds
+    here-page (store (a .t) (a .references .now) (a .coordinates .now) (a .nodes .now)) (a .q) (a .p) (a .size) _ holds
     _ (c .before .before .before .before .before .before .before .before .before .before .before .before .before .before .pre) _ _ (c .before .before .before .before .before .before .before .before .before .before .place-of .ensures)
     (c .before .before .before .before .before .mark-holds .ensures (a .q .order) (a .references .now)) (c .before .before .before .before .before .before .before .before .if1 .left) _ _ _ (c .before .before .before .before .if2 .left) (c .before .before .tell-page .ensures)
 

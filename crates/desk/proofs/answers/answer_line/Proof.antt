@@ -12,7 +12,7 @@ returns : tie.Need-returns
 returns c =
     let a = c .before .before .before .before .before .before .before .args in
     let is = read-is (a .line .now) _ (c .before .before .read-ask .ensures) in
-    line-refused (store (a .t) (a .references .now) (a .coordinates .now) (a .rooms .now)) (a .line .now) _ is _ (c .if1 .taken)
+    line-refused (store (a .t) (a .references .now) (a .coordinates .now) (a .nodes .now)) (a .line .now) _ is _ (c .if1 .taken)
 
 answer-ask-requires : tie.Need-answer-ask-requires
 answer-ask-requires c κs =
@@ -26,7 +26,7 @@ returns-2 : tie.Need-returns-2
 returns-2 c =
     let a = c .before .before .before .before .before .before .before .before .before .before .before .before .args in
     let is = read-is (a .line .now) _ (c .before .before .before .before .before .before .before .read-ask .ensures) in
-    line-answered (store (a .t) (a .references .now) (a .coordinates .now) (a .rooms .now)) (a .line .now) _ is _ _ _ (c .before .before .before .before .before .if1 .left) (c .before .before .answer-ask .ensures)
+    line-answered (store (a .t) (a .references .now) (a .coordinates .now) (a .nodes .now)) (a .line .now) _ is _ _ _ (c .before .before .before .before .before .if1 .left) (c .before .before .answer-ask .ensures)
 
 pub answer-line-spec : {M : Type 1} → statement M
 answer-line-spec =

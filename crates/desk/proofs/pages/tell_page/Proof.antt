@@ -31,7 +31,7 @@ slice-aggregate-page-of-2 c = search needs
 page-of-requires : tie.Need-page-of-requires
 page-of-requires c κs =
     let a = c .before .before .before .before .before .before .before .args in
-    let s = store (a .t) (a .references .now) (a .coordinates .now) (a .rooms .now) in
+    let s = store (a .t) (a .references .now) (a .coordinates .now) (a .nodes .now) in
     let long : 7 < length (a .q .probe) = search (needs, c .before .before .before .before .before .before .before .good .1 .1 .1 .1 .0) in (
       good-answerable s (c .before .before .before .before .before .before .before .pre .asking .isOpen .good) (take (a .q .d) (a .q .probe)) (aimed s (a .q) (a .p) (a .size) _ (c .before .before .before .before .before .before .before .pre .asking) long),
       pageable s (a .q) (a .p) (a .size) _ (c .before .before .before .before .before .before .before .pre) _ _ (c .before .before .place-of .ensures) (lit≤ tt),
@@ -46,7 +46,7 @@ answer-scope-requires c κs = scope-from (c .before .before .before .before .bef
 mul-n : tie.Need-mul-n
 mul-n c =
     let a = c .before .before .before .before .before .before .before .before .before .before .before .args in
-    let s = store (a .t) (a .references .now) (a .coordinates .now) (a .rooms .now) in
+    let s = store (a .t) (a .references .now) (a .coordinates .now) (a .nodes .now) in
     let f = told-few s (a .q) (a .p) (a .size) _ (c .before .before .before .before .before .before .before .before .before .before .before .pre) _ _ _ _ (c .before .before .before .before .before .before .place-of .ensures) (c .before .before .before .page-of .ensures) in
     omega arith
 
@@ -56,14 +56,14 @@ flag-requires c κs = search needs
 cast-write-answer : tie.Need-cast-write-answer
 cast-write-answer c =
     let a = c .before .before .before .before .before .before .before .before .before .before .before .before .args in
-    let s = store (a .t) (a .references .now) (a .coordinates .now) (a .rooms .now) in
+    let s = store (a .t) (a .references .now) (a .coordinates .now) (a .nodes .now) in
     let f = told-few s (a .q) (a .p) (a .size) _ (c .before .before .before .before .before .before .before .before .before .before .before .before .pre) _ _ _ _ (c .before .before .before .before .before .before .before .place-of .ensures) (c .before .before .before .before .page-of .ensures) in
     omega arith
 
 array-share-prefix-room : tie.Need-array-share-prefix-room
 array-share-prefix-room c =
     let a = c .before .before .before .before .before .before .before .before .before .before .before .before .args in
-    let s = store (a .t) (a .references .now) (a .coordinates .now) (a .rooms .now) in
+    let s = store (a .t) (a .references .now) (a .coordinates .now) (a .nodes .now) in
     let f = told-few s (a .q) (a .p) (a .size) _ (c .before .before .before .before .before .before .before .before .before .before .before .before .pre) _ _ _ _ (c .before .before .before .before .before .before .before .place-of .ensures) (c .before .before .before .before .page-of .ensures) in
     let k = c .before .before .before .before .page-of .kept .1 .1 .1 .1 .1 .1 .1 .1 .1 .0 in
     omega arith
@@ -71,7 +71,7 @@ array-share-prefix-room c =
 slice-aggregate-write-answer : tie.Need-slice-aggregate-write-answer
 slice-aggregate-write-answer c =
     let a = c .before .before .before .before .before .before .before .before .before .before .before .before .before .args in
-    let s = store (a .t) (a .references .now) (a .coordinates .now) (a .rooms .now) in
+    let s = store (a .t) (a .references .now) (a .coordinates .now) (a .nodes .now) in
     let f =
     told-few s (a .q) (a .p) (a .size) _ (c .before .before .before .before .before .before .before .before .before .before .before .before .before .pre)
     _ _ _ _ (c .before .before .before .before .before .before .before .before .place-of .ensures) (c .before .before .before .before .before .page-of .ensures) in
@@ -88,7 +88,7 @@ returns : tie.Need-returns
 returns c =
     let a = c .before .before .before .before .before .before .before .before .before .before .before .before .before .before .before .before .before .args in
     let long : 7 < length (a .q .probe) = search (needs, c .before .before .before .before .before .before .before .before .before .before .before .before .before .before .before .before .before .good .1 .1 .1 .1 .0) in
-    page-told (store (a .t) (a .references .now) (a .coordinates .now) (a .rooms .now)) (a .q) (a .p) (a .size) _ (c .before .before .before .before .before .before .before .before .before .before .before .before .before .before .before .before .before .pre)
+    page-told (store (a .t) (a .references .now) (a .coordinates .now) (a .nodes .now)) (a .q) (a .p) (a .size) _ (c .before .before .before .before .before .before .before .before .before .before .before .before .before .before .before .before .before .pre)
     _ _ _ _ (c .before .before .before .before .before .before .before .before .before .before .before .before .place-of .ensures) (c .before .before .before .before .before .before .before .before .before .page-of .ensures)
     _ (c .before .before .before .before .before .before .answer-scope .ensures) _ (c .before .before .before .before .before .flag .ensures)
     _ refl (λ i. c .before .before .before .before .before .before .before .before .before .before .before .before .before .before .before .before .shared-slice-known .given i .fits) long

@@ -29,7 +29,7 @@ part-farthest-end : tie.Need-part-farthest-end
 part-farthest-end c = search needs
 
 farthest-requires : tie.Need-farthest-requires
-farthest-requires c κs = row-answerable (store (c .before .before .before .before .args .t) (c .before .before .before .before .args .references .now) (c .before .before .before .before .args .coordinates .now) (c .before .before .before .before .args .rooms .now)) _ _ _ _ (c .before .before .before .before .pre)
+farthest-requires c κs = row-answerable (store (c .before .before .before .before .args .t) (c .before .before .before .before .args .references .now) (c .before .before .before .before .args .coordinates .now) (c .before .before .before .before .args .nodes .now)) _ _ _ _ (c .before .before .before .before .pre)
 
 put-found-requires : tie.Need-put-found-requires
 put-found-requires c κs = search needs
@@ -41,7 +41,7 @@ returns : tie.Need-returns
 unfolding farthestOf
 returns c =
     let a = c .before .before .before .before .before .before .before .before .before .args in
-    let s = store (a .t) (a .references .now) (a .coordinates .now) (a .rooms .now) in
+    let s = store (a .t) (a .references .now) (a .coordinates .now) (a .nodes .now) in
     row-found (λ (p : List ℤ). farthestOf (tableQuery (s .table) Near p 0) (claimsIn s)) _ _ _ _ _ _ (c .before .before .before .before .farthest .ensures) (c .before .before .put-found .ensures)
 
 pub farthest-row-spec : {M : Type 1} → statement M

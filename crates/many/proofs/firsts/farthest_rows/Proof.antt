@@ -9,11 +9,11 @@ use Rattle.many.proofs.firsts.farthest_rows.Statement.{statement}
 use Rattle.many.proofs.firsts.farthest_rows.Tie as tie
 
 abbrev Inv-loop : tie.InvT-loop
-Inv-loop t references coordinates rooms probes n out₀ i₀ out i =
-    Going (putFound (farthestAt (store t references coordinates rooms) probes)) (n) i out₀ out
+Inv-loop t references coordinates nodes probes n out₀ i₀ out i =
+    Going (putFound (farthestAt (store t references coordinates nodes) probes)) (n) i out₀ out
 
 abbrev μ-loop : tie.MeasureT-loop
-μ-loop t references coordinates rooms probes n out₀ i₀ out i = n - i
+μ-loop t references coordinates nodes probes n out₀ i₀ out i = n - i
 
 loop-holds : tie.Need-loop-holds Inv-loop μ-loop
 loop-holds c = going-start _ _ _

@@ -13,7 +13,7 @@ many-refusal-requires c κs = search needs
 returns : tie.Need-returns
 returns c =
     let a = c .before .before .before .before .before .before .args in
-    let s = store (a .t) (a .references .now) (a .coordinates .now) (a .rooms .now) in
+    let s = store (a .t) (a .references .now) (a .coordinates .now) (a .nodes .now) in
     firsts-refused s _ (length (a .reaches .now)) _ (c .before .many-refusal .ensures) (nearestAt s (a .probes .now) (a .reaches .now)) (a .out .now) (c .if1 .taken)
 
 has-rows-requires : tie.Need-has-rows-requires
@@ -22,13 +22,13 @@ has-rows-requires c κs = search needs
 returns-2 : tie.Need-returns-2
 returns-2 c =
     let a = c .before .before .before .before .before .before .before .before .args in
-    let s = store (a .t) (a .references .now) (a .coordinates .now) (a .rooms .now) in
+    let s = store (a .t) (a .references .now) (a .coordinates .now) (a .nodes .now) in
     firsts-12 s _ (length (a .reaches .now)) _ (c .before .before .before .many-refusal .ensures) (nearestAt s (a .probes .now) (a .reaches .now)) (a .out .now) (c .before .before .if1 .left) _ (c .before .has-rows .ensures) (c .if2 .taken)
 
 nearest-rows-requires : tie.Need-nearest-rows-requires
 nearest-rows-requires c κs =
     let a = c .before .before .before .before .before .before .before .before .before .args in
-    let s = store (a .t) (a .references .now) (a .coordinates .now) (a .rooms .now) in
+    let s = store (a .t) (a .references .now) (a .coordinates .now) (a .nodes .now) in
     firsts-many s _ (length (a .reaches .now)) _ (c .before .before .before .before .many-refusal .ensures) (nearestAt s (a .probes .now) (a .reaches .now)) (a .out .now) (c .before .before .before .if1 .left) _ (c .before .before .has-rows .ensures) (c .before .if2 .left)
 
 same-length : tie.Need-same-length
@@ -37,7 +37,7 @@ same-length c = search needs
 returns-3 : tie.Need-returns-3
 returns-3 c =
     let a = c .before .before .before .before .before .before .before .before .before .before .before .before .args in
-    let s = store (a .t) (a .references .now) (a .coordinates .now) (a .rooms .now) in
+    let s = store (a .t) (a .references .now) (a .coordinates .now) (a .nodes .now) in
     firsts-answered s _ (length (a .reaches .now)) _ (c .before .before .before .before .before .before .before .many-refusal .ensures) (nearestAt s (a .probes .now) (a .reaches .now)) (a .out .now) (c .before .before .before .before .before .before .if1 .left) _ (c .before .before .before .before .before .has-rows .ensures) (c .before .before .before .before .if2 .left) _ (c .before .before .nearest-rows .ensures)
 
 pub nearest-each-spec : {M : Type 1} → statement M

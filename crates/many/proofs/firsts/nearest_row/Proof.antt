@@ -29,7 +29,7 @@ part-nearest-end : tie.Need-part-nearest-end
 part-nearest-end c = search needs
 
 nearest-requires : tie.Need-nearest-requires
-nearest-requires c κs = row-answerable (store (c .before .before .before .before .args .t) (c .before .before .before .before .args .references .now) (c .before .before .before .before .args .coordinates .now) (c .before .before .before .before .args .rooms .now)) _ _ _ _ (c .before .before .before .before .pre)
+nearest-requires c κs = row-answerable (store (c .before .before .before .before .args .t) (c .before .before .before .before .args .references .now) (c .before .before .before .before .args .coordinates .now) (c .before .before .before .before .args .nodes .now)) _ _ _ _ (c .before .before .before .before .pre)
 
 put-found-requires : tie.Need-put-found-requires
 put-found-requires c κs = search needs
@@ -40,7 +40,7 @@ same-length c = search needs
 returns : tie.Need-returns
 returns c =
     let a = c .before .before .before .before .before .before .before .before .before .args in
-    let s = store (a .t) (a .references .now) (a .coordinates .now) (a .rooms .now) in
+    let s = store (a .t) (a .references .now) (a .coordinates .now) (a .nodes .now) in
     row-found (λ (p : List ℤ). nearestOf (tableQuery (s .table) Near p (a .reach)) (claimsIn s)) _ _ _ _ _ _ (c .before .before .before .before .nearest .ensures) (c .before .before .put-found .ensures)
 
 pub nearest-row-spec : {M : Type 1} → statement M

@@ -10,11 +10,11 @@ use Rattle.many.proofs.firsts.nearest_rows.Statement.{statement}
 use Rattle.many.proofs.firsts.nearest_rows.Tie as tie
 
 abbrev Inv-loop : tie.InvT-loop
-Inv-loop t references coordinates rooms probes reaches out₀ i₀ out i =
-    Going (putFound (nearestAt (store t references coordinates rooms) probes reaches)) (length reaches) i out₀ out
+Inv-loop t references coordinates nodes probes reaches out₀ i₀ out i =
+    Going (putFound (nearestAt (store t references coordinates nodes) probes reaches)) (length reaches) i out₀ out
 
 abbrev μ-loop : tie.MeasureT-loop
-μ-loop t references coordinates rooms probes reaches out₀ i₀ out i = length reaches - i
+μ-loop t references coordinates nodes probes reaches out₀ i₀ out i = length reaches - i
 
 loop-holds : tie.Need-loop-holds Inv-loop μ-loop
 loop-holds c = going-start _ _ _

@@ -56,7 +56,7 @@ part-page-here-end-2 c = search needs
 page-here-requires : tie.Need-page-here-requires
 page-here-requires c κs =
     let a = c .before .before .before .before .before .before .before .before .args in
-    row-askable (store (a .t) (a .references .now) (a .coordinates .now) (a .rooms .now)) (a .probes .now) (a .i) (a .size) _ _ _ (c .before .before .before .before .before .before .before .before .pre)
+    row-askable (store (a .t) (a .references .now) (a .coordinates .now) (a .nodes .now)) (a .probes .now) (a .i) (a .size) _ _ _ (c .before .before .before .before .before .before .before .before .pre)
 
 put-page-requires : tie.Need-put-page-requires
 put-page-requires c κs = search needs
@@ -70,7 +70,7 @@ same-length-2 c = search needs
 returns : tie.Need-returns
 returns c =
     let a = c .before .before .before .before .before .before .before .before .before .before .before .before .before .before .before .args in
-    let s = store (a .t) (a .references .now) (a .coordinates .now) (a .rooms .now) in
+    let s = store (a .t) (a .references .now) (a .coordinates .now) (a .nodes .now) in
     page-row-is (λ (p : List ℤ) (q : Place) (n : ℕ). pageCall s Near p (a .reach) q (a .size) n) (a .t .d) (a .i) (a .size * 3) (a .probes .now) (a .places .now) _ (a .items .now) (a .outcomes .now) (c .before .before .before .before .before .before .before .before .before .place-at .ensures) (c .before .before .before .before .before .before .before .before .before .before .before .before .before .before .before .pre .items) _ _ _ (c .before .before .before .before .before .before .page-here .ensures) (c .before .before .put-page .ensures)
 
 pub page-row-spec : {M : Type 1} → statement M

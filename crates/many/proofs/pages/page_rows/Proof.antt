@@ -10,12 +10,12 @@ use Rattle.many.proofs.pages.page_rows.Statement.{statement}
 use Rattle.many.proofs.pages.page_rows.Tie as tie
 
 abbrev Inv-loop : tie.InvT-loop
-Inv-loop t references coordinates rooms probes reaches places size outcomes₀ items₀ i₀ outcomes items i =
-    Going (putOutcome (pageAt (store t references coordinates rooms) probes reaches places size)) (length reaches) i outcomes₀ outcomes
-    × Going (putPageItems (pageAt (store t references coordinates rooms) probes reaches places size) (size * 3)) (length reaches) i items₀ items
+Inv-loop t references coordinates nodes probes reaches places size outcomes₀ items₀ i₀ outcomes items i =
+    Going (putOutcome (pageAt (store t references coordinates nodes) probes reaches places size)) (length reaches) i outcomes₀ outcomes
+    × Going (putPageItems (pageAt (store t references coordinates nodes) probes reaches places size) (size * 3)) (length reaches) i items₀ items
 
 abbrev μ-loop : tie.MeasureT-loop
-μ-loop t references coordinates rooms probes reaches places size outcomes₀ items₀ i₀ outcomes items i =
+μ-loop t references coordinates nodes probes reaches places size outcomes₀ items₀ i₀ outcomes items i =
     length reaches - i
 
 loop-holds : tie.Need-loop-holds Inv-loop μ-loop

@@ -12,12 +12,12 @@ pages-refusal-requires c κs = search needs
 returns : tie.Need-returns
 returns c =
     let a = c .before .before .before .before .before .before .before .before .args in
-    pages-refused (store (a .t) (a .references .now) (a .coordinates .now) (a .rooms .now)) (a .probes .now) (a .reaches .now) (a .places .now) (a .size) (bothRooms (a .outcomes .now) (a .items .now)) _ (c .before .pages-refusal .ensures) (c .if1 .taken)
+    pages-refused (store (a .t) (a .references .now) (a .coordinates .now) (a .nodes .now)) (a .probes .now) (a .reaches .now) (a .places .now) (a .size) (bothRooms (a .outcomes .now) (a .items .now)) _ (c .before .pages-refusal .ensures) (c .if1 .taken)
 
 page-rows-requires : tie.Need-page-rows-requires
 page-rows-requires c κs =
     let a = c .before .before .before .before .before .before .before .before .before .before .args in
-    pages-all (store (a .t) (a .references .now) (a .coordinates .now) (a .rooms .now)) (a .probes .now) (a .reaches .now) (a .places .now) (a .size) (bothRooms (a .outcomes .now) (a .items .now)) _ (c .before .before .before .pages-refusal .ensures) (c .before .before .if1 .left)
+    pages-all (store (a .t) (a .references .now) (a .coordinates .now) (a .nodes .now)) (a .probes .now) (a .reaches .now) (a .places .now) (a .size) (bothRooms (a .outcomes .now) (a .items .now)) _ (c .before .before .before .pages-refusal .ensures) (c .before .before .if1 .left)
 
 same-length : tie.Need-same-length
 same-length c = search needs
@@ -28,7 +28,7 @@ same-length-2 c = search needs
 returns-2 : tie.Need-returns-2
 returns-2 c =
     let a = c .before .before .before .before .before .before .before .before .before .before .before .before .before .before .before .args in
-    pages-done (store (a .t) (a .references .now) (a .coordinates .now) (a .rooms .now)) (a .probes .now) (a .reaches .now) (a .places .now) (a .size) (bothRooms (a .outcomes .now) (a .items .now)) _ (c .before .before .before .before .before .before .before .before .pages-refusal .ensures) (c .before .before .before .before .before .before .before .if1 .left) _ _ (c .before .before .before .before .page-rows .ensures .0) (c .before .before .before .before .page-rows .ensures .1)
+    pages-done (store (a .t) (a .references .now) (a .coordinates .now) (a .nodes .now)) (a .probes .now) (a .reaches .now) (a .places .now) (a .size) (bothRooms (a .outcomes .now) (a .items .now)) _ (c .before .before .before .before .before .before .before .before .pages-refusal .ensures) (c .before .before .before .before .before .before .before .if1 .left) _ _ (c .before .before .before .before .page-rows .ensures .0) (c .before .before .before .before .page-rows .ensures .1)
 
 pub pages-each-spec : {M : Type 1} → statement M
 pages-each-spec =

@@ -19,7 +19,7 @@ same-length c = search needs
 returns : tie.Need-returns
 returns c =
     let a = c .before .before .before .before .before .before .before .before .before .args in
-    ask-none (store (a .t) (a .references .now) (a .coordinates .now) (a .rooms .now)) (askMeant (a .ask)) (a .out .now) (a .at) _ _ (c .before .before .before .before .if1 .taken) (c .before .before .refuse .ensures)
+    ask-none (store (a .t) (a .references .now) (a .coordinates .now) (a .nodes .now)) (askMeant (a .ask)) (a .out .now) (a .at) _ _ (c .before .before .before .before .if1 .taken) (c .before .before .refuse .ensures)
 
 sub-answer-ask : tie.Need-sub-answer-ask
 sub-answer-ask c = search needs
@@ -40,7 +40,7 @@ add-result : tie.Need-add-result
 add-result c =
     let a = c .before .before .before .before .before .before .before .before .before .before .before .before .args in
     let in-out : a .at ≤ length (a .out .now) = omega (arith, c .before .before .before .before .before .before .before .before .before .before .before .before .pre .serving .room) in
-    let h = line-inside (store (a .t) (a .references .now) (a .coordinates .now) (a .rooms .now)) (askMeant (a .ask)) (a .out .now) (a .at) (c .before .before .before .before .before .before .before .if1 .left) _ refl in-out _ _ (c .before .before .before .before .before .answer-ask .ensures) _ (c .before .wrote .given .1) (c .before .before .before .before .before .answer-ask .kept .1 .1 .1 .1 .1 .0) in
+    let h = line-inside (store (a .t) (a .references .now) (a .coordinates .now) (a .nodes .now)) (askMeant (a .ask)) (a .out .now) (a .at) (c .before .before .before .before .before .before .before .if1 .left) _ refl in-out _ _ (c .before .before .before .before .before .answer-ask .ensures) _ (c .before .wrote .given .1) (c .before .before .before .before .before .answer-ask .kept .1 .1 .1 .1 .1 .0) in
     omega (arith, c .before .before .before .before .before .before .before .before .before .before .before .before .good .1 .1 .1 .1 .1 .0)
 
 enum-known-wrote-2 : tie.Need-enum-known-wrote-2
@@ -50,7 +50,7 @@ refuse-requires-2 : tie.Need-refuse-requires-2
 refuse-requires-2 c κs =
     let a = c .before .before .before .before .before .before .before .before .before .before .before .before .before .args in
     let in-out : a .at ≤ length (a .out .now) = omega (arith, c .before .before .before .before .before .before .before .before .before .before .before .before .before .pre .serving .room) in
-    refuse-ready (store (a .t) (a .references .now) (a .coordinates .now) (a .rooms .now)) (askMeant (a .ask)) (a .out .now) (a .at) (c .before .before .before .before .before .before .before .before .if1 .left) _ refl in-out _ _ (c .before .before .before .before .before .before .answer-ask .ensures) _ (c .before .before .wrote2 .given .1) (omega (arith, c .before .before .before .before .before .before .before .before .before .before .before .before .before .pre .serving .room))
+    refuse-ready (store (a .t) (a .references .now) (a .coordinates .now) (a .nodes .now)) (askMeant (a .ask)) (a .out .now) (a .at) (c .before .before .before .before .before .before .before .before .if1 .left) _ refl in-out _ _ (c .before .before .before .before .before .before .answer-ask .ensures) _ (c .before .before .wrote2 .given .1) (omega (arith, c .before .before .before .before .before .before .before .before .before .before .before .before .before .pre .serving .room))
 
 same-length-2 : tie.Need-same-length-2
 same-length-2 c = search needs
@@ -59,7 +59,7 @@ returns-2 : tie.Need-returns-2
 returns-2 c =
     let a = c .before .before .before .before .before .before .before .before .before .before .before .before .args in
     let in-out : a .at ≤ length (a .out .now) = omega (arith, c .before .before .before .before .before .before .before .before .before .before .before .before .pre .serving .room) in
-    ask-line (store (a .t) (a .references .now) (a .coordinates .now) (a .rooms .now)) (askMeant (a .ask)) (a .out .now) (a .at) (c .before .before .before .before .before .before .before .if1 .left) _ refl in-out _ _ (c .before .before .before .before .before .answer-ask .ensures) _ (c .before .wrote .given .1) (c .before .before .before .before .before .answer-ask .kept .1 .1 .1 .1 .1 .0)
+    ask-line (store (a .t) (a .references .now) (a .coordinates .now) (a .nodes .now)) (askMeant (a .ask)) (a .out .now) (a .at) (c .before .before .before .before .before .before .before .if1 .left) _ refl in-out _ _ (c .before .before .before .before .before .answer-ask .ensures) _ (c .before .wrote .given .1) (c .before .before .before .before .before .answer-ask .kept .1 .1 .1 .1 .1 .0)
 
 same-length-3 : tie.Need-same-length-3
 same-length-3 c = search needs
@@ -68,7 +68,7 @@ returns-3 : tie.Need-returns-3
 returns-3 c =
     let a = c .before .before .before .before .before .before .before .before .before .before .before .before .before .before .before .before .args in
     let in-out : a .at ≤ length (a .out .now) = omega (arith, c .before .before .before .before .before .before .before .before .before .before .before .before .before .before .before .before .pre .serving .room) in
-    ask-refused (store (a .t) (a .references .now) (a .coordinates .now) (a .rooms .now)) (askMeant (a .ask)) (a .out .now) (a .at) (c .before .before .before .before .before .before .before .before .before .before .before .if1 .left) _ refl in-out _ _ (c .before .before .before .before .before .before .before .before .before .answer-ask .ensures) _ (c .before .before .before .before .before .wrote2 .given .1) _ _ (c .before .before .refuse2 .ensures)
+    ask-refused (store (a .t) (a .references .now) (a .coordinates .now) (a .nodes .now)) (askMeant (a .ask)) (a .out .now) (a .at) (c .before .before .before .before .before .before .before .before .before .before .before .if1 .left) _ refl in-out _ _ (c .before .before .before .before .before .before .before .before .before .answer-ask .ensures) _ (c .before .before .before .before .before .wrote2 .given .1) _ _ (c .before .before .refuse2 .ensures)
 
 pub take-ask-spec : {M : Type 1} → statement M
 take-ask-spec =

@@ -26,7 +26,7 @@ same-length c = search needs
 returns : tie.Need-returns
 returns c =
     let a = c .before .before .before .before .before .before .before .before .before .before .before .args in
-    claim-11 (store (a .t) (a .references .now) (a .coordinates .now) (a .rooms .now)) (a .c) (c .before .before .before .before .before .before .before .before .before .before .before .pre .serving .ready) (c .before .before .before .before .before .before .before .before .before .before .before .pre .range) _ (c .before .before .before .before .before .before .before .header-for .ensures) _ (c .before .before .before .before .before .is-ours .ensures) (a .out .now) (a .at) (c .before .before .before .before .if1 .taken) _ _ (c .before .before .refuse .ensures)
+    claim-11 (store (a .t) (a .references .now) (a .coordinates .now) (a .nodes .now)) (a .c) (c .before .before .before .before .before .before .before .before .before .before .before .pre .serving .ready) (c .before .before .before .before .before .before .before .before .before .before .before .pre .range) _ (c .before .before .before .before .before .before .before .header-for .ensures) _ (c .before .before .before .before .before .is-ours .ensures) (a .out .now) (a .at) (c .before .before .before .before .if1 .taken) _ _ (c .before .before .refuse .ensures)
 
 refuse-requires-2 : tie.Need-refuse-requires-2
 refuse-requires-2 c κs = search needs
@@ -37,7 +37,7 @@ same-length-2 c = search needs
 returns-2 : tie.Need-returns-2
 returns-2 c =
     let a = c .before .before .before .before .before .before .before .before .before .before .before .before .before .args in
-    claim-3 (store (a .t) (a .references .now) (a .coordinates .now) (a .rooms .now)) (a .c) (c .before .before .before .before .before .before .before .before .before .before .before .before .before .pre .serving .ready) (c .before .before .before .before .before .before .before .before .before .before .before .before .before .pre .range) _ (c .before .before .before .before .before .before .before .before .before .header-for .ensures) _ (c .before .before .before .before .before .before .before .is-ours .ensures) (a .out .now) (a .at) (c .before .before .before .before .before .before .if1 .left) (c .before .before .before .before .if2 .taken) _ _ (c .before .before .refuse2 .ensures)
+    claim-3 (store (a .t) (a .references .now) (a .coordinates .now) (a .nodes .now)) (a .c) (c .before .before .before .before .before .before .before .before .before .before .before .before .before .pre .serving .ready) (c .before .before .before .before .before .before .before .before .before .before .before .before .before .pre .range) _ (c .before .before .before .before .before .before .before .before .before .header-for .ensures) _ (c .before .before .before .before .before .before .before .is-ours .ensures) (a .out .now) (a .at) (c .before .before .before .before .before .before .if1 .left) (c .before .before .before .before .if2 .taken) _ _ (c .before .before .refuse2 .ensures)
 
 slice-aggregate-add : tie.Need-slice-aggregate-add
 slice-aggregate-add c = search (needs, c .before .before .before .before .before .before .before .before .before .before .before .before .before .before .good .1 .1 .1 .1 .0)
@@ -46,7 +46,7 @@ add-requires : tie.Need-add-requires
 add-requires c κs =
     let a = c .before .before .before .before .before .before .before .before .before .before .before .before .before .before .args in
     let eight : 7 < length (a .c .coordinates) = search (needs, c .before .before .before .before .before .before .before .before .before .before .before .before .before .before .good .1 .1 .1 .1 .0) in
-    add-ready (store (a .t) (a .references .now) (a .coordinates .now) (a .rooms .now)) (a .c) (c .before .before .before .before .before .before .before .before .before .before .before .before .before .before .pre .serving .ready) (c .before .before .before .before .before .before .before .before .before .before .before .before .before .before .pre .range) _ (c .before .before .before .before .before .before .before .before .before .before .header-for .ensures) _ (c .before .before .before .before .before .before .before .before .is-ours .ensures) (a .out .now) (a .at) (c .before .before .before .before .before .before .before .if1 .left) (c .before .before .before .before .before .if2 .left) eight
+    add-ready (store (a .t) (a .references .now) (a .coordinates .now) (a .nodes .now)) (a .c) (c .before .before .before .before .before .before .before .before .before .before .before .before .before .before .pre .serving .ready) (c .before .before .before .before .before .before .before .before .before .before .before .before .before .before .pre .range) _ (c .before .before .before .before .before .before .before .before .before .before .header-for .ensures) _ (c .before .before .before .before .before .before .before .before .is-ours .ensures) (a .out .now) (a .at) (c .before .before .before .before .before .before .before .if1 .left) (c .before .before .before .before .before .if2 .left) eight
 
 same-length-3 : tie.Need-same-length-3
 same-length-3 c = search needs
@@ -61,7 +61,7 @@ returns-3 : tie.Need-returns-3
 returns-3 c =
     let a = c .before .before .before .before .before .before .before .before .before .before .before .before .before .before .before .before .before .before .before .before .args in
     let eight : 7 < length (a .c .coordinates) = search (needs, c .before .before .before .before .before .before .before .before .before .before .before .before .before .before .before .before .before .before .before .before .good .1 .1 .1 .1 .0) in
-    claim-in (store (a .t) (a .references .now) (a .coordinates .now) (a .rooms .now)) (a .c) (c .before .before .before .before .before .before .before .before .before .before .before .before .before .before .before .before .before .before .before .before .pre .serving .ready) (c .before .before .before .before .before .before .before .before .before .before .before .before .before .before .before .before .before .before .before .before .pre .range) _ (c .before .before .before .before .before .before .before .before .before .before .before .before .before .before .before .before .header-for .ensures) _ (c .before .before .before .before .before .before .before .before .before .before .before .before .before .before .is-ours .ensures) (a .out .now) (a .at) (c .before .before .before .before .before .before .before .before .before .before .before .before .before .if1 .left) (c .before .before .before .before .before .before .before .before .before .before .before .if2 .left) eight _ (c .before .before .before .before .before .add .ensures) (omega (arith, c .before .before .before .before .before .before .before .before .before .before .before .before .before .before .before .before .before .before .before .before .pre .serving .room))
+    claim-in (store (a .t) (a .references .now) (a .coordinates .now) (a .nodes .now)) (a .c) (c .before .before .before .before .before .before .before .before .before .before .before .before .before .before .before .before .before .before .before .before .pre .serving .ready) (c .before .before .before .before .before .before .before .before .before .before .before .before .before .before .before .before .before .before .before .before .pre .range) _ (c .before .before .before .before .before .before .before .before .before .before .before .before .before .before .before .before .header-for .ensures) _ (c .before .before .before .before .before .before .before .before .before .before .before .before .before .before .is-ours .ensures) (a .out .now) (a .at) (c .before .before .before .before .before .before .before .before .before .before .before .before .before .if1 .left) (c .before .before .before .before .before .before .before .before .before .before .before .if2 .left) eight _ (c .before .before .before .before .before .add .ensures) (omega (arith, c .before .before .before .before .before .before .before .before .before .before .before .before .before .before .before .before .before .before .before .before .pre .serving .room))
 
 pub take-claim-spec : {M : Type 1} → statement M
 take-claim-spec =

@@ -9,10 +9,10 @@ use Rattle.serve.proofs.feeding.feed.Statement.{statement}
 use Rattle.serve.proofs.feeding.feed.Tie as tie
 
 abbrev Inv-loop : tie.InvT-loop
-Inv-loop references₀ coordinates₀ rooms₀ line₀ chunk out₀ n₀ references coordinates rooms line out n = Going chunk references₀ coordinates₀ rooms₀ line₀ out₀ n₀ references coordinates rooms line out n
+Inv-loop references₀ coordinates₀ nodes₀ line₀ chunk out₀ n₀ references coordinates nodes line out n = Going chunk references₀ coordinates₀ nodes₀ line₀ out₀ n₀ references coordinates nodes line out n
 
 abbrev μ-loop : tie.MeasureT-loop
-μ-loop references₀ coordinates₀ rooms₀ line₀ chunk out₀ n₀ references coordinates rooms line out n = length chunk - n .at
+μ-loop references₀ coordinates₀ nodes₀ line₀ chunk out₀ n₀ references coordinates nodes line out n = length chunk - n .at
 
 loop-holds : tie.Need-loop-holds Inv-loop μ-loop
 loop-holds c = going-start _ _ _ _ _ _ _ (c .before .before .before .before .before .pre .0) (c .before .before .before .before .before .pre .1)
@@ -37,7 +37,7 @@ loop-again c =
       short = let h = t .ensures .1 .1 .1 in omega (arith, v .out);
       references = t .kept .1 .0 ∙ v .references;
       coordinates = t .kept .1 .1 .0 ∙ v .coordinates;
-      rooms = t .kept .1 .1 .1 .0 ∙ v .rooms;
+      nodes = t .kept .1 .1 .1 .0 ∙ v .nodes;
       line = t .kept .1 .1 .1 .1 .0 ∙ v .line;
       out = t .kept .1 .1 .1 .1 .1 .1 .0 ∙ v .out;
     }
@@ -49,7 +49,7 @@ same-length-2 : tie.Need-same-length-2 Inv-loop μ-loop
 same-length-2 c = c .before .before .loop .inv .coordinates
 
 same-length-3 : tie.Need-same-length-3 Inv-loop μ-loop
-same-length-3 c = c .before .before .loop .inv .rooms
+same-length-3 c = c .before .before .loop .inv .nodes
 
 same-length-4 : tie.Need-same-length-4 Inv-loop μ-loop
 same-length-4 c = c .before .before .loop .inv .line

@@ -9,13 +9,13 @@ use Rattle.serve.proofs.feeding.finish.Tie as tie
 returns : tie.Need-returns
 returns c =
     let a = c .before .before .before .before .before .before .before .args in
-    let s = store (a .d .table) (a .references .now) (a .coordinates .now) (a .rooms .now) in
+    let s = store (a .d .table) (a .references .now) (a .coordinates .now) (a .nodes .now) in
     ((λ o st. ended-left s (a .line .now) (a .d) o st _ (c .if1 .taken)), omega (arith, c .before .before .before .before .before .before .before .pre .1))
 
 returns-2 : tie.Need-returns-2
 returns-2 c =
     let a = c .before .before .before .before .before .before .before .before .before .args in
-    let s = store (a .d .table) (a .references .now) (a .coordinates .now) (a .rooms .now) in
+    let s = store (a .d .table) (a .references .now) (a .coordinates .now) (a .nodes .now) in
     ((λ o st. ended-size s (a .line .now) (a .d) o st _ (c .if2 .taken)), omega (arith, c .before .before .before .before .before .before .before .before .before .pre .1))
 
 serve-cut-requires : tie.Need-serve-cut-requires
@@ -36,7 +36,7 @@ same-length-4 c = search needs
 returns-3 : tie.Need-returns-3
 returns-3 c =
     let a = c .before .before .before .before .before .before .before .before .before .before .before .before .before .before .before .before .before .before .before .before .before .args in
-    let s = store (a .d .table) (a .references .now) (a .coordinates .now) (a .rooms .now) in
+    let s = store (a .d .table) (a .references .now) (a .coordinates .now) (a .nodes .now) in
     let v = c .before .before .before .before .before .before .before .serve-cut .ensures in
     ((λ o st. ended-line s (a .line .now) (a .d) o st _ (c .before .before .before .before .before .before .before .before .before .before .before .before .before .before .if1 .left) (c .before .before .before .before .before .before .before .before .before .before .before .before .if2 .left) _ _ _ (v .served)), v .short)
 

@@ -19,7 +19,7 @@ same-length c = search needs
 returns : tie.Need-returns
 returns c =
     let a = c .before .before .before .before .before .before .before .before .before .before .before .before .args in
-    let s = store (a .d .table) (a .references .now) (a .coordinates .now) (a .rooms .now) in
+    let s = store (a .d .table) (a .references .now) (a .coordinates .now) (a .nodes .now) in
     let p = c .before .before .before .before .before .before .before .before .before .before .before .before .pre in
     let k = c .before .before .before .before .cut in (
       (λ o st. moved-part (a .d) s (a .line .now) _ (a .chunk .now) _ (p .0 .line) (k .ensures) o (p .1 .left) (not-true _ (c .if1 .taken)) _ st),
@@ -53,7 +53,7 @@ same-length-6 c = search needs
 returns-2 : tie.Need-returns-2
 returns-2 c =
     let a = c .before .before .before .before .before .before .before .before .before .before .before .before .before .before .before .before .before .before .before .before .before .before .before .before .before .before .before .args in
-    let s = store (a .d .table) (a .references .now) (a .coordinates .now) (a .rooms .now) in
+    let s = store (a .d .table) (a .references .now) (a .coordinates .now) (a .nodes .now) in
     let p = c .before .before .before .before .before .before .before .before .before .before .before .before .before .before .before .before .before .before .before .before .before .before .before .before .before .before .before .pre in
     let k = c .before .before .before .before .before .before .before .before .before .before .before .before .before .before .before .before .before .before .before .cut in
     let v = c .before .before .before .before .before .before .before .before .before .serve-cut .ensures in

@@ -33,7 +33,7 @@ same-length-4 c = search needs
 returns : tie.Need-returns
 returns c =
     let a = c .before .before .before .before .before .before .before .before .before .before .before .before .before .before .before .before .before .before .before .args in
-    frame-claim (store (a .t) (a .references .now) (a .coordinates .now) (a .rooms .now)) (frameIn (a .src .now)) (a .out .now) (a .at) _ _ _ _ (sym (c .before .before .before .before .before .before .before .before .before .before .before .before .before .before .claim-ok .ensures) ∙ c .before .before .before .before .before .before .before .before .before .before .before .before .before .if1 .taken) (c .before .before .before .before .before .before .before .before .before .before .before .before .claim-at .ensures) (c .before .before .before .before .before .before .before .take-claim .ensures)
+    frame-claim (store (a .t) (a .references .now) (a .coordinates .now) (a .nodes .now)) (frameIn (a .src .now)) (a .out .now) (a .at) _ _ _ _ (sym (c .before .before .before .before .before .before .before .before .before .before .before .before .before .before .claim-ok .ensures) ∙ c .before .before .before .before .before .before .before .before .before .before .before .before .before .if1 .taken) (c .before .before .before .before .before .before .before .before .before .before .before .before .claim-at .ensures) (c .before .before .before .before .before .before .before .take-claim .ensures)
 
 ask-ok-requires : tie.Need-ask-ok-requires
 ask-ok-requires c κs = search needs
@@ -60,7 +60,7 @@ same-length-8 c = search needs
 returns-2 : tie.Need-returns-2
 returns-2 c =
     let a = c .before .before .before .before .before .before .before .before .before .before .before .before .before .before .before .before .args in
-    frame-ask (store (a .t) (a .references .now) (a .coordinates .now) (a .rooms .now)) (frameIn (a .src .now)) (a .out .now) (a .at) _ _ _ (c .before .before .before .before .before .before .before .before .before .before .before .before .before .before .before .before .pre .ready) (sym (c .before .before .before .before .before .before .before .before .before .before .before .claim-ok .ensures) ∙ c .before .before .before .before .before .before .before .before .before .before .if1 .left) (sym (c .before .before .before .before .before .before .before .before .before .ask-ok .ensures) ∙ c .before .before .before .before .before .before .before .before .if2 .taken) (c .before .before .before .before .before .before .before .ask-at .ensures) (c .before .before .take-ask .ensures)
+    frame-ask (store (a .t) (a .references .now) (a .coordinates .now) (a .nodes .now)) (frameIn (a .src .now)) (a .out .now) (a .at) _ _ _ (c .before .before .before .before .before .before .before .before .before .before .before .before .before .before .before .before .pre .ready) (sym (c .before .before .before .before .before .before .before .before .before .before .before .claim-ok .ensures) ∙ c .before .before .before .before .before .before .before .before .before .before .if1 .left) (sym (c .before .before .before .before .before .before .before .before .before .ask-ok .ensures) ∙ c .before .before .before .before .before .before .before .before .if2 .taken) (c .before .before .before .before .before .before .before .ask-at .ensures) (c .before .before .take-ask .ensures)
 
 refuse-requires : tie.Need-refuse-requires
 refuse-requires c κs = search needs
@@ -71,7 +71,7 @@ same-length-9 c = search needs
 returns-3 : tie.Need-returns-3
 returns-3 c =
     let a = c .before .before .before .before .before .before .before .before .before .before .before .before .args in
-    frame-none (store (a .t) (a .references .now) (a .coordinates .now) (a .rooms .now)) (frameIn (a .src .now)) (a .out .now) (a .at) _ _ (c .before .before .before .before .before .before .before .before .before .before .before .before .pre .ready) (sym (c .before .before .before .before .before .before .before .claim-ok .ensures) ∙ c .before .before .before .before .before .before .if1 .left) (sym (c .before .before .before .before .before .ask-ok .ensures) ∙ c .before .before .before .before .if2 .left) (c .before .before .refuse .ensures)
+    frame-none (store (a .t) (a .references .now) (a .coordinates .now) (a .nodes .now)) (frameIn (a .src .now)) (a .out .now) (a .at) _ _ (c .before .before .before .before .before .before .before .before .before .before .before .before .pre .ready) (sym (c .before .before .before .before .before .before .before .claim-ok .ensures) ∙ c .before .before .before .before .before .before .if1 .left) (sym (c .before .before .before .before .before .ask-ok .ensures) ∙ c .before .before .before .before .if2 .left) (c .before .before .refuse .ensures)
 
 pub serve-frame-spec : {M : Type 1} → statement M
 serve-frame-spec =

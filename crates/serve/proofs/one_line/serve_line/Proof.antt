@@ -23,7 +23,7 @@ same-length c = search needs
 returns : tie.Need-returns
 returns c =
     let a = c .before .before .before .before .before .before .before .before .before .before .before .before .args in
-    line-9 (store (a .t) (a .references .now) (a .coordinates .now) (a .rooms .now)) (a .line .now) (a .out .now) (a .at) _ _ (c .before .before .before .before .before .before .before .before .before .before .before .before .pre .ready)
+    line-9 (store (a .t) (a .references .now) (a .coordinates .now) (a .nodes .now)) (a .line .now) (a .out .now) (a .at) _ _ (c .before .before .before .before .before .before .before .before .before .before .before .before .pre .ready)
     (c .before .before .before .before .before .before .frame-of .ensures .none (c .before .before .before .before .if1 .taken)) (c .before .before .refuse .ensures)
 
 array-share-prefix-frame : tie.Need-array-share-prefix-frame
@@ -52,7 +52,7 @@ returns-2 c =
     let a = c .before .before .before .before .before .before .before .before .before .before .before .before .before .before .before .before .before .before .before .before .before .args in
     let f = c .before .before .before .before .before .before .before .before .before .before .before .before .before .before .before .frame-of .ensures in
     let some : 0 < c .before .before .before .before .before .before .before .before .before .before .before .before .before .before .before .frame-of .result = omega (arith, c .before .before .before .before .before .before .before .before .before .before .before .before .before .if1 .left) in
-    line-frame (store (a .t) (a .references .now) (a .coordinates .now) (a .rooms .now)) (a .line .now) (a .out .now) (a .at) _ _ _ _ (f .sure some)
+    line-frame (store (a .t) (a .references .now) (a .coordinates .now) (a .nodes .now)) (a .line .now) (a .out .now) (a .at) _ _ _ _ (f .sure some)
     (f .frame some) (c .before .before .before .before .before .before .before .serve-frame .ensures)
 
 pub serve-line-spec : {M : Type 1} → statement M

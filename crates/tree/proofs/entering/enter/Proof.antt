@@ -11,27 +11,27 @@ use Rattle.tree.proofs.entering.enter.Statement.{statement}
 use Rattle.tree.proofs.entering.enter.Tie as tie
 
 abbrev Inv-loop : tie.InvT-loop
-Inv-loop rooms₀ measure d coordinates used k m₀ rooms m = Going (apart measure d coordinates) used k rooms₀ rooms m
+Inv-loop nodes₀ measure d coordinates used k m₀ nodes m = Going (apart measure d coordinates) used k nodes₀ nodes m
 
 abbrev μ-loop : tie.MeasureT-loop
-μ-loop rooms₀ measure d coordinates used k m₀ rooms m = used - m
+μ-loop nodes₀ measure d coordinates used k m₀ nodes m = used - m
 
 -- at `nearer`'s result: it is a side
 small : (c : tie.After-nearer Inv-loop μ-loop) → c .nearer .result .side < 2
 small c =
     let a = c .before .before .before .before .before .before .before .before .args in
     let l = c .before .before .before .before .before .loop in
-    rw (c .nearer .ensures .0) (side-small (apart (a .measure) (a .d) (a .coordinates .now)) (l .rooms) (l .m) (a .k))
+    rw (c .nearer .ensures .0) (side-small (apart (a .measure) (a .d) (a .coordinates .now)) (l .nodes) (l .m) (a .k))
 
 -- after `widen`: the side's far distance is raised
 lifted : (c : tie.After-widen Inv-loop μ-loop) → c .widen .last .0
-    ≡ raise (apart (c .before .before .before .before .before .before .before .before .before .before .before .before .args .measure) (c .before .before .before .before .before .before .before .before .before .before .before .before .args .d) (c .before .before .before .before .before .before .before .before .before .before .before .before .args .coordinates .now)) (c .before .before .before .before .before .before .before .before .before .loop .rooms) (c .before .before .before .before .before .before .before .before .before .loop .m) (c .before .before .before .before .nearer .result .side) (c .before .before .before .before .before .before .before .before .before .before .before .before .args .k)
+    ≡ raise (apart (c .before .before .before .before .before .before .before .before .before .before .before .before .args .measure) (c .before .before .before .before .before .before .before .before .before .before .before .before .args .d) (c .before .before .before .before .before .before .before .before .before .before .before .before .args .coordinates .now)) (c .before .before .before .before .before .before .before .before .before .loop .nodes) (c .before .before .before .before .before .before .before .before .before .loop .m) (c .before .before .before .before .nearer .result .side) (c .before .before .before .before .before .before .before .before .before .before .before .before .args .k)
 lifted c =
     let a = c .before .before .before .before .before .before .before .before .before .before .before .before .args in
     c .widen .ensures ∙ raised (apart (a .measure) (a .d) (a .coordinates .now)) _ _ _ _ _ (c .before .before .before .before .nearer .ensures .1)
 
--- and the room has a claim on its right
-full : (c : tie.After-widen Inv-loop μ-loop) → fieldAt (c .before .before .before .before .before .before .before .before .before .loop .rooms) (c .before .before .before .before .before .before .before .before .before .loop .m) 1 ≡ 0 → ⊥
+-- and the node has a claim on its right
+full : (c : tie.After-widen Inv-loop μ-loop) → fieldAt (c .before .before .before .before .before .before .before .before .before .loop .nodes) (c .before .before .before .before .before .before .before .before .before .loop .m) 1 ≡ 0 → ⊥
 full c z = c .before .before .before .before .before .before .if2 .left (c .before .before .before .before .before .before .before .field .ensures ∙ z)
 
 make-requires : tie.Need-make-requires Inv-loop μ-loop
@@ -43,8 +43,8 @@ same-length c = search needs
 returns : tie.Need-returns Inv-loop μ-loop
 returns c =
     let a = c .before .before .before .before .before .before .args in
-    let e = entered-first (apart (a .measure) (a .d) (a .coordinates .now)) (a .used) (a .k) (a .rooms .now) (c .before .before .before .before .if1 .taken) in
-    (c .before .before .make .ensures ∙ sym (ap (λ (x : Grown). x .rooms) e), sym (ap (λ (x : Grown). x .used) e))
+    let e = entered-first (apart (a .measure) (a .d) (a .coordinates .now)) (a .used) (a .k) (a .nodes .now) (c .before .before .before .before .if1 .taken) in
+    (c .before .before .make .ensures ∙ sym (ap (λ (x : Grown). x .nodes) e), sym (ap (λ (x : Grown). x .used) e))
 
 loop-holds : tie.Need-loop-holds Inv-loop μ-loop
 loop-holds c = going-start _ _ _ _ (c .if1 .left) (c .before .before .pre .linked)
@@ -64,13 +64,13 @@ same-length-2 c = c .before .before .store .kept .0 ∙ c .before .before .befor
 returns-2 : tie.Need-returns-2 Inv-loop μ-loop
 returns-2 c =
     let e = going-stop _ _ _ _ _ _ (c .before .before .before .before .before .before .before .loop .inv) (sym (c .before .before .before .before .before .field .ensures) ∙ c .before .before .before .before .if2 .taken) in
-    (c .before .before .store .ensures ∙ sym (ap (λ (x : Grown). x .rooms) e), sym (ap (λ (x : Grown). x .used) e))
+    (c .before .before .store .ensures ∙ sym (ap (λ (x : Grown). x .nodes) e), sym (ap (λ (x : Grown). x .used) e))
 
 nearer-requires : tie.Need-nearer-requires Inv-loop μ-loop
 nearer-requires c κs =
     let l = c .before .before .before .before .loop in
     let p = c .before .before .before .before .before .before .before .pre in
-    let no1 : fieldAt (l .rooms) (l .m) 1 ≡ 0 → ⊥ = λ z. c .before .if2 .left (c .before .before .field .ensures ∙ z) in
+    let no1 : fieldAt (l .nodes) (l .m) 1 ≡ 0 → ⊥ = λ z. c .before .if2 .left (c .before .before .field .ensures ∙ z) in
     ((going-claim _ _ _ _ _ _ (l .inv) 0 (lit< tt) (p .room) no1, going-claim _ _ _ _ _ _ (l .inv) 1 (lit< tt) (p .room) no1), p .located)
 
 add-field : tie.Need-add-field Inv-loop μ-loop
@@ -110,7 +110,7 @@ returns-3 c =
     let w = c .before .before .before .before .before .before .before .before .before .before .before in
     let a = c .before .before .before .before .before .before .before .before .before .before .before .before .before .before .before .before .before .before .before .before .before .before .before .args in
     let e = going-new _ _ _ _ _ _ (c .before .before .before .before .before .before .before .before .before .before .before .before .before .before .before .before .before .before .before .before .loop .inv) _ _ _ (full w) (c .before .before .before .before .before .before .before .before .before .before .before .before .before .before .before .nearer .ensures .0) (c .before .before .before .before .before .before .before .before .before .before .before .before .before .field2 .ensures) (lifted w) (c .before .before .before .before .before .before .before .before .if3 .taken) in
-    (c .before .before .make2 .ensures ∙ ap (λ (x : List ℕ). newNode x (a .used) (a .k)) (c .before .before .before .before .before .before .store2 .ensures) ∙ sym (ap (λ (x : Grown). x .rooms) e), sym (ap (λ (x : Grown). x .used) e))
+    (c .before .before .make2 .ensures ∙ ap (λ (x : List ℕ). newNode x (a .used) (a .k)) (c .before .before .before .before .before .before .store2 .ensures) ∙ sym (ap (λ (x : Grown). x .nodes) e), sym (ap (λ (x : Grown). x .used) e))
 
 sub-m : tie.Need-sub-m Inv-loop μ-loop
 sub-m c = omega arith

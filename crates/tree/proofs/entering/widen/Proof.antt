@@ -27,7 +27,7 @@ same-length c = search needs
 returns : tie.Need-returns
 returns c =
     let a = c .before .before .before .before .before .before .before .before .args in
-    c .before .before .store .ensures ∙ ap (λ (v : ℕ). putField (a .rooms .now) (a .m) (2 + a .s) v) (rw (c .before .before .before .before .before .field .ensures) at (c .before .before .before .larger .ensures))
+    c .before .before .store .ensures ∙ ap (λ (v : ℕ). putField (a .nodes .now) (a .m) (2 + a .s) v) (rw (c .before .before .before .before .before .field .ensures) at (c .before .before .before .larger .ensures))
 
 pub widen-spec : {M : Type 1} → statement M
 widen-spec =

@@ -17,7 +17,7 @@ put-reference-requires : tie.Need-put-reference-requires
 put-reference-requires c κs = search needs
 
 mul-copy : tie.Need-mul-copy
-mul-copy c = let a = c .before .before .before .before .before .before .before .args in record { fits = omega (arith, inside (store (a .t) (a .references .now) (a .coordinates .now) (a .rooms .now)) (c .before .before .before .before .before .before .before .pre .0)) }
+mul-copy c = let a = c .before .before .before .before .before .before .before .args in record { fits = omega (arith, inside (store (a .t) (a .references .now) (a .coordinates .now) (a .nodes .now)) (c .before .before .before .before .before .before .before .pre .0)) }
 
 mul-copy-2 : tie.Need-mul-copy-2
 mul-copy-2 c = search needs
@@ -43,7 +43,7 @@ same-length-3 c = search needs
 returns : tie.Need-returns
 returns c =
     let a = c .before .before .before .before .before .before .before .before .before .before .before .before .before .before .args in
-    add-way (store (a .t) (a .references .now) (a .coordinates .now) (a .rooms .now)) _ _ _ _ _ _ _ (c .before .before .before .before .before .before .before .before .before .before .put-reference .ensures) (c .before .before .before .before .before .before .copy .ensures) (c .before .before .enter .ensures .0) (c .before .before .enter .ensures .1)
+    add-way (store (a .t) (a .references .now) (a .coordinates .now) (a .nodes .now)) _ _ _ _ _ _ _ (c .before .before .before .before .before .before .before .before .before .before .put-reference .ensures) (c .before .before .before .before .before .before .copy .ensures) (c .before .before .enter .ensures .0) (c .before .before .enter .ensures .1)
 
 pub add-spec : {M : Type 1} → statement M
 add-spec =

@@ -21,14 +21,14 @@ record Running (given : List ℕ) (places : List ℤ) (s x : Store) (i : ℕ) : 
   pub same : x ≡ addedRun given places i s
   pub references : length (x .references) ≡ length (s .references)
   pub coordinates : length (x .coordinates) ≡ length (s .coordinates)
-  pub rooms : length (x .rooms) ≡ length (s .rooms)
+  pub nodes : length (x .nodes) ≡ length (s .nodes)
 
 abbrev Inv-loop : tie.InvT-loop
-Inv-loop references₀ coordinates₀ rooms₀ given places held₀ i₀ references coordinates rooms held i =
-    Running given places (store held₀ references₀ coordinates₀ rooms₀) (store held references coordinates rooms) i
+Inv-loop references₀ coordinates₀ nodes₀ given places held₀ i₀ references coordinates nodes held i =
+    Running given places (store held₀ references₀ coordinates₀ nodes₀) (store held references coordinates nodes) i
 
 abbrev μ-loop : tie.MeasureT-loop
-μ-loop references₀ coordinates₀ rooms₀ given places held₀ i₀ references coordinates rooms held i = length given - i
+μ-loop references₀ coordinates₀ nodes₀ given places held₀ i₀ references coordinates nodes held i = length given - i
 
 -- the next claim's place is in the run
 module _ (given : List ℕ) (places : List ℤ) (s x : Store) (i : ℕ) (v : Running given places s x i) (whole : length places ≡ s .table .d * length given) (h : i < length given) where
@@ -37,7 +37,7 @@ module _ (given : List ℕ) (places : List ℤ) (s x : Store) (i : ℕ) (v : Run
 
   -- one claim more
   again : (y : Store) → y ≡ added x (getD given i 0) (point (x .table .d) places i) → length (y .references) ≡ length (x .references)
-      → length (y .coordinates) ≡ length (x .coordinates) → length (y .rooms) ≡ length (x .rooms) → Running given places s y (i + 1)
+      → length (y .coordinates) ≡ length (x .coordinates) → length (y .nodes) ≡ length (x .nodes) → Running given places s y (i + 1)
   again y e lr lc lm =
       let p : List ℤ = point (x .table .d) places i in
       let wx : x .table .d ≤ length p = omega (arith, point-length (x .table .d) places i next-in) in
@@ -48,7 +48,7 @@ module _ (given : List ℕ) (places : List ℤ) (s x : Store) (i : ℕ) (v : Run
         same = run-next given places i s x y (v .same) (v .d) e;
         references = lr ∙ v .references;
         coordinates = lc ∙ v .coordinates;
-        rooms = lm ∙ v .rooms;
+        nodes = lm ∙ v .nodes;
       }
 
 loop-holds : tie.Need-loop-holds Inv-loop μ-loop
@@ -60,7 +60,7 @@ loop-holds c =
       same = run-start _ _ _;
       references = refl;
       coordinates = refl;
-      rooms = refl;
+      nodes = refl;
     }
 
 mul-add : tie.Need-mul-add Inv-loop μ-loop
@@ -92,7 +92,7 @@ same-length-2 : tie.Need-same-length-2 Inv-loop μ-loop
 same-length-2 c = c .before .loop .inv .coordinates
 
 same-length-3 : tie.Need-same-length-3 Inv-loop μ-loop
-same-length-3 c = c .before .loop .inv .rooms
+same-length-3 c = c .before .loop .inv .nodes
 
 returns : tie.Need-returns Inv-loop μ-loop
 returns c =

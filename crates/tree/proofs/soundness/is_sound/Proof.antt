@@ -9,11 +9,11 @@ use Rattle.paper.specs.Tree.{store}
 use Rattle.tree.proofs.TestedTables.{lent-located, sound-over, sound-other, sound-last, rebuild-few}
 use Rattle.tree.proofs.soundness.is_sound.Statement.{statement}
 use Rattle.tree.proofs.soundness.is_sound.Tie as tie
-use Rattle.paper.specs.Limits.{mostClaims, scratchRoom}
+use Rattle.paper.specs.Limits.{mostClaims, scratchNodes}
 
--- the scratch rooms hold what any table in range needs
-scratch-room : (n : ℕ) → n ≤ mostClaims → n * 6 ≤ length (replicate {A = ℕ} scratchRoom 0)
-scratch-room n h = omega (arith, length-replicate {A = ℕ} scratchRoom 0)
+-- the scratch nodes hold what any table in range needs
+scratch-room : (n : ℕ) → n ≤ mostClaims → n * 6 ≤ length (replicate {A = ℕ} scratchNodes 0)
+scratch-room n h = omega (arith, length-replicate {A = ℕ} scratchNodes 0)
 
 returns : tie.Need-returns
 returns c = λ references. sound-over (store _ references _ _) (c .if1 .taken)
@@ -45,7 +45,7 @@ same-front-requires : tie.Need-same-front-requires
 same-front-requires c κs =
     let p = c .before .before .before .before .before .before .before .before .before .pre in
     let f = rebuild-few _ _ _ _ _ _ _ (c .before .before .before .before .rebuild .ensures) (scratch-room _ (omega (arith, p .most))) (omega (arith, p .most)) in
-    (omega (arith, f .0, f .1, p .most, scratch-room mostClaims (lit≤ tt)), omega (arith, f .0, p .rooms))
+    (omega (arith, f .0, f .1, p .most, scratch-room mostClaims (lit≤ tt)), omega (arith, f .0, p .nodes))
 
 returns-3 : tie.Need-returns-3
 returns-3 c =

@@ -9,11 +9,11 @@ use Rattle.tree.proofs.soundness.rebuild.Statement.{statement}
 use Rattle.tree.proofs.soundness.rebuild.Tie as tie
 
 abbrev Inv-loop : tie.InvT-loop
-Inv-loop rooms₀ measure d coordinates n used₀ k₀ rooms used k =
-    (k ≤ n) × (length rooms ≡ length rooms₀) × (grown rooms used ≡ built (apart measure d coordinates) k rooms₀)
+Inv-loop nodes₀ measure d coordinates n used₀ k₀ nodes used k =
+    (k ≤ n) × (length nodes ≡ length nodes₀) × (grown nodes used ≡ built (apart measure d coordinates) k nodes₀)
 
 abbrev μ-loop : tie.MeasureT-loop
-μ-loop rooms₀ measure d coordinates n used₀ k₀ rooms used k = n - k
+μ-loop nodes₀ measure d coordinates n used₀ k₀ nodes used k = n - k
 
 loop-holds : tie.Need-loop-holds Inv-loop μ-loop
 loop-holds c = (omega arith, refl, rebuild-start _ _)

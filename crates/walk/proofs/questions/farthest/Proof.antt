@@ -15,7 +15,7 @@ first-requires : tie.Need-first-requires
 first-requires c κs = search needs
 
 returns : tie.Need-returns
-returns c = let a = c .before .before .before .before .before .args in farthest-is (store (a .t) (a .references .now) (a .coordinates .now) (a .rooms .now)) (a .probe .now) _ _ _ (c .before .before .numbered .ensures) (c .before .greatest .ensures) (c .first .ensures)
+returns c = let a = c .before .before .before .before .before .args in farthest-is (store (a .t) (a .references .now) (a .coordinates .now) (a .nodes .now)) (a .probe .now) _ _ _ (c .before .before .numbered .ensures) (c .before .greatest .ensures) (c .first .ensures)
 
 pub farthest-spec : {M : Type 1} → statement M
 farthest-spec = tie.close (tie.spec numbered-requires greatest-requires first-requires returns)

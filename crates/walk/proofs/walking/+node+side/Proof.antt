@@ -7,7 +7,7 @@ use lib.Dec.{lit<}
 use borrow.Fn.Kinds.{In}
 use borrow.Fn.PlainCycle.{Measures, is, falls, and}
 use Rattle.paper.proofs.orders.Order.rank.Reads as rank-reads
-use Rattle.tree.proofs.rooms.field.Reads as field-reads
+use Rattle.tree.proofs.nodes.field.Reads as field-reads
 use Rattle.walk.specs.Walking.{distBy, apartBy}
 use Rattle.walk.proofs.Skipping.{metric}
 use Rattle.walk.proofs.NodesAndSides.{side-none, side-down, node-one, node-left-first, node-right-first, stored-here, left-here, in-sight, way-ready, side-ready, side-falls, leftAbove, node-falls, roomy-again}
@@ -79,7 +79,7 @@ node-same-length : (t : ℕ) → node-lts.Need-same-length (node-calls t) (node-
 node-same-length t c = c .before .before .before .before .consider .kept .1 .1 .1 .1 .0
 
 node-returns : (t : ℕ) → node-lts.Need-returns (node-calls t) (node-at t) node.Post
-node-returns t c = let a = c .before .before .before .before .before .before .before .before .before .before .before .args in node-one (a .ask) (a .references .now) (a .rooms .now) (apartBy (a .ask) (a .coordinates .now)) (distBy (a .ask) (a .coordinates .now) (a .probe .now)) _ _ _ _ (c .before .before .before .before .before .before .before .field .ensures) _ (c .before .field2 .ensures) _ (c .before .before .before .before .before .before .from-probe .ensures) _ _ (c .before .before .before .before .consider .ensures) (c .if1 .taken)
+node-returns t c = let a = c .before .before .before .before .before .before .before .before .before .before .before .args in node-one (a .ask) (a .references .now) (a .nodes .now) (apartBy (a .ask) (a .coordinates .now)) (distBy (a .ask) (a .coordinates .now) (a .probe .now)) _ _ _ _ (c .before .before .before .before .before .before .before .field .ensures) _ (c .before .field2 .ensures) _ (c .before .before .before .before .before .before .from-probe .ensures) _ _ (c .before .before .before .before .consider .ensures) (c .if1 .taken)
 
 node-sub-kr : (t : ℕ) → node-lts.Need-sub-kr (node-calls t) (node-at t) node.Post
 node-sub-kr t c = let h = c .if1 .left in omega arith
@@ -112,7 +112,7 @@ node-same-length-2 : (t : ℕ) → node-lts.Need-same-length-2 (node-calls t) (n
 node-same-length-2 t c = c .before .before .side2 .kept .1 .1 .1 .1 .1 .1 .0 ∙ c .before .before .before .before .before .before .before .before .side .kept .1 .1 .1 .1 .1 .1 .0 ∙ c .before .before .before .before .before .before .before .before .before .before .before .before .before .before .before .before .before .consider2 .kept .1 .1 .1 .1 .0 ∙ c .before .before .before .before .before .before .before .before .before .before .before .before .before .before .before .before .before .before .before .before .before .before .before .before .consider .kept .1 .1 .1 .1 .0
 
 node-returns-2 : (t : ℕ) → node-lts.Need-returns-2 (node-calls t) (node-at t) node.Post
-node-returns-2 t c = let a = c .before .before .before .before .before .before .before .before .before .before .before .before .before .before .before .before .before .before .before .before .before .before .before .before .before .before .before .before .before .before .before .args in let p = c .before .before .before .before .before .before .before .before .before .before .before .before .before .before .before .before .before .before .before .before .before .before .before .before .before .before .before .before .before .before .before .pre .1 in node-right-first (a .ask) (a .references .now) (a .rooms .now) (apartBy (a .ask) (a .coordinates .now)) (distBy (a .ask) (a .coordinates .now) (a .probe .now)) _ _ _ _ (c .before .before .before .before .before .before .before .before .before .before .before .before .before .before .before .before .before .before .before .before .before .before .before .before .before .before .before .field .ensures) _ (c .before .before .before .before .before .before .before .before .before .before .before .before .before .before .before .before .before .before .before .before .before .field2 .ensures) _ (c .before .before .before .before .before .before .before .before .before .before .before .before .before .before .before .before .before .before .before .before .before .before .before .before .before .before .from-probe .ensures) _ _ (c .before .before .before .before .before .before .before .before .before .before .before .before .before .before .before .before .before .before .before .before .before .before .before .before .consider .ensures) _ (c .before .before .before .before .before .before .before .before .before .before .before .before .before .before .before .before .before .before .before .from-probe2 .ensures) _ _ (c .before .before .before .before .before .before .before .before .before .before .before .before .before .before .before .before .before .consider2 .ensures) _ _ _ _ (metric (a .ask) (a .coordinates .now) (a .probe .now)) (p .roomy .some) _ (c .before .before .before .before .before .before .before .before .before .before .before .before .before .before .rank .ensures) _ (c .before .before .before .before .before .before .before .before .before .before .before .before .before .rank2 .ensures) _ _ (c .before .before .before .before .before .before .before .before .before .before .way-down .ensures) (c .before .before .before .before .before .before .before .before .side .ensures) (c .before .before .before .before .way-down2 .ensures) (c .before .before .side2 .ensures)
+node-returns-2 t c = let a = c .before .before .before .before .before .before .before .before .before .before .before .before .before .before .before .before .before .before .before .before .before .before .before .before .before .before .before .before .before .before .before .args in let p = c .before .before .before .before .before .before .before .before .before .before .before .before .before .before .before .before .before .before .before .before .before .before .before .before .before .before .before .before .before .before .before .pre .1 in node-right-first (a .ask) (a .references .now) (a .nodes .now) (apartBy (a .ask) (a .coordinates .now)) (distBy (a .ask) (a .coordinates .now) (a .probe .now)) _ _ _ _ (c .before .before .before .before .before .before .before .before .before .before .before .before .before .before .before .before .before .before .before .before .before .before .before .before .before .before .before .field .ensures) _ (c .before .before .before .before .before .before .before .before .before .before .before .before .before .before .before .before .before .before .before .before .before .field2 .ensures) _ (c .before .before .before .before .before .before .before .before .before .before .before .before .before .before .before .before .before .before .before .before .before .before .before .before .before .before .from-probe .ensures) _ _ (c .before .before .before .before .before .before .before .before .before .before .before .before .before .before .before .before .before .before .before .before .before .before .before .before .consider .ensures) _ (c .before .before .before .before .before .before .before .before .before .before .before .before .before .before .before .before .before .before .before .from-probe2 .ensures) _ _ (c .before .before .before .before .before .before .before .before .before .before .before .before .before .before .before .before .before .consider2 .ensures) _ _ _ _ (metric (a .ask) (a .coordinates .now) (a .probe .now)) (p .roomy .some) _ (c .before .before .before .before .before .before .before .before .before .before .before .before .before .before .rank .ensures) _ (c .before .before .before .before .before .before .before .before .before .before .before .before .before .rank2 .ensures) _ _ (c .before .before .before .before .before .before .before .before .before .before .way-down .ensures) (c .before .before .before .before .before .before .before .before .side .ensures) (c .before .before .before .before .way-down2 .ensures) (c .before .before .side2 .ensures)
 
 node-way-down-requires-3 : (t : ℕ) → node-lts.Need-way-down-requires-3 (node-calls t) (node-at t) node.Post
 node-way-down-requires-3 t c κs = way-ready _ _ _ _ _ _ _ _ (c .before .before .before .before .before .before .before .before .before .before .before .before .before .before .before .before .before .before .before .before .pre .1) 0 (lit< tt) _ _ (c .before .before .before .before .before .before .consider2 .kept .1 .1 .1 .1 .0 ∙ c .before .before .before .before .before .before .before .before .before .before .before .before .before .consider .kept .1 .1 .1 .1 .0) (c .before .before .before .before .before .before .consider2 .ensures .few)
@@ -130,10 +130,10 @@ node-same-length-3 : (t : ℕ) → node-lts.Need-same-length-3 (node-calls t) (n
 node-same-length-3 t c = c .before .before .side4 .kept .1 .1 .1 .1 .1 .1 .0 ∙ c .before .before .before .before .before .before .before .before .side3 .kept .1 .1 .1 .1 .1 .1 .0 ∙ c .before .before .before .before .before .before .before .before .before .before .before .before .before .before .before .before .before .consider2 .kept .1 .1 .1 .1 .0 ∙ c .before .before .before .before .before .before .before .before .before .before .before .before .before .before .before .before .before .before .before .before .before .before .before .before .consider .kept .1 .1 .1 .1 .0
 
 node-returns-3 : (t : ℕ) → node-lts.Need-returns-3 (node-calls t) (node-at t) node.Post
-node-returns-3 t c = let a = c .before .before .before .before .before .before .before .before .before .before .before .before .before .before .before .before .before .before .before .before .before .before .before .before .before .before .before .before .before .before .before .args in let p = c .before .before .before .before .before .before .before .before .before .before .before .before .before .before .before .before .before .before .before .before .before .before .before .before .before .before .before .before .before .before .before .pre .1 in node-left-first (a .ask) (a .references .now) (a .rooms .now) (apartBy (a .ask) (a .coordinates .now)) (distBy (a .ask) (a .coordinates .now) (a .probe .now)) _ _ _ _ (c .before .before .before .before .before .before .before .before .before .before .before .before .before .before .before .before .before .before .before .before .before .before .before .before .before .before .before .field .ensures) _ (c .before .before .before .before .before .before .before .before .before .before .before .before .before .before .before .before .before .before .before .before .before .field2 .ensures) _ (c .before .before .before .before .before .before .before .before .before .before .before .before .before .before .before .before .before .before .before .before .before .before .before .before .before .before .from-probe .ensures) _ _ (c .before .before .before .before .before .before .before .before .before .before .before .before .before .before .before .before .before .before .before .before .before .before .before .before .consider .ensures) _ (c .before .before .before .before .before .before .before .before .before .before .before .before .before .before .before .before .before .before .before .from-probe2 .ensures) _ _ (c .before .before .before .before .before .before .before .before .before .before .before .before .before .before .before .before .before .consider2 .ensures) _ _ _ _ (metric (a .ask) (a .coordinates .now) (a .probe .now)) (p .roomy .some) _ (c .before .before .before .before .before .before .before .before .before .before .before .before .before .before .rank .ensures) _ (c .before .before .before .before .before .before .before .before .before .before .before .before .before .rank2 .ensures) _ _ (c .before .before .before .before .before .before .before .before .before .before .way-down3 .ensures) (c .before .before .before .before .before .before .before .before .side3 .ensures) (c .before .before .before .before .way-down4 .ensures) (c .before .before .side4 .ensures)
+node-returns-3 t c = let a = c .before .before .before .before .before .before .before .before .before .before .before .before .before .before .before .before .before .before .before .before .before .before .before .before .before .before .before .before .before .before .before .args in let p = c .before .before .before .before .before .before .before .before .before .before .before .before .before .before .before .before .before .before .before .before .before .before .before .before .before .before .before .before .before .before .before .pre .1 in node-left-first (a .ask) (a .references .now) (a .nodes .now) (apartBy (a .ask) (a .coordinates .now)) (distBy (a .ask) (a .coordinates .now) (a .probe .now)) _ _ _ _ (c .before .before .before .before .before .before .before .before .before .before .before .before .before .before .before .before .before .before .before .before .before .before .before .before .before .before .before .field .ensures) _ (c .before .before .before .before .before .before .before .before .before .before .before .before .before .before .before .before .before .before .before .before .before .field2 .ensures) _ (c .before .before .before .before .before .before .before .before .before .before .before .before .before .before .before .before .before .before .before .before .before .before .before .before .before .before .from-probe .ensures) _ _ (c .before .before .before .before .before .before .before .before .before .before .before .before .before .before .before .before .before .before .before .before .before .before .before .before .consider .ensures) _ (c .before .before .before .before .before .before .before .before .before .before .before .before .before .before .before .before .before .before .before .from-probe2 .ensures) _ _ (c .before .before .before .before .before .before .before .before .before .before .before .before .before .before .before .before .before .consider2 .ensures) _ _ _ _ (metric (a .ask) (a .coordinates .now) (a .probe .now)) (p .roomy .some) _ (c .before .before .before .before .before .before .before .before .before .before .before .before .before .before .rank .ensures) _ (c .before .before .before .before .before .before .before .before .before .before .before .before .before .rank2 .ensures) _ _ (c .before .before .before .before .before .before .before .before .before .before .way-down3 .ensures) (c .before .before .before .before .before .before .before .before .side3 .ensures) (c .before .before .before .before .way-down4 .ensures) (c .before .before .side4 .ensures)
 
 side-returns : (t : ℕ) → side-lts.Need-returns (side-calls t) (side-at t) side.Post
-side-returns t c = let a = c .before .before .before .before .args in side-none (a .ask) (a .references .now) (a .rooms .now) (apartBy (a .ask) (a .coordinates .now)) (distBy (a .ask) (a .coordinates .now) (a .probe .now)) _ _ _ (c .before .before .before .before .pre .1 .roomy .few) (c .if1 .taken)
+side-returns t c = let a = c .before .before .before .before .args in side-none (a .ask) (a .references .now) (a .nodes .now) (apartBy (a .ask) (a .coordinates .now)) (distBy (a .ask) (a .coordinates .now) (a .probe .now)) _ _ _ (c .before .before .before .before .pre .1 .roomy .few) (c .if1 .taken)
 
 side-sub-m : (t : ℕ) → side-lts.Need-sub-m (side-calls t) (side-at t) side.Post
 side-sub-m t c = let h = c .if1 .left in omega arith
@@ -145,7 +145,7 @@ side-same-length : (t : ℕ) → side-lts.Need-same-length (side-calls t) (side-
 side-same-length t c = c .before .before .node .kept .1 .1 .1 .1 .1 .1 .0
 
 side-returns-2 : (t : ℕ) → side-lts.Need-returns-2 (side-calls t) (side-at t) side.Post
-side-returns-2 t c = let a = c .before .before .before .before .before .before .before .before .args in side-down (a .ask) (a .references .now) (a .rooms .now) (apartBy (a .ask) (a .coordinates .now)) (distBy (a .ask) (a .coordinates .now) (a .probe .now)) _ _ _ _ _ (c .before .before .node .ensures)
+side-returns-2 t c = let a = c .before .before .before .before .before .before .before .before .args in side-down (a .ask) (a .references .now) (a .nodes .now) (apartBy (a .ask) (a .coordinates .now)) (distBy (a .ask) (a .coordinates .now) (a .probe .now)) _ _ _ _ _ (c .before .before .node .ensures)
 
 pub +node+side-spec : {M : Type 1} → statement M
 +node+side-spec =

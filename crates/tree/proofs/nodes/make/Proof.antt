@@ -1,4 +1,4 @@
--- `tree::rooms::make` meets its contract: a store, and one for each further field. Assumes nothing.
+-- `tree::nodes::make` meets its contract: a store, and one for each further field. Assumes nothing.
 use Prim.Native.Nat.{ℕ, _+_, _-_, _≤_}
 use mathlib.Core.Path.{_≡_, refl, ap, _∙_}
 use mathlib.Core.List.{List}
@@ -6,26 +6,26 @@ use native.Mathlib.Omega.{arith}
 use native.Mathlib.Numerals.{add-one}
 use lib.ListN.{length}
 use Rattle.paper.specs.Tree.{putField, cleared, newNode}
-use Rattle.tree.proofs.rooms.make.Statement.{statement}
-use Rattle.tree.proofs.rooms.make.Tie as tie
+use Rattle.tree.proofs.nodes.make.Statement.{statement}
+use Rattle.tree.proofs.nodes.make.Tie as tie
 
 abbrev Inv-loop : tie.InvT-loop
-Inv-loop rooms₀ w k f₀ rooms f = (f ≤ 5) × (length rooms ≡ length rooms₀) × (rooms ≡ cleared rooms₀ w f)
+Inv-loop nodes₀ w k f₀ nodes f = (f ≤ 5) × (length nodes ≡ length nodes₀) × (nodes ≡ cleared nodes₀ w f)
 
 abbrev μ-loop : tie.MeasureT-loop
-μ-loop rooms₀ w k f₀ rooms f = 5 - f
+μ-loop nodes₀ w k f₀ nodes f = 5 - f
 
-none : (rooms : List ℕ) (w : ℕ) → rooms ≡ cleared rooms w 0
+none : (nodes : List ℕ) (w : ℕ) → nodes ≡ cleared nodes w 0
 unfolding cleared
-none rooms w = refl
+none nodes w = refl
 
-more : (rooms now next : List ℕ) (w f : ℕ) → now ≡ cleared rooms w f → next ≡ putField now w (f + 1) 0 → next ≡ cleared rooms w (f + 1)
+more : (nodes now next : List ℕ) (w f : ℕ) → now ≡ cleared nodes w f → next ≡ putField now w (f + 1) 0 → next ≡ cleared nodes w (f + 1)
 unfolding cleared
-more rooms now next w f e h = rw (add-one f, ← e) (rw (add-one f) at h)
+more nodes now next w f e h = rw (add-one f, ← e) (rw (add-one f) at h)
 
-whole : (rooms first last : List ℕ) (w k f : ℕ) → first ≡ putField rooms w 0 (k + 1) → last ≡ cleared first w f → f ≡ 5 → last ≡ newNode rooms w k
+whole : (nodes first last : List ℕ) (w k f : ℕ) → first ≡ putField nodes w 0 (k + 1) → last ≡ cleared first w f → f ≡ 5 → last ≡ newNode nodes w k
 unfolding newNode
-whole rooms first last w k f e h q = h ∙ ap (λ (n : ℕ). cleared first w n) q ∙ ap (λ (l : List ℕ). cleared l w 5) e
+whole nodes first last w k f e h q = h ∙ ap (λ (n : ℕ). cleared first w n) q ∙ ap (λ (l : List ℕ). cleared l w 5) e
 
 add-store : tie.Need-add-store Inv-loop μ-loop
 add-store c = omega arith
