@@ -26,7 +26,7 @@ abbrev pub header : ℕ → ℕ → ℕ → ℕ → ℕ → Table
 header measure d capacity count used =
     record { number = 7; measure = measure; d = d; capacity = capacity; count = count; used = used }
 
--- an empty table, in memory for so many references, coordinates and numbers of rooms
+-- an empty table, in memory for so many references, coordinates and numbers of nodes
 abbrev pub empty : ℕ → ℕ → ℕ → ℕ → ℕ → ℕ → Store
 empty measure d capacity references coordinates nodes =
     store (header measure d capacity 0 0) (replicate references 9) (replicate coordinates (pos 9)) (replicate nodes 9)
@@ -35,7 +35,7 @@ empty measure d capacity references coordinates nodes =
 abbrev pub none : Store
 none = empty 1 1 6 6 6 36
 
--- example a's rooms, its far distance and its last field as given; behind them and behind the claims stands what the memory held
+-- example a's nodes, its far distance and its last field as given; behind them and behind the claims stands what the memory held
 abbrev pub roomsOf : ℕ → ℕ → List ℕ
 roomsOf far field =
     (1 ∷ 2 ∷ 0 ∷ far ∷ 0 ∷ 2 ∷ [])
@@ -137,7 +137,7 @@ pub record EnteringMarked : Type 0 where
   pub changedLast2 : passed (fiveIn 6 (roomsOf 6 1)) ≡ refused 2
   pub over2 : passed (fiveIn 4 (roomsOf 6 0)) ≡ refused 2
   pub short1 : passed short ≡ refused 1
-  -- the five claims into a table that has none: example a's rooms
+  -- the five claims into a table that has none: example a's nodes
   pub entered : enterCall none (101 ∷ 102 ∷ 103 ∷ 104 ∷ 105 ∷ []) (pos 2 ∷ pos 3 ∷ pos 9 ∷ pos 6 ∷ pos 5 ∷ []) ≡ gives five
   -- [3.15] a run of no claims
   pub nothingEntered : enterCall five [] [] ≡ gives five

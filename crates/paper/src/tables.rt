@@ -1,4 +1,4 @@
-// The header of a table. Its claims and rooms lie in memory that the caller lends.
+// The header of a table. Its claims and nodes lie in memory that the caller lends.
 
 // [3.1] What a table is called and measured by, and how much of its memory is in use.
 #[repr(C)]
@@ -8,7 +8,7 @@ pub struct Table {
     pub d: usize,
     pub capacity: usize,
     pub count: usize,
-    // Node rooms in use.
+    // Nodes in use.
     pub used: usize,
 }
 

@@ -226,7 +226,7 @@ next-here nodes used n m s x h hs read some =
 pub roomy-again : (size : ℕ) (o o' : List ℕ) (count r : ℕ) → Roomy size o count → length o' ≡ length o → r ≤ size → Roomy size o' r
 roomy-again size o o' count r h e few = record { some = h .some; few = few; long = omega (arith, h .long) }
 
--- the rooms left above the one that a side leads to, counted for the measure of the walk
+-- the nodes left above the one that a side leads to, counted for the measure of the walk
 abbrev pub leftAbove : ℕ → ℕ → ℕ
 leftAbove used zero = 0
 leftAbove used (suc k) = (used - k) * 2 + 1

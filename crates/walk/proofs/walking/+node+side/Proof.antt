@@ -1,4 +1,4 @@
--- The pair `node` and `side` meets its contracts: the two call each other, and each call leaves fewer rooms above the one that is
+-- The pair `node` and `side` meets its contracts: the two call each other, and each call leaves fewer nodes above the one that is
 -- looked at. The measure is twice as many, and one more for `side`. Assumes nothing.
 use Prim.Native.Nat.{ℕ, _-_, _*_, _<_}
 use mathlib.Core.Path.{_∙_}
