@@ -27,7 +27,7 @@ pub struct NearSide {
 fn nearer(nodes: &[u64], measure: u8, d: usize, coordinates: &[i32], m: usize, k: u64) -> NearSide
     requires { ⌜ (HasClaim (now nodes) k m 0 × HasClaim (now nodes) k m 1) × Located d (k + 1) (now coordinates) ⌝ }
     ensures { λ r. ⌜ (r .side ≡ nearSide (apart measure d (now (coordinates .entry))) (now (nodes .entry)) m k)
-        × (r .distance ≡ apart measure d (now (coordinates .entry)) (claimAt (now (nodes .entry)) m (r .side)) k) ⌝ }
+        × (r .distance ≡ apart measure d (now (coordinates .entry)) (sideClaim (now (nodes .entry)) m (r .side)) k) ⌝ }
 {
     let left = field(nodes, m, 0);
     let right = field(nodes, m, 1);

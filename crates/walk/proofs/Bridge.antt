@@ -17,7 +17,7 @@ use Rattle.paper.specs.declared.points.Measure.{Measure}
 use Rattle.paper.specs.declared.tables.Table.{Table}
 use Rattle.paper.specs.Points.{measureOf, distance, Claim, zeroClaim, point}
 use Rattle.paper.specs.Orders.{Item, Query, rank, earlier, itemOf, listed, follows, rest, snapshotOf, following, pageOf, flat, fronted}
-use Rattle.paper.specs.Orders.{insertBy as put}
+use Rattle.paper.specs.Orders.{insert as put}
 use Rattle.paper.specs.Tree.{claimsFrom, referenceAt}
 use Rattle.paper.specs.Calls.{tableQuery}
 use Rattle.tree.proofs.Places.{claims-length}
