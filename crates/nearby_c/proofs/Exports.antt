@@ -15,9 +15,10 @@ use Rattle.paper.specs.declared.lists.Taken.{Taken}
 use Rattle.paper.specs.Outcomes.{Outcome, Promise}
 use Rattle.paper.specs.Lists.{Takes, takenAs, putItems}
 use Rattle.paper.specs.Ends as Ends
-use Rattle.c_values.specs.declared.Listed.{Listed}
+use Rattle.c_lists.specs.declared.Listed.{Listed}
 use Rattle.c_values.specs.declared.Written.{Written}
-use Rattle.c_values.specs.Values.{takenOut, TakesOut, writtenOf, WritesOut}
+use Rattle.c_lists.specs.Values.{takenOut, TakesOut}
+use Rattle.c_values.specs.Values.{writtenOf, WritesOut}
 use Rattle.paper.specs.Orders.{Query, queryIn}
 use Rattle.paper.specs.Fields.{inPlaces}
 use Rattle.paper.specs.Frames.{frameOf, isLine}

@@ -3,14 +3,15 @@ ghost use mathlib.Core.Path.{_≡_};
 ghost use lib.ListN.{length};
 ghost use Rattle.paper.specs.Lists.{held, openingHeld, openedTold, askingHeld, takingHeld};
 ghost use Rattle.paper.specs.Codec.{lines};
-ghost use Rattle.c_values.specs.Values.{nearQuery, listIn, openedOut, WritesOut, TakesOut};
-use c_values::Listed;
-use c_values::Listing;
+ghost use Rattle.c_lists.specs.Values.{nearQuery, listIn, openedOut, TakesOut};
+ghost use Rattle.c_values.specs.Values.{WritesOut};
+use c_lists::Listed;
+use c_lists::Listing;
 use c_values::Written;
 use c_values::line_of;
-use c_values::list_in;
-use c_values::list_opened;
-use c_values::list_taken;
+use c_lists::list_in;
+use c_lists::list_opened;
+use c_lists::list_taken;
 
 // [9.11] Refusals 1, 5.
 #[no_mangle]

@@ -4,7 +4,7 @@ use mathlib.Core.Path.{ap, sym, subst, _∙_}
 use Rattle.paper.specs.declared.lines.AnswerRead.{AnswerRead}
 use Rattle.paper.specs.declared.orders.Order.the-variants.{Near}
 use Rattle.paper.specs.Limits.{mostPlaces}
-use Rattle.c_values.specs.Values.{answerOut}
+use Rattle.c_lists.specs.Values.{answerOut}
 use Rattle.nearby_c.proofs.Exports.{answer-narrow}
 use borrow.Author.Needs.{needs}
 use Rattle.nearby_c.proofs.bare.nearby_read_answer_line.Statement.{statement}

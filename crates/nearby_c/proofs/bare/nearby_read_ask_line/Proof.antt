@@ -3,7 +3,7 @@ use Prim.Native.Nat.{_≤_}
 use mathlib.Core.Path.{ap, sym, subst, _∙_}
 use Rattle.paper.specs.declared.lines.AskRead.{AskRead}
 use Rattle.paper.specs.Limits.{mostPlaces}
-use Rattle.c_values.specs.Values.{askOut}
+use Rattle.c_lists.specs.Values.{askOut}
 use Rattle.nearby_c.proofs.Exports.{ask-narrow}
 use borrow.Author.Needs.{needs}
 use Rattle.nearby_c.proofs.bare.nearby_read_ask_line.Statement.{statement}

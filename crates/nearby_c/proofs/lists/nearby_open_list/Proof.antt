@@ -1,6 +1,6 @@
 -- `nearby_c::lists::nearby_open_list` meets its contract: what `nearby::open_list` gives. Assumes nothing.
 use mathlib.Core.Path.{ap, _∙_}
-use Rattle.c_values.specs.Values.{openedOut}
+use Rattle.c_lists.specs.Values.{openedOut}
 use borrow.Author.Needs.{needs}
 use Rattle.nearby_c.proofs.lists.nearby_open_list.Statement.{statement}
 use Rattle.nearby_c.proofs.lists.nearby_open_list.Tie as tie

@@ -1,7 +1,7 @@
--- `c_values::list_taken` meets its contract. Assumes nothing.
+-- `c_lists::list_taken` meets its contract. Assumes nothing.
 use borrow.Author.Needs.{needs}
-use Rattle.c_values.proofs.list_taken.Statement.{statement}
-use Rattle.c_values.proofs.list_taken.Tie as tie
+use Rattle.c_lists.proofs.list_taken.Statement.{statement}
+use Rattle.c_lists.proofs.list_taken.Tie as tie
 
 list-out-requires : tie.Need-list-out-requires
 list-out-requires c κs = search needs

@@ -1,7 +1,7 @@
--- `c_values::ask_out` meets its contract: the ask's query and scope as fields side by side. Assumes nothing.
+-- `c_lists::ask_out` meets its contract: the ask's query and scope as fields side by side. Assumes nothing.
 use borrow.Author.Needs.{needs}
-use Rattle.c_values.proofs.ask_out.Statement.{statement}
-use Rattle.c_values.proofs.ask_out.Tie as tie
+use Rattle.c_lists.proofs.ask_out.Statement.{statement}
+use Rattle.c_lists.proofs.ask_out.Tie as tie
 
 cast-t7 : tie.Need-cast-t7
 cast-t7 c = search needs

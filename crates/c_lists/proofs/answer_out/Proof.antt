@@ -1,7 +1,7 @@
--- `c_values::answer_out` meets its contract: the answer's query and scope as fields side by side. Assumes nothing.
+-- `c_lists::answer_out` meets its contract: the answer's query and scope as fields side by side. Assumes nothing.
 use borrow.Author.Needs.{needs}
-use Rattle.c_values.proofs.answer_out.Statement.{statement}
-use Rattle.c_values.proofs.answer_out.Tie as tie
+use Rattle.c_lists.proofs.answer_out.Statement.{statement}
+use Rattle.c_lists.proofs.answer_out.Tie as tie
 
 cast-t8 : tie.Need-cast-t8
 cast-t8 c = search needs

@@ -1,7 +1,7 @@
--- `c_values::list_opened` meets its contract. Assumes nothing.
+-- `c_lists::list_opened` meets its contract. Assumes nothing.
 use borrow.Author.Needs.{needs}
-use Rattle.c_values.proofs.list_opened.Statement.{statement}
-use Rattle.c_values.proofs.list_opened.Tie as tie
+use Rattle.c_lists.proofs.list_opened.Statement.{statement}
+use Rattle.c_lists.proofs.list_opened.Tie as tie
 
 list-out-requires : tie.Need-list-out-requires
 list-out-requires c κs = search needs

@@ -1,7 +1,7 @@
--- `c_values::list_out` meets its contract: the fields, with flags as numbers. Assumes nothing.
+-- `c_lists::list_out` meets its contract: the fields, with flags as numbers. Assumes nothing.
 use borrow.Author.Needs.{needs}
-use Rattle.c_values.proofs.list_out.Statement.{statement}
-use Rattle.c_values.proofs.list_out.Tie as tie
+use Rattle.c_lists.proofs.list_out.Statement.{statement}
+use Rattle.c_lists.proofs.list_out.Tie as tie
 
 flag-requires : tie.Need-flag-requires
 flag-requires c κs = search needs
