@@ -11,11 +11,11 @@ ghost use Rattle.paper.specs.Limits.{longestAnswer, longestAsk, longestClaim, m
 use c_lists::AnswerShown;
 use c_lists::AskShown;
 use c_lists::Extent;
-use c_values::Written;
 use c_lists::answer_out;
 use c_lists::ask_out;
-use c_values::line_of;
 use c_lists::scope_in;
+use c_values::Written;
+use c_values::line_of;
 use paper::limits::MOST_PLACES;
 use paper::lines::ClaimRead;
 use paper::lines::Wrote;

@@ -7,11 +7,11 @@ ghost use Rattle.c_lists.specs.Values.{nearQuery, listIn, openedOut, TakesOut};
 ghost use Rattle.c_values.specs.Values.{WritesOut};
 use c_lists::Listed;
 use c_lists::Listing;
-use c_values::Written;
-use c_values::line_of;
 use c_lists::list_in;
 use c_lists::list_opened;
 use c_lists::list_taken;
+use c_values::Written;
+use c_values::line_of;
 
 // [9.11] Refusals 1, 5.
 #[no_mangle]
