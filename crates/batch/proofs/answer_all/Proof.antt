@@ -37,9 +37,13 @@ same-length-2 c = search needs
 
 returns-3 : tie.Need-returns-3
 returns-3 c =
-    let a = c .before .before .before .before .before .before .before .before .before .before .before .before .before .before .before .args in
+    let args = c .before .before .before .before .before .before .before .before .before .before .before .before .before .before .before .args in
+    let if1 = c .before .before .before .before .before .before .before .before .before .if1 in
+    let table-refusal = c .before .before .before .before .before .before .before .before .table-refusal in
+    let if2 = c .before .before .before .before .before .before .before .if2 in
+    let a = args in
     let s = store (a .t) (a .references .now) (a .coordinates .now) (a .nodes .now) in
-    all-answered s (a .asks .now) (a .outcomes .now) (a .out .now) _ (c .before .before .before .before .before .before .before .before .before .if1 .left) _ (c .before .before .before .before .before .before .before .before .table-refusal .ensures) (c .before .before .before .before .before .before .before .if2 .left) _ _ (c .before .before .before .before .answer-lines .ensures)
+    all-answered s (a .asks .now) (a .outcomes .now) (a .out .now) _ (if1 .left) _ (table-refusal .ensures) (if2 .left) _ _ (c .before .before .before .before .answer-lines .ensures)
 
 pub answer-all-spec : {M : Type 1} → statement M
 answer-all-spec =

@@ -33,13 +33,20 @@ same-length : tie.Need-same-length Inv-loop μ-loop
 same-length c = c .before .before .before .before .keep .kept .0 ∙ c .before .before .before .before .before .before .before .before .loop .inv .0
 
 returns : tie.Need-returns Inv-loop μ-loop
-returns c = let l = c .before .before .before .before .before .before .before .before .loop in cut-ends _ _ _ _ _ _ _ _ (l .inv .2) (c .before .before .before .before .before .before .before .loop-test .taken) (c .if1 .taken) (c .before .before .before .before .keep .ensures) (c .before .grow .ensures)
+returns c =
+    let loop = c .before .before .before .before .before .before .before .before .loop in
+    let loop-test = c .before .before .before .before .before .before .before .loop-test in
+    let l = loop in cut-ends _ _ _ _ _ _ _ _ (l .inv .2) (loop-test .taken) (c .if1 .taken) (c .before .before .before .before .keep .ensures) (c .before .grow .ensures)
 
 loop-less : tie.Need-loop-less Inv-loop μ-loop
 loop-less c = omega arith
 
 loop-again : tie.Need-loop-again Inv-loop μ-loop
-loop-again c = let l = c .before .before .before .before .before .before .before .before .loop in (c .before .before .before .before .keep .kept .0 ∙ l .inv .0, l .inv .1, cut-goes _ _ _ _ _ _ _ _ (l .inv .2) (c .before .before .before .before .before .before .before .loop-test .taken) (c .if1 .left) (c .before .before .before .before .keep .ensures) (c .before .grow .ensures))
+loop-again c =
+    let loop = c .before .before .before .before .before .before .before .before .loop in
+    let loop-test = c .before .before .before .before .before .before .before .loop-test in
+    let keep = c .before .before .before .before .keep in
+    let l = loop in (keep .kept .0 ∙ l .inv .0, l .inv .1, cut-goes _ _ _ _ _ _ _ _ (l .inv .2) (loop-test .taken) (c .if1 .left) (keep .ensures) (c .before .grow .ensures))
 
 same-length-2 : tie.Need-same-length-2 Inv-loop μ-loop
 same-length-2 c = c .before .loop .inv .0

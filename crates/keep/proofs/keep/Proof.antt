@@ -44,7 +44,14 @@ same-length-3 : tie.Need-same-length-3
 same-length-3 c = search needs
 
 returns-3 : tie.Need-returns-3
-returns-3 c = keep-more _ _ _ _ _ _ _ _ (c .before .before .before .before .before .before .before .before .before .before .before .before .before .before .before .before .pre) (c .before .before .before .before .before .before .before .before .before .before .before .before .before .place .ensures) _ _ (c .before .before .before .before .before .before .before .before .if3 .taken) (c .before .before .before .before .before .before .shift .ensures) (c .before .before .put-three .ensures) _ (c .before .before .before .before .before .before .before .before .before .before .held .ensures) (c .before .before .before .before .before .before .before .before .before .if2 .left)
+returns-3 c =
+    let pre = c .before .before .before .before .before .before .before .before .before .before .before .before .before .before .before .before .pre in
+    let place = c .before .before .before .before .before .before .before .before .before .before .before .before .before .place in
+    let held = c .before .before .before .before .before .before .before .before .before .before .held in
+    let if2 = c .before .before .before .before .before .before .before .before .before .if2 in
+    let if3 = c .before .before .before .before .before .before .before .before .if3 in
+    let shift = c .before .before .before .before .before .before .shift in
+    keep-more _ _ _ _ _ _ _ _ pre (place .ensures) _ _ (if3 .taken) (shift .ensures) (c .before .before .put-three .ensures) _ (held .ensures) (if2 .left)
 
 mul-shift-3 : tie.Need-mul-shift-3
 mul-shift-3 c = search needs
@@ -68,7 +75,15 @@ same-length-4 : tie.Need-same-length-4
 same-length-4 c = search needs
 
 returns-4 : tie.Need-returns-4
-returns-4 c = keep-over _ _ _ _ _ _ _ _ (c .before .before .before .before .before .before .before .before .before .before .before .before .before .before .before .before .pre) (c .before .before .before .before .before .before .before .before .before .before .before .before .before .place .ensures) _ _ (c .before .before .before .before .before .before .before .before .if3 .left) (c .before .before .before .before .before .before .before .before .before .before .before .before .if1 .left) (c .before .before .before .before .before .before .shift2 .ensures) (c .before .before .put-three2 .ensures) _ (c .before .before .before .before .before .before .before .before .before .before .held .ensures) (c .before .before .before .before .before .before .before .before .before .if2 .left)
+returns-4 c =
+    let pre = c .before .before .before .before .before .before .before .before .before .before .before .before .before .before .before .before .pre in
+    let place = c .before .before .before .before .before .before .before .before .before .before .before .before .before .place in
+    let if1 = c .before .before .before .before .before .before .before .before .before .before .before .before .if1 in
+    let held = c .before .before .before .before .before .before .before .before .before .before .held in
+    let if2 = c .before .before .before .before .before .before .before .before .before .if2 in
+    let if3 = c .before .before .before .before .before .before .before .before .if3 in
+    let shift2 = c .before .before .before .before .before .before .shift2 in
+    keep-over _ _ _ _ _ _ _ _ pre (place .ensures) _ _ (if3 .left) (if1 .left) (shift2 .ensures) (c .before .before .put-three2 .ensures) _ (held .ensures) (if2 .left)
 
 pub keep-spec : {M : Type 1} → statement M
 keep-spec =

@@ -70,7 +70,10 @@ loop-again c =
     )
 
 returns : tie.Need-returns Inv-loop μ-loop
-returns c = let e : c .before .loop .i ≡ c .before .before .args .d = omega arith in c .before .loop .inv .1 ∙ ap (λ (n : ℕ). distance (c .before .before .args .m) n (drop (c .before .before .args .at) (c .before .before .args .a .now)) (drop (c .before .before .args .bt) (c .before .before .args .b .now))) e
+returns c =
+    let args = c .before .before .args in
+    let loop = c .before .loop in
+    let e : loop .i ≡ args .d = omega arith in loop .inv .1 ∙ ap (λ (n : ℕ). distance (args .m) n (drop (args .at) (args .a .now)) (drop (args .bt) (args .b .now))) e
 
 pub measured-spec : {M : Type 1} → statement M
 measured-spec =

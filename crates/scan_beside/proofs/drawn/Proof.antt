@@ -63,13 +63,21 @@ pick-requires-5 : tie.Need-pick-requires-5
 pick-requires-5 c κs = lit< tt
 
 returns-2 : tie.Need-returns-2
-returns-2 c = start-drawn _ _ _ (c .before .before .before .before .before .before .before .before .before .before .before .before .before .before .before .before .pre) (c .before .before .before .from-start2 .ensures) (c .before .before .before .before .before .before .before .before .before .before .before .before .before .pick2 .ensures)
+returns-2 c =
+    let pre = c .before .before .before .before .before .before .before .before .before .before .before .before .before .before .before .before .pre in
+    let pick2 = c .before .before .before .before .before .before .before .before .before .before .before .before .before .pick2 in
+    start-drawn _ _ _ pre (c .before .before .before .from-start2 .ensures) (pick2 .ensures)
 
 from-mark-requires : tie.Need-from-mark-requires
 from-mark-requires c κs = tt
 
 returns-3 : tie.Need-returns-3
-returns-3 c = mark-drawn _ (c .before .before .before .before .from-start2 .result) _ _ (start-drawn _ _ _ (c .before .before .before .before .before .before .before .before .before .before .before .before .before .before .before .before .before .pre) (c .before .before .before .before .from-start2 .ensures) (c .before .before .before .before .before .before .before .before .before .before .before .before .before .before .pick2 .ensures)) (c .from-mark .ensures) (c .before .before .before .before .before .before .before .before .before .before .before .before .pick3 .ensures)
+returns-3 c =
+    let pre = c .before .before .before .before .before .before .before .before .before .before .before .before .before .before .before .before .before .pre in
+    let pick2 = c .before .before .before .before .before .before .before .before .before .before .before .before .before .before .pick2 in
+    let pick3 = c .before .before .before .before .before .before .before .before .before .before .before .before .pick3 in
+    let from-start2 = c .before .before .before .before .from-start2 in
+    mark-drawn _ (from-start2 .result) _ _ (start-drawn _ _ _ pre (from-start2 .ensures) (pick2 .ensures)) (c .from-mark .ensures) (pick3 .ensures)
 
 pub drawn-spec : {M : Type 1} → statement M
 drawn-spec = tie.close (tie.spec pick-requires next-requires pick-requires-2 add-size next-requires-2 add-pick pick-requires-3 next-requires-3 reach-of-requires from-start-requires returns pick-requires-4 cast-distance distance-requires next-requires-4 reach-of-requires-2 from-start-requires-2 next-requires-5 pick-requires-5 returns-2 from-mark-requires returns-3)

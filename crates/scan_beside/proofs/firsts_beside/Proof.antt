@@ -31,7 +31,10 @@ is-nothing-requires-2 : tie.Need-is-nothing-requires-2
 is-nothing-requires-2 c κs = tt
 
 first-requires-3 : tie.Need-first-requires-3
-first-requires-3 c κs = start-scanned _ (c .before .before .before .before .before .before .before .from-start2 .result) _ (c .before .before .before .before .before .before .before .before .before .before .before .pre .1) (c .before .before .before .before .before .before .before .from-start2 .ensures)
+first-requires-3 c κs =
+    let pre = c .before .before .before .before .before .before .before .before .before .before .before .pre in
+    let from-start2 = c .before .before .before .before .before .before .before .from-start2 in
+    start-scanned _ (from-start2 .result) _ (pre .1) (from-start2 .ensures)
 
 same-first-requires-2 : tie.Need-same-first-requires-2
 same-first-requires-2 c κs = tt

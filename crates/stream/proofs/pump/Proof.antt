@@ -43,10 +43,16 @@ emptied-requires c κs = tt
 
 loop-less : tie.Need-loop-less Inv-loop μ-loop
 loop-less c =
-    let v = c .before .before .before .before .before .before .before .before .before .before .before .before .before .before .before .before .before .before .before .before .before .loop .inv in
-    let u = c .before .before .before .before .before .before .before .before .before .before .before .before .before .before .before .before .before .before .before .before .unread .ensures .0 (c .before .before .before .before .before .before .before .before .before .before .before .before .before .before .before .before .before .before .before .if1 .taken) in
-    let t = c .before .before .before .before .before .before .before .before .before .before .before .before .before .feed .ensures .1 .1 .0 (pump-turning _ _ _ u (v .written) (rw (v .out) (c .before .before .before .before .before .before .before .before .before .before .before .before .before .before .before .before .before .before .before .before .before .before .before .before .before .before .before .before .pre .1))) in
-    let e : c .emptied .result .at ≡ c .before .before .before .before .before .before .before .before .before .before .before .before .before .feed .result .at = ap (λ (x : Sitting). x .at) (c .emptied .ensures) in
+    let pre = c .before .before .before .before .before .before .before .before .before .before .before .before .before .before .before .before .before .before .before .before .before .before .before .before .before .before .before .before .pre in
+    let loop = c .before .before .before .before .before .before .before .before .before .before .before .before .before .before .before .before .before .before .before .before .before .loop in
+    let unread = c .before .before .before .before .before .before .before .before .before .before .before .before .before .before .before .before .before .before .before .before .unread in
+    let if1 = c .before .before .before .before .before .before .before .before .before .before .before .before .before .before .before .before .before .before .before .if1 in
+    let feed = c .before .before .before .before .before .before .before .before .before .before .before .before .before .feed in
+    let emptied = c .emptied in
+    let v = loop .inv in
+    let u = unread .ensures .0 (if1 .taken) in
+    let t = feed .ensures .1 .1 .0 (pump-turning _ _ _ u (v .written) (rw (v .out) (pre .1))) in
+    let e : emptied .result .at ≡ feed .result .at = ap (λ (x : Sitting). x .at) (emptied .ensures) in
     omega (arith, t, u .0)
 
 loop-again : tie.Need-loop-again Inv-loop μ-loop

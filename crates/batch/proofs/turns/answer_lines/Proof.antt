@@ -25,10 +25,19 @@ answer-next-requires : tie.Need-answer-next-requires Inv-loop μ-loop
 answer-next-requires c κs = record { sound = c .before .before .before .before .before .before .before .before .before .before .pre; more = goes-is _ _ _ _ (c .before .before .before .goes-on .ensures) (c .before .before .if1 .taken) }
 
 loop-less : tie.Need-loop-less Inv-loop μ-loop
-loop-less c = going-less _ _ _ _ (c .before .before .before .before .before .before .before .before .before .loop .inv .0) (goes-is _ _ _ _ (c .before .before .before .before .before .before .before .before .goes-on .ensures) (c .before .before .before .before .before .before .before .if1 .taken)) _ (c .before .before .before .before .answer-next .ensures .batch)
+loop-less c =
+    let loop = c .before .before .before .before .before .before .before .before .before .loop in
+    let goes-on = c .before .before .before .before .before .before .before .before .goes-on in
+    let if1 = c .before .before .before .before .before .before .before .if1 in
+    going-less _ _ _ _ (loop .inv .0) (goes-is _ _ _ _ (goes-on .ensures) (if1 .taken)) _ (c .before .before .before .before .answer-next .ensures .batch)
 
 loop-again : tie.Need-loop-again Inv-loop μ-loop
-loop-again c = (going-on _ _ _ _ (c .before .before .before .before .before .before .before .before .before .loop .inv .0) (goes-is _ _ _ _ (c .before .before .before .before .before .before .before .before .goes-on .ensures) (c .before .before .before .before .before .before .before .if1 .taken)) _ (c .before .before .before .before .answer-next .ensures .batch) (c .before .before .before .before .answer-next .kept .1 .1 .1 .1 .1 .1 .0) (c .before .before .before .before .answer-next .kept .1 .1 .1 .1 .1 .1 .1 .0), c .before .before .before .before .answer-next .ensures .refusal)
+loop-again c =
+    let loop = c .before .before .before .before .before .before .before .before .before .loop in
+    let goes-on = c .before .before .before .before .before .before .before .before .goes-on in
+    let if1 = c .before .before .before .before .before .before .before .if1 in
+    let answer-next = c .before .before .before .before .answer-next in
+    (going-on _ _ _ _ (loop .inv .0) (goes-is _ _ _ _ (goes-on .ensures) (if1 .taken)) _ (answer-next .ensures .batch) (answer-next .kept .1 .1 .1 .1 .1 .1 .0) (answer-next .kept .1 .1 .1 .1 .1 .1 .1 .0), answer-next .ensures .refusal)
 
 same-length : tie.Need-same-length Inv-loop μ-loop
 same-length c = c .before .before .loop .inv .0 .outcomes

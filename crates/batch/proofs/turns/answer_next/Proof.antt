@@ -69,10 +69,16 @@ add-t16 c =
 
 add-t20 : tie.Need-add-t20
 add-t20 c =
-    let a = c .before .before .before .before .before .before .before .before .before .before .before .before .before .before .before .before .before .args in
+    let args = c .before .before .before .before .before .before .before .before .before .before .before .before .before .before .before .before .before .args in
+    let good = c .before .before .before .before .before .before .before .before .before .before .before .before .before .before .before .before .before .good in
+    let pre = c .before .before .before .before .before .before .before .before .before .before .before .before .before .before .before .before .before .pre in
+    let line-end = c .before .before .before .before .before .before .before .before .before .before .before .line-end in
+    let answer-line = c .before .before .before .before .before .before .before .before .answer-line in
+    let said-of = c .before .before .before .before .before .said-of in
+    let a = args in
     let s = store (a .t) (a .references .now) (a .coordinates .now) (a .nodes .now) in
-    let g = c .before .before .before .before .before .before .before .before .before .before .before .before .before .before .before .before .before .good .1 .1 .1 .1 .1 .1 .1 .0 in
-    let h = said-inside s (a .asks .now) (a .d) (a .outcomes .now) (a .out .now) (c .before .before .before .before .before .before .before .before .before .before .before .before .before .before .before .before .before .pre) _ (c .before .before .before .before .before .before .before .before .before .before .before .line-end .ensures) _ refl _ _ (c .before .before .before .before .before .before .before .before .answer-line .ensures) _ (c .before .before .before .before .before .said-of .ensures) (c .before .before .before .before .before .before .before .before .answer-line .kept .1 .1 .1 .1 .1 .0) in
+    let g = good .1 .1 .1 .1 .1 .1 .1 .0 in
+    let h = said-inside s (a .asks .now) (a .d) (a .outcomes .now) (a .out .now) pre _ (line-end .ensures) _ refl _ _ (answer-line .ensures) _ (said-of .ensures) (answer-line .kept .1 .1 .1 .1 .1 .0) in
     omega arith
 
 same-length : tie.Need-same-length
@@ -83,9 +89,14 @@ same-length-2 c = search needs
 
 returns : tie.Need-returns
 returns c =
-    let a = c .before .before .before .before .before .before .before .before .before .before .before .before .before .before .before .before .before .args in
+    let args = c .before .before .before .before .before .before .before .before .before .before .before .before .before .before .before .before .before .args in
+    let pre = c .before .before .before .before .before .before .before .before .before .before .before .before .before .before .before .before .before .pre in
+    let line-end = c .before .before .before .before .before .before .before .before .before .before .before .line-end in
+    let answer-line = c .before .before .before .before .before .before .before .before .answer-line in
+    let said-of = c .before .before .before .before .before .said-of in
+    let a = args in
     let s = store (a .t) (a .references .now) (a .coordinates .now) (a .nodes .now) in
-    next-stands s (a .asks .now) (a .d) (a .outcomes .now) (a .out .now) (c .before .before .before .before .before .before .before .before .before .before .before .before .before .before .before .before .before .pre) _ (c .before .before .before .before .before .before .before .before .before .before .before .line-end .ensures) _ refl _ _ (c .before .before .before .before .before .before .before .before .answer-line .ensures) _ (c .before .before .before .before .before .said-of .ensures) _ (c .before .before .before .put-row .ensures)
+    next-stands s (a .asks .now) (a .d) (a .outcomes .now) (a .out .now) pre _ (line-end .ensures) _ refl _ _ (answer-line .ensures) _ (said-of .ensures) _ (c .before .before .before .put-row .ensures)
 
 pub answer-next-spec : {M : Type 1} → statement M
 answer-next-spec =

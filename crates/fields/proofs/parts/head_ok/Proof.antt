@@ -28,8 +28,10 @@ in-range-requires c κs = search needs
 returns-2 : tie.Need-returns-2
 unfolding headOk
 returns-2 c =
+    let args = c .before .before .before .before .before .before .before .args in
+    let if1 = c .before .before .before .before .before .if1 in
     c .in-range .ensures
-    ∙ rw (← c .before .before .before .before .number .ensures .value, ← c .before .before .number2 .ensures .value, ← c .before .number3 .ensures .value, le-leb 1 (c .before .before .before .before .before .before .before .args .kind) (omega (arith, c .before .before .before .before .before .if1 .left)), eq-eqb _ _ (c .before .before .before .if2 .taken))
+    ∙ rw (← c .before .before .before .before .number .ensures .value, ← c .before .before .number2 .ensures .value, ← c .before .number3 .ensures .value, le-leb 1 (args .kind) (omega (arith, if1 .left)), eq-eqb _ _ (c .before .before .before .if2 .taken))
 
 returns-3 : tie.Need-returns-3
 unfolding headOk

@@ -22,10 +22,19 @@ returns-4 : tie.Need-returns-4
 returns-4 c = sym (scope-rule (c .before .before .before .before .before .before .before .before .args .p) (c .before .before .before .before .before .before .if1 .left) (c .before .before .before .before .if2 .left) (c .before .before .if3 .left) ∙ rw (eq-eqb _ 1 (c .if4 .taken)))
 
 returns-5 : tie.Need-returns-5
-returns-5 c = sym (scope-rule (c .before .before .before .before .before .before .before .before .before .before .before .args .p) (c .before .before .before .before .before .before .before .before .before .if1 .left) (c .before .before .before .before .before .before .before .if2 .left) (c .before .before .before .before .before .if3 .left) ∙ rw (ne-eqb _ 1 (c .before .before .before .if4 .left), eq-eqb _ 0 (c .before .if5 .taken)))
+returns-5 c =
+    let args = c .before .before .before .before .before .before .before .before .before .before .before .args in
+    let if1 = c .before .before .before .before .before .before .before .before .before .if1 in
+    let if2 = c .before .before .before .before .before .before .before .if2 in
+    let if3 = c .before .before .before .before .before .if3 in
+    sym (scope-rule (args .p) (if1 .left) (if2 .left) (if3 .left) ∙ rw (ne-eqb _ 1 (c .before .before .before .if4 .left), eq-eqb _ 0 (c .before .if5 .taken)))
 
 returns-6 : tie.Need-returns-6
-returns-6 c = sym (scope-rule (c .before .before .before .before .before .before .before .before .before .before .args .p) (c .before .before .before .before .before .before .before .before .if1 .left) (c .before .before .before .before .before .before .if2 .left) (c .before .before .before .before .if3 .left) ∙ rw (ne-eqb _ 1 (c .before .before .if4 .left), ne-eqb _ 0 (c .if5 .left)))
+returns-6 c =
+    let args = c .before .before .before .before .before .before .before .before .before .before .args in
+    let if1 = c .before .before .before .before .before .before .before .before .if1 in
+    let if2 = c .before .before .before .before .before .before .if2 in
+    sym (scope-rule (args .p) (if1 .left) (if2 .left) (c .before .before .before .before .if3 .left) ∙ rw (ne-eqb _ 1 (c .before .before .if4 .left), ne-eqb _ 0 (c .if5 .left)))
 
 pub scope-ok-spec : {M : Type 1} → statement M
 scope-ok-spec = tie.close (tie.spec returns returns-2 returns-3 returns-4 returns-5 returns-6)

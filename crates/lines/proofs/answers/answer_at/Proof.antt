@@ -91,7 +91,11 @@ cast-t12 c = search needs
 
 returns : tie.Need-returns
 returns c =
-    answer-value (c .before .before .before .before .before .before .before .args .order) (frameIn (c .before .before .before .before .before .before .before .args .src .now)) (c .before .before .before .before .before .query-at .result) _ _ (c .number2 .result) (c .before .before .number .result) _ (c .before .before .before .before .before .query-at .ensures) refl (c .before .before .before .scope-at .ensures) (c .number2 .ensures .value) (c .before .before .number .ensures .value) (c .before .items-at .ensures)
+    let args = c .before .before .before .before .before .before .before .args in
+    let query-at = c .before .before .before .before .before .query-at in
+    let number = c .before .before .number in
+    let number2 = c .number2 in
+    answer-value (args .order) (frameIn (args .src .now)) (query-at .result) _ _ (number2 .result) (number .result) _ (query-at .ensures) refl (c .before .before .before .scope-at .ensures) (number2 .ensures .value) (number .ensures .value) (c .before .items-at .ensures)
 
 pub answer-at-spec : {M : Type 1} → statement M
 answer-at-spec =

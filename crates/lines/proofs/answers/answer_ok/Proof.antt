@@ -57,9 +57,13 @@ tail-ok-requires c κs = search needs
 
 returns-3 : tie.Need-returns-3
 returns-3 c =
-    let f = frameIn (c .before .before .before .before .before .before .before .before .before .before .args .src .now) in
+    let args = c .before .before .before .before .before .before .before .before .before .before .args in
+    let head-ok = c .before .before .before .before .before .before .head-ok in
+    let if2 = c .before .before .before .before .before .if2 in
+    let number2 = c .before .before .number2 in
+    let f = frameIn (args .src .now) in
     c .tail-ok .ensures
-    ∙ sym (answer-rule (c .before .before .before .before .before .before .before .before .before .before .args .kind) f (28 + 4 * c .before .before .before .before .number .result) (c .before .before .number2 .result) (sym (c .before .before .before .before .before .before .head-ok .ensures) ∙ c .before .before .before .before .before .if2 .taken) (omega arith) (c .before .before .number2 .ensures .value) (omega arith))
+    ∙ sym (answer-rule (args .kind) f (28 + 4 * c .before .before .before .before .number .result) (number2 .result) (sym (head-ok .ensures) ∙ if2 .taken) (omega arith) (number2 .ensures .value) (omega arith))
 
 returns-4 : tie.Need-returns-4
 returns-4 c =

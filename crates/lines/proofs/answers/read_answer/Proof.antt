@@ -21,7 +21,10 @@ no-answer-requires c κs = search needs
 
 returns : tie.Need-returns
 unfolding readAsAnswer
-returns c = c .no-answer .ensures ∙ way-9 (answerOk (answerKind (c .before .before .before .before .before .before .args .order))) (λ f. anAnswer (answerAt (c .before .before .before .before .before .before .args .order) f)) noAnswer (c .before .before .before .before .before .before .args .line .now) (c .before .before .before .frame-of .last .1 .0) (c .before .before .before .frame-of .result) (c .before .before .before .frame-of .ensures) (c .before .if1 .taken)
+returns c =
+    let args = c .before .before .before .before .before .before .args in
+    let frame-of = c .before .before .before .frame-of in
+    c .no-answer .ensures ∙ way-9 (answerOk (answerKind (args .order))) (λ f. anAnswer (answerAt (args .order) f)) noAnswer (args .line .now) (frame-of .last .1 .0) (frame-of .result) (frame-of .ensures) (c .before .if1 .taken)
 
 array-share-prefix-frame : tie.Need-array-share-prefix-frame
 array-share-prefix-frame c = search needs
@@ -40,14 +43,22 @@ answer-at-requires c κs = record { kind = c .before .before .answer-kind .resul
 
 returns-2 : tie.Need-returns-2
 unfolding readAsAnswer anAnswer
-returns-2 c = ap anAnswer (c .answer-at .ensures) ∙ way-read (answerOk (answerKind (c .before .before .before .before .before .before .before .before .before .before .args .order))) (λ f. anAnswer (answerAt (c .before .before .before .before .before .before .before .before .before .before .args .order) f)) noAnswer (c .before .before .before .before .before .before .before .before .before .before .args .line .now) (c .before .before .before .before .before .before .before .frame-of .last .1 .0) (c .before .before .before .before .before .before .before .frame-of .result) (c .before .before .before .before .before .before .before .frame-of .ensures) (c .before .before .before .before .before .if1 .left) (sym (c .before .before .answer-ok .ensures ∙ ap (λ (k : ℕ). answerOk k (frameIn (take (c .before .before .before .before .before .before .before .frame-of .result) (c .before .before .before .before .before .before .before .frame-of .last .1 .0)))) (c .before .before .before .answer-kind .ensures)) ∙ c .before .if2 .taken)
+returns-2 c =
+    let args = c .before .before .before .before .before .before .before .before .before .before .args in
+    let frame-of = c .before .before .before .before .before .before .before .frame-of in
+    let if1 = c .before .before .before .before .before .if1 in
+    ap anAnswer (c .answer-at .ensures) ∙ way-read (answerOk (answerKind (args .order))) (λ f. anAnswer (answerAt (args .order) f)) noAnswer (args .line .now) (frame-of .last .1 .0) (frame-of .result) (frame-of .ensures) (if1 .left) (sym (c .before .before .answer-ok .ensures ∙ ap (λ (k : ℕ). answerOk k (frameIn (take (frame-of .result) (frame-of .last .1 .0)))) (c .before .before .before .answer-kind .ensures)) ∙ c .before .if2 .taken)
 
 no-answer-requires-2 : tie.Need-no-answer-requires-2
 no-answer-requires-2 c κs = search needs
 
 returns-3 : tie.Need-returns-3
 unfolding readAsAnswer
-returns-3 c = c .no-answer2 .ensures ∙ way-10 (answerOk (answerKind (c .before .before .before .before .before .before .before .before .before .before .args .order))) (λ f. anAnswer (answerAt (c .before .before .before .before .before .before .before .before .before .before .args .order) f)) noAnswer (c .before .before .before .before .before .before .before .before .before .before .args .line .now) (c .before .before .before .before .before .before .before .frame-of .last .1 .0) (c .before .before .before .before .before .before .before .frame-of .result) (c .before .before .before .before .before .before .before .frame-of .ensures) (c .before .before .before .before .before .if1 .left) (sym (c .before .before .answer-ok .ensures ∙ ap (λ (k : ℕ). answerOk k (frameIn (take (c .before .before .before .before .before .before .before .frame-of .result) (c .before .before .before .before .before .before .before .frame-of .last .1 .0)))) (c .before .before .before .answer-kind .ensures)) ∙ c .before .if2 .left)
+returns-3 c =
+    let args = c .before .before .before .before .before .before .before .before .before .before .args in
+    let frame-of = c .before .before .before .before .before .before .before .frame-of in
+    let if1 = c .before .before .before .before .before .if1 in
+    c .no-answer2 .ensures ∙ way-10 (answerOk (answerKind (args .order))) (λ f. anAnswer (answerAt (args .order) f)) noAnswer (args .line .now) (frame-of .last .1 .0) (frame-of .result) (frame-of .ensures) (if1 .left) (sym (c .before .before .answer-ok .ensures ∙ ap (λ (k : ℕ). answerOk k (frameIn (take (frame-of .result) (frame-of .last .1 .0)))) (c .before .before .before .answer-kind .ensures)) ∙ c .before .if2 .left)
 
 pub read-answer-spec : {M : Type 1} → statement M
 read-answer-spec =

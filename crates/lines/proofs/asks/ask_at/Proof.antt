@@ -66,8 +66,12 @@ cast-t8 c = search needs
 
 returns : tie.Need-returns
 returns c =
-    let f = frameIn (c .before .before .before .before .before .before .before .args .src .now) in
-    ask-value f (c .before .before .before .query-at .result) _ _ (c .number .result) (c .before .before .before .query-at .ensures ∙ rw (c .before .before .before .before .ask-order .ensures, c .before .before .before .before .before .kind .ensures)) refl (c .before .scope-at .ensures) (c .number .ensures .value)
+    let args = c .before .before .before .before .before .before .before .args in
+    let kind = c .before .before .before .before .before .kind in
+    let query-at = c .before .before .before .query-at in
+    let number = c .number in
+    let f = frameIn (args .src .now) in
+    ask-value f (query-at .result) _ _ (number .result) (query-at .ensures ∙ rw (c .before .before .before .before .ask-order .ensures, kind .ensures)) refl (c .before .scope-at .ensures) (number .ensures .value)
 
 pub ask-at-spec : {M : Type 1} → statement M
 ask-at-spec =

@@ -16,10 +16,17 @@ returns : tie.Need-returns
 returns c = sym (page-out (c .before .before .before .before .args .p) (c .before .before .before .before .args .size) (sym (c .before .before .before .scope-ok .ensures) ∙ c .before .before .if1 .taken) _ (c .before .size-holds .ensures) (c .if2 .taken))
 
 returns-2 : tie.Need-returns-2
-returns-2 c = sym (placed (c .before .before .before .before .before .before .args .p) (c .before .before .before .before .before .before .args .size) (sym (c .before .before .before .before .before .scope-ok .ensures) ∙ c .before .before .before .before .if1 .taken) _ (c .before .before .before .size-holds .ensures) (c .before .before .if2 .left) (c .if3 .taken))
+returns-2 c =
+    let args = c .before .before .before .before .before .before .args in
+    let scope-ok = c .before .before .before .before .before .scope-ok in
+    sym (placed (args .p) (args .size) (sym (scope-ok .ensures) ∙ c .before .before .before .before .if1 .taken) _ (c .before .before .before .size-holds .ensures) (c .before .before .if2 .left) (c .if3 .taken))
 
 returns-3 : tie.Need-returns-3
-returns-3 c = sym (unplaced (c .before .before .before .before .before .before .before .args .p) (c .before .before .before .before .before .before .before .args .size) (sym (c .before .before .before .before .before .before .scope-ok .ensures) ∙ c .before .before .before .before .before .if1 .taken) _ (c .before .before .before .before .size-holds .ensures) (c .before .before .before .if2 .left) (c .before .if3 .left))
+returns-3 c =
+    let args = c .before .before .before .before .before .before .before .args in
+    let scope-ok = c .before .before .before .before .before .before .scope-ok in
+    let if1 = c .before .before .before .before .before .if1 in
+    sym (unplaced (args .p) (args .size) (sym (scope-ok .ensures) ∙ if1 .taken) _ (c .before .before .before .before .size-holds .ensures) (c .before .before .before .if2 .left) (c .before .if3 .left))
 
 returns-4 : tie.Need-returns-4
 unfolding askRanges

@@ -48,8 +48,12 @@ ask-ranges-requires c κs = search needs
 
 returns-2 : tie.Need-returns-2
 returns-2 c =
-    let f = frameIn (c .before .before .before .before .before .before .before .before .before .before .args .src .now) in
-    rw (ask-rule (c .before .before .before .before .before .before .before .before .before .before .args .kind) f (c .before .before .before .before .number .result) (sym (c .before .before .before .before .before .before .head-ok .ensures) ∙ c .before .before .before .before .before .if2 .taken) (c .before .before .before .before .number .ensures .value) (omega arith), ← c .before .before .scope-at .ensures, ← c .before .number2 .ensures .value)
+    let args = c .before .before .before .before .before .before .before .before .before .before .args in
+    let head-ok = c .before .before .before .before .before .before .head-ok in
+    let if2 = c .before .before .before .before .before .if2 in
+    let number = c .before .before .before .before .number in
+    let f = frameIn (args .src .now) in
+    rw (ask-rule (args .kind) f (number .result) (sym (head-ok .ensures) ∙ if2 .taken) (number .ensures .value) (omega arith), ← c .before .before .scope-at .ensures, ← c .before .number2 .ensures .value)
     (c .ask-ranges .ensures)
 
 returns-3 : tie.Need-returns-3

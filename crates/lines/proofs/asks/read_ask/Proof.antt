@@ -19,7 +19,10 @@ no-ask-requires c κs = search needs
 
 returns : tie.Need-returns
 unfolding readAsAsk
-returns c = c .no-ask .ensures ∙ way-9 isAsk (λ f. anAsk (askAt f)) noAsk (c .before .before .before .before .before .before .args .line .now) (c .before .before .before .frame-of .last .1 .0) (c .before .before .before .frame-of .result) (c .before .before .before .frame-of .ensures) (c .before .if1 .taken)
+returns c =
+    let args = c .before .before .before .before .before .before .args in
+    let frame-of = c .before .before .before .frame-of in
+    c .no-ask .ensures ∙ way-9 isAsk (λ f. anAsk (askAt f)) noAsk (args .line .now) (frame-of .last .1 .0) (frame-of .result) (frame-of .ensures) (c .before .if1 .taken)
 
 array-share-prefix-frame : tie.Need-array-share-prefix-frame
 array-share-prefix-frame c = search needs
@@ -35,14 +38,20 @@ ask-at-requires c κs = sym (c .before .ask-ok .ensures) ∙ c .if2 .taken
 
 returns-2 : tie.Need-returns-2
 unfolding readAsAsk anAsk
-returns-2 c = ap anAsk (c .ask-at .ensures) ∙ way-read isAsk (λ f. anAsk (askAt f)) noAsk (c .before .before .before .before .before .before .before .before .before .args .line .now) (c .before .before .before .before .before .before .frame-of .last .1 .0) (c .before .before .before .before .before .before .frame-of .result) (c .before .before .before .before .before .before .frame-of .ensures) (c .before .before .before .before .if1 .left) (sym (c .before .before .ask-ok .ensures) ∙ c .before .if2 .taken)
+returns-2 c =
+    let args = c .before .before .before .before .before .before .before .before .before .args in
+    let frame-of = c .before .before .before .before .before .before .frame-of in
+    ap anAsk (c .ask-at .ensures) ∙ way-read isAsk (λ f. anAsk (askAt f)) noAsk (args .line .now) (frame-of .last .1 .0) (frame-of .result) (frame-of .ensures) (c .before .before .before .before .if1 .left) (sym (c .before .before .ask-ok .ensures) ∙ c .before .if2 .taken)
 
 no-ask-requires-2 : tie.Need-no-ask-requires-2
 no-ask-requires-2 c κs = search needs
 
 returns-3 : tie.Need-returns-3
 unfolding readAsAsk
-returns-3 c = c .no-ask2 .ensures ∙ way-10 isAsk (λ f. anAsk (askAt f)) noAsk (c .before .before .before .before .before .before .before .before .before .args .line .now) (c .before .before .before .before .before .before .frame-of .last .1 .0) (c .before .before .before .before .before .before .frame-of .result) (c .before .before .before .before .before .before .frame-of .ensures) (c .before .before .before .before .if1 .left) (sym (c .before .before .ask-ok .ensures) ∙ c .before .if2 .left)
+returns-3 c =
+    let args = c .before .before .before .before .before .before .before .before .before .args in
+    let frame-of = c .before .before .before .before .before .before .frame-of in
+    c .no-ask2 .ensures ∙ way-10 isAsk (λ f. anAsk (askAt f)) noAsk (args .line .now) (frame-of .last .1 .0) (frame-of .result) (frame-of .ensures) (c .before .before .before .before .if1 .left) (sym (c .before .before .ask-ok .ensures) ∙ c .before .if2 .left)
 
 pub read-ask-spec : {M : Type 1} → statement M
 read-ask-spec =

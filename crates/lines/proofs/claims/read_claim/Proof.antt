@@ -19,7 +19,10 @@ no-claim-requires c κs = search needs
 
 returns : tie.Need-returns
 unfolding readAsClaim
-returns c = c .no-claim .ensures ∙ way-9 claimOk (λ f. aClaim (claimAt f)) noClaim (c .before .before .before .before .before .before .args .line .now) (c .before .before .before .frame-of .last .1 .0) (c .before .before .before .frame-of .result) (c .before .before .before .frame-of .ensures) (c .before .if1 .taken)
+returns c =
+    let args = c .before .before .before .before .before .before .args in
+    let frame-of = c .before .before .before .frame-of in
+    c .no-claim .ensures ∙ way-9 claimOk (λ f. aClaim (claimAt f)) noClaim (args .line .now) (frame-of .last .1 .0) (frame-of .result) (frame-of .ensures) (c .before .if1 .taken)
 
 array-share-prefix-frame : tie.Need-array-share-prefix-frame
 array-share-prefix-frame c = search needs
@@ -35,14 +38,20 @@ claim-at-requires c κs = sym (c .before .claim-ok .ensures) ∙ c .if2 .taken
 
 returns-2 : tie.Need-returns-2
 unfolding readAsClaim aClaim
-returns-2 c = ap aClaim (c .claim-at .ensures) ∙ way-read claimOk (λ f. aClaim (claimAt f)) noClaim (c .before .before .before .before .before .before .before .before .before .args .line .now) (c .before .before .before .before .before .before .frame-of .last .1 .0) (c .before .before .before .before .before .before .frame-of .result) (c .before .before .before .before .before .before .frame-of .ensures) (c .before .before .before .before .if1 .left) (sym (c .before .before .claim-ok .ensures) ∙ c .before .if2 .taken)
+returns-2 c =
+    let args = c .before .before .before .before .before .before .before .before .before .args in
+    let frame-of = c .before .before .before .before .before .before .frame-of in
+    ap aClaim (c .claim-at .ensures) ∙ way-read claimOk (λ f. aClaim (claimAt f)) noClaim (args .line .now) (frame-of .last .1 .0) (frame-of .result) (frame-of .ensures) (c .before .before .before .before .if1 .left) (sym (c .before .before .claim-ok .ensures) ∙ c .before .if2 .taken)
 
 no-claim-requires-2 : tie.Need-no-claim-requires-2
 no-claim-requires-2 c κs = search needs
 
 returns-3 : tie.Need-returns-3
 unfolding readAsClaim
-returns-3 c = c .no-claim2 .ensures ∙ way-10 claimOk (λ f. aClaim (claimAt f)) noClaim (c .before .before .before .before .before .before .before .before .before .args .line .now) (c .before .before .before .before .before .before .frame-of .last .1 .0) (c .before .before .before .before .before .before .frame-of .result) (c .before .before .before .before .before .before .frame-of .ensures) (c .before .before .before .before .if1 .left) (sym (c .before .before .claim-ok .ensures) ∙ c .before .if2 .left)
+returns-3 c =
+    let args = c .before .before .before .before .before .before .before .before .before .args in
+    let frame-of = c .before .before .before .before .before .before .frame-of in
+    c .no-claim2 .ensures ∙ way-10 claimOk (λ f. aClaim (claimAt f)) noClaim (args .line .now) (frame-of .last .1 .0) (frame-of .result) (frame-of .ensures) (c .before .before .before .before .if1 .left) (sym (c .before .before .claim-ok .ensures) ∙ c .before .if2 .left)
 
 pub read-claim-spec : {M : Type 1} → statement M
 read-claim-spec =

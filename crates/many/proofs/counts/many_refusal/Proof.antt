@@ -9,16 +9,24 @@ table-refusal-requires : tie.Need-table-refusal-requires
 table-refusal-requires c κs = search needs
 
 returns : tie.Need-returns
-returns c = many-table (store (c .before .before .before .before .args .t) (c .before .before .before .before .args .references .now) (c .before .before .before .before .args .coordinates .now) (c .before .before .before .before .args .nodes .now)) _ _ _ (c .before .table-refusal .ensures) (c .if1 .taken)
+returns c =
+    let args = c .before .before .before .before .args in
+    many-table (store (args .t) (args .references .now) (args .coordinates .now) (args .nodes .now)) _ _ _ (c .before .table-refusal .ensures) (c .if1 .taken)
 
 is-whole-requires : tie.Need-is-whole-requires
-is-whole-requires c κs = many-wide (store (c .before .before .before .before .args .t) (c .before .before .before .before .args .references .now) (c .before .before .before .before .args .coordinates .now) (c .before .before .before .before .args .nodes .now)) (c .before .before .before .before .args .probes) (c .before .before .before .before .args .n) _ (c .before .table-refusal .ensures) (c .if1 .left)
+is-whole-requires c κs =
+    let args = c .before .before .before .before .args in
+    many-wide (store (args .t) (args .references .now) (args .coordinates .now) (args .nodes .now)) (args .probes) (args .n) _ (c .before .table-refusal .ensures) (c .if1 .left)
 
 returns-2 : tie.Need-returns-2
-returns-2 c = many-5 (store (c .before .before .before .before .before .before .args .t) (c .before .before .before .before .before .before .args .references .now) (c .before .before .before .before .before .before .args .coordinates .now) (c .before .before .before .before .before .before .args .nodes .now)) _ _ _ (c .before .before .before .table-refusal .ensures) (c .before .before .if1 .left) _ (c .before .is-whole .ensures) (c .if2 .taken)
+returns-2 c =
+    let args = c .before .before .before .before .before .before .args in
+    many-5 (store (args .t) (args .references .now) (args .coordinates .now) (args .nodes .now)) _ _ _ (c .before .before .before .table-refusal .ensures) (c .before .before .if1 .left) _ (c .before .is-whole .ensures) (c .if2 .taken)
 
 returns-3 : tie.Need-returns-3
-returns-3 c = many-0 (store (c .before .before .before .before .before .before .args .t) (c .before .before .before .before .before .before .args .references .now) (c .before .before .before .before .before .before .args .coordinates .now) (c .before .before .before .before .before .before .args .nodes .now)) _ _ _ (c .before .before .before .table-refusal .ensures) (c .before .before .if1 .left) _ (c .before .is-whole .ensures) (c .if2 .left)
+returns-3 c =
+    let args = c .before .before .before .before .before .before .args in
+    many-0 (store (args .t) (args .references .now) (args .coordinates .now) (args .nodes .now)) _ _ _ (c .before .before .before .table-refusal .ensures) (c .before .before .if1 .left) _ (c .before .is-whole .ensures) (c .if2 .left)
 
 pub many-refusal-spec : {M : Type 1} → statement M
 many-refusal-spec =

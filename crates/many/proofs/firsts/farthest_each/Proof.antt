@@ -35,9 +35,13 @@ same-length c = search needs
 
 returns-3 : tie.Need-returns-3
 returns-3 c =
-    let a = c .before .before .before .before .before .before .before .before .before .before .before .args in
+    let args = c .before .before .before .before .before .before .before .before .before .before .before .args in
+    let many-refusal = c .before .before .before .before .before .before .before .many-refusal in
+    let if1 = c .before .before .before .before .before .before .if1 in
+    let has-rows = c .before .before .before .before .before .has-rows in
+    let a = args in
     let s = store (a .t) (a .references .now) (a .coordinates .now) (a .nodes .now) in
-    firsts-answered s _ (a .n) _ (c .before .before .before .before .before .before .before .many-refusal .ensures) (farthestAt s (a .probes .now)) (a .out .now) (c .before .before .before .before .before .before .if1 .left) _ (c .before .before .before .before .before .has-rows .ensures) (c .before .before .before .before .if2 .left) _ (c .before .before .farthest-rows .ensures)
+    firsts-answered s _ (a .n) _ (many-refusal .ensures) (farthestAt s (a .probes .now)) (a .out .now) (if1 .left) _ (has-rows .ensures) (c .before .before .before .before .if2 .left) _ (c .before .before .farthest-rows .ensures)
 
 pub farthest-each-spec : {M : Type 1} → statement M
 farthest-each-spec =

@@ -36,9 +36,13 @@ same-length c = search needs
 
 returns-3 : tie.Need-returns-3
 returns-3 c =
-    let a = c .before .before .before .before .before .before .before .before .before .before .before .before .args in
+    let args = c .before .before .before .before .before .before .before .before .before .before .before .before .args in
+    let many-refusal = c .before .before .before .before .before .before .before .many-refusal in
+    let if1 = c .before .before .before .before .before .before .if1 in
+    let has-rows = c .before .before .before .before .before .has-rows in
+    let a = args in
     let s = store (a .t) (a .references .now) (a .coordinates .now) (a .nodes .now) in
-    firsts-answered s _ (length (a .reaches .now)) _ (c .before .before .before .before .before .before .before .many-refusal .ensures) (nearestAt s (a .probes .now) (a .reaches .now)) (a .out .now) (c .before .before .before .before .before .before .if1 .left) _ (c .before .before .before .before .before .has-rows .ensures) (c .before .before .before .before .if2 .left) _ (c .before .before .nearest-rows .ensures)
+    firsts-answered s _ (length (a .reaches .now)) _ (many-refusal .ensures) (nearestAt s (a .probes .now) (a .reaches .now)) (a .out .now) (if1 .left) _ (has-rows .ensures) (c .before .before .before .before .if2 .left) _ (c .before .before .nearest-rows .ensures)
 
 pub nearest-each-spec : {M : Type 1} → statement M
 nearest-each-spec =

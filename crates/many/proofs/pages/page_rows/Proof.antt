@@ -28,7 +28,10 @@ shared-slice-read-page-row : tie.Need-shared-slice-read-page-row Inv-loop μ-loo
 shared-slice-read-page-row c = omega arith
 
 page-row-requires : tie.Need-page-row-requires Inv-loop μ-loop
-page-row-requires c κs = one-page _ _ _ _ _ _ _ _ _ _ (c .before .before .before .before .before .before .before .before .before .before .before .pre) (c .before .before .before .loop-test .taken) (c .before .before .before .before .loop .inv .0 .long) (c .before .before .before .before .loop .inv .1 .long)
+page-row-requires c κs =
+    let pre = c .before .before .before .before .before .before .before .before .before .before .before .pre in
+    let loop = c .before .before .before .before .loop in
+    one-page _ _ _ _ _ _ _ _ _ _ pre (c .before .before .before .loop-test .taken) (loop .inv .0 .long) (loop .inv .1 .long)
 
 add-i : tie.Need-add-i Inv-loop μ-loop
 add-i c = omega arith

@@ -27,8 +27,12 @@ same-length-2 c = search needs
 
 returns-2 : tie.Need-returns-2
 returns-2 c =
-    let a = c .before .before .before .before .before .before .before .before .before .before .before .before .before .before .before .args in
-    pages-done (store (a .t) (a .references .now) (a .coordinates .now) (a .nodes .now)) (a .probes .now) (a .reaches .now) (a .places .now) (a .size) (bothRooms (a .outcomes .now) (a .items .now)) _ (c .before .before .before .before .before .before .before .before .pages-refusal .ensures) (c .before .before .before .before .before .before .before .if1 .left) _ _ (c .before .before .before .before .page-rows .ensures .0) (c .before .before .before .before .page-rows .ensures .1)
+    let args = c .before .before .before .before .before .before .before .before .before .before .before .before .before .before .before .args in
+    let pages-refusal = c .before .before .before .before .before .before .before .before .pages-refusal in
+    let if1 = c .before .before .before .before .before .before .before .if1 in
+    let page-rows = c .before .before .before .before .page-rows in
+    let a = args in
+    pages-done (store (a .t) (a .references .now) (a .coordinates .now) (a .nodes .now)) (a .probes .now) (a .reaches .now) (a .places .now) (a .size) (bothRooms (a .outcomes .now) (a .items .now)) _ (pages-refusal .ensures) (if1 .left) _ _ (page-rows .ensures .0) (page-rows .ensures .1)
 
 pub pages-each-spec : {M : Type 1} → statement M
 pages-each-spec =

@@ -22,17 +22,21 @@ returns c =
 returns-2 : tie.Need-returns-2
 unfolding farthestCall
 returns-2 c =
-    let s = store (c .before .before .before .before .before .before .args .t) (c .before .before .before .before .before .before .args .references .now) (c .before .before .before .before .before .before .args .coordinates .now) (c .before .before .before .before .before .before .args .nodes .now) in
-    ask-5 s (c .before .before .before .before .before .before .args .probe .now) _ (c .before .before .before .table-refusal .ensures) (farthestOf (tableQuery (s .table) Near (c .before .before .before .before .before .before .args .probe .now) 0) (claimsIn s)) (c .before .before .if1 .left) (c .if2 .taken)
+    let args = c .before .before .before .before .before .before .args in
+    let s = store (args .t) (args .references .now) (args .coordinates .now) (args .nodes .now) in
+    ask-5 s (args .probe .now) _ (c .before .before .before .table-refusal .ensures) (farthestOf (tableQuery (s .table) Near (args .probe .now) 0) (claimsIn s)) (c .before .before .if1 .left) (c .if2 .taken)
 
 farthest-requires : tie.Need-farthest-requires
-farthest-requires c κs = good-answerable (store (c .before .before .before .before .before .before .args .t) (c .before .before .before .before .before .before .args .references .now) (c .before .before .before .before .before .before .args .coordinates .now) (c .before .before .before .before .before .before .args .nodes .now)) (table-good _ _ (c .before .before .before .table-refusal .ensures) (c .before .before .if1 .left)) _ (c .if2 .left)
+farthest-requires c κs =
+    let args = c .before .before .before .before .before .before .args in
+    good-answerable (store (args .t) (args .references .now) (args .coordinates .now) (args .nodes .now)) (table-good _ _ (c .before .before .before .table-refusal .ensures) (c .before .before .if1 .left)) _ (c .if2 .left)
 
 returns-3 : tie.Need-returns-3
 unfolding farthestCall farthestOf
 returns-3 c =
-    let s = store (c .before .before .before .before .before .before .before .args .t) (c .before .before .before .before .before .before .before .args .references .now) (c .before .before .before .before .before .before .before .args .coordinates .now) (c .before .before .before .before .before .before .before .args .nodes .now) in
-    ask-answered s (c .before .before .before .before .before .before .before .args .probe .now) _ (c .before .before .before .before .table-refusal .ensures) (farthestOf (tableQuery (s .table) Near (c .before .before .before .before .before .before .before .args .probe .now) 0) (claimsIn s)) (c .before .before .before .if1 .left) (c .before .if2 .left) _ (c .farthest .ensures)
+    let args = c .before .before .before .before .before .before .before .args in
+    let s = store (args .t) (args .references .now) (args .coordinates .now) (args .nodes .now) in
+    ask-answered s (args .probe .now) _ (c .before .before .before .before .table-refusal .ensures) (farthestOf (tableQuery (s .table) Near (args .probe .now) 0) (claimsIn s)) (c .before .before .before .if1 .left) (c .before .if2 .left) _ (c .farthest .ensures)
 
 pub farthest-spec : {M : Type 1} → statement M
 farthest-spec =

@@ -39,8 +39,12 @@ same-length-6 c = search needs
 
 returns-2 : tie.Need-returns-2
 returns-2 c =
-    let a = c .before .before .before .before .before .before .before .before .before .before .before .before .before .before .before .before .before .args in
-    enter-done (store (a .t) (a .references .now) (a .coordinates .now) (a .nodes .now)) (a .given .now) (a .places .now) _ (c .before .before .before .before .before .before .before .before .before .before .run-refusal .ensures) (c .before .before .before .before .before .before .before .before .before .if1 .left) _ _ _ _ (c .before .before .before .before .before .add-run .ensures)
+    let args = c .before .before .before .before .before .before .before .before .before .before .before .before .before .before .before .before .before .args in
+    let run-refusal = c .before .before .before .before .before .before .before .before .before .before .run-refusal in
+    let if1 = c .before .before .before .before .before .before .before .before .before .if1 in
+    let add-run = c .before .before .before .before .before .add-run in
+    let a = args in
+    enter-done (store (a .t) (a .references .now) (a .coordinates .now) (a .nodes .now)) (a .given .now) (a .places .now) _ (run-refusal .ensures) (if1 .left) _ _ _ _ (add-run .ensures)
 
 pub enter-spec : {M : Type 1} → statement M
 enter-spec =

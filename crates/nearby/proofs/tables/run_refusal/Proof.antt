@@ -30,8 +30,10 @@ sub-if3 c =
 
 returns-3 : tie.Need-returns-3
 returns-3 c =
-    let a = c .before .before .before .before .before .before .before .before .before .args in
-    run-3 (store (a .t) (a .references .now) (a .coordinates .now) (a .nodes .now)) (a .given .now) (a .places .now) _ (c .before .before .before .before .before .table-refusal .ensures) (c .before .before .before .before .if1 .left) _ (c .before .before .before .is-whole .ensures) (c .before .before .if2 .left) (c .if3 .taken)
+    let args = c .before .before .before .before .before .before .before .before .before .args in
+    let table-refusal = c .before .before .before .before .before .table-refusal in
+    let a = args in
+    run-3 (store (a .t) (a .references .now) (a .coordinates .now) (a .nodes .now)) (a .given .now) (a .places .now) _ (table-refusal .ensures) (c .before .before .before .before .if1 .left) _ (c .before .before .before .is-whole .ensures) (c .before .before .if2 .left) (c .if3 .taken)
 
 sub-if4 : tie.Need-sub-if4
 sub-if4 c =
@@ -40,13 +42,21 @@ sub-if4 c =
 
 returns-4 : tie.Need-returns-4
 returns-4 c =
-    let a = c .before .before .before .before .before .before .before .before .before .before .before .args in
-    run-4 (store (a .t) (a .references .now) (a .coordinates .now) (a .nodes .now)) (a .given .now) (a .places .now) _ (c .before .before .before .before .before .before .before .table-refusal .ensures) (c .before .before .before .before .before .before .if1 .left) _ (c .before .before .before .before .before .is-whole .ensures) (c .before .before .before .before .if2 .left) (c .before .before .if3 .left) (c .if4 .taken)
+    let args = c .before .before .before .before .before .before .before .before .before .before .before .args in
+    let table-refusal = c .before .before .before .before .before .before .before .table-refusal in
+    let if1 = c .before .before .before .before .before .before .if1 in
+    let is-whole = c .before .before .before .before .before .is-whole in
+    let a = args in
+    run-4 (store (a .t) (a .references .now) (a .coordinates .now) (a .nodes .now)) (a .given .now) (a .places .now) _ (table-refusal .ensures) (if1 .left) _ (is-whole .ensures) (c .before .before .before .before .if2 .left) (c .before .before .if3 .left) (c .if4 .taken)
 
 returns-5 : tie.Need-returns-5
 returns-5 c =
-    let a = c .before .before .before .before .before .before .before .before .before .before .before .args in
-    run-0 (store (a .t) (a .references .now) (a .coordinates .now) (a .nodes .now)) (a .given .now) (a .places .now) _ (c .before .before .before .before .before .before .before .table-refusal .ensures) (c .before .before .before .before .before .before .if1 .left) _ (c .before .before .before .before .before .is-whole .ensures) (c .before .before .before .before .if2 .left) (c .before .before .if3 .left) (c .if4 .left)
+    let args = c .before .before .before .before .before .before .before .before .before .before .before .args in
+    let table-refusal = c .before .before .before .before .before .before .before .table-refusal in
+    let if1 = c .before .before .before .before .before .before .if1 in
+    let is-whole = c .before .before .before .before .before .is-whole in
+    let a = args in
+    run-0 (store (a .t) (a .references .now) (a .coordinates .now) (a .nodes .now)) (a .given .now) (a .places .now) _ (table-refusal .ensures) (if1 .left) _ (is-whole .ensures) (c .before .before .before .before .if2 .left) (c .before .before .if3 .left) (c .if4 .left)
 
 pub run-refusal-spec : {M : Type 1} → statement M
 run-refusal-spec =

@@ -43,9 +43,14 @@ same-length c = search needs
 
 returns-2 : tie.Need-returns-2
 returns-2 c =
-    let a = c .before .before .before .before .before .before .before .before .before .before .args in
+    let args = c .before .before .before .before .before .before .before .before .before .before .args in
+    let placeable = c .before .before .before .before .before .before .before .before .placeable in
+    let if1 = c .before .before .before .before .before .before .before .if1 in
+    let query-of = c .before .before .before .before .before .before .query-of in
+    let scope-in = c .before .before .before .before .before .scope-in in
+    let a = args in
     line-from (λ (q : Query) (p : Scope). bareLine (askFits q p (a .size)) longestAsk (askFrame q p (a .size)) (length (a .out .now))) (nearQuery (a .table) (a .measure) (a .d) (a .probe .now) (a .p .reach)) _ (scopeFrom (a .p)) _ _ _ _ _
-    (placed-query (nearQuery (a .table) (a .measure) (a .d) (a .probe .now) (a .p .reach)) (scopeFrom (a .p)) _ (c .before .before .before .before .before .before .before .before .placeable .ensures) (c .before .before .before .before .before .before .before .if1 .left) _ (c .before .before .before .before .before .before .query-of .ensures)) (c .before .before .before .before .before .scope-in .ensures) (c .before .before .before .write-ask-line .ensures) (c .line-of2 .ensures)
+    (placed-query (nearQuery (a .table) (a .measure) (a .d) (a .probe .now) (a .p .reach)) (scopeFrom (a .p)) _ (placeable .ensures) (if1 .left) _ (query-of .ensures)) (scope-in .ensures) (c .before .before .before .write-ask-line .ensures) (c .line-of2 .ensures)
 
 pub nearby-write-ask-line-spec : {M : Type 1} → statement M
 nearby-write-ask-line-spec =

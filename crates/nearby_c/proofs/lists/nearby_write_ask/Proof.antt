@@ -22,7 +22,10 @@ same-length : tie.Need-same-length
 same-length c = search needs
 
 returns : tie.Need-returns
-returns c = shown-from writtenOf wroteOf putLine (λ x. askingHeld lines (held x (c .before .before .before .before .before .before .before .before .args .room .now)) (c .before .before .before .before .before .before .before .before .args .size) (length (c .before .before .before .before .before .before .before .before .args .out .now))) _ _ _ _ _ _ (c .before .before .before .before .before .list-in .ensures) (c .before .before .before .write-ask .ensures) (c .line-of .ensures)
+returns c =
+    let args = c .before .before .before .before .before .before .before .before .args in
+    let list-in = c .before .before .before .before .before .list-in in
+    shown-from writtenOf wroteOf putLine (λ x. askingHeld lines (held x (args .room .now)) (args .size) (length (args .out .now))) _ _ _ _ _ _ (list-in .ensures) (c .before .before .before .write-ask .ensures) (c .line-of .ensures)
 
 pub nearby-write-ask-spec : {M : Type 1} → statement M
 nearby-write-ask-spec =

@@ -22,7 +22,10 @@ same-length : tie.Need-same-length
 same-length c = search needs
 
 returns : tie.Need-returns
-returns c = shown-from filledOut pageShown putPage (λ q. pageCall (store (c .before .before .before .before .before .before .before .before .before .args .t) (c .before .before .before .before .before .before .before .before .before .args .references .now) (c .before .before .before .before .before .before .before .before .before .args .coordinates .now) (c .before .before .before .before .before .before .before .before .before .args .nodes .now)) Near (c .before .before .before .before .before .before .before .before .before .args .probe .now) (c .before .before .before .before .before .before .before .before .before .args .reach) q (c .before .before .before .before .before .before .before .before .before .args .size) (length (c .before .before .before .before .before .before .before .before .before .args .room .now))) _ _ _ _ _ _ (c .before .before .before .before .before .place-of .ensures) (c .before .before .before .page .ensures) (c .page-of .ensures)
+returns c =
+    let args = c .before .before .before .before .before .before .before .before .before .args in
+    let place-of = c .before .before .before .before .before .place-of in
+    shown-from filledOut pageShown putPage (λ q. pageCall (store (args .t) (args .references .now) (args .coordinates .now) (args .nodes .now)) Near (args .probe .now) (args .reach) q (args .size) (length (args .room .now))) _ _ _ _ _ _ (place-of .ensures) (c .before .before .before .page .ensures) (c .page-of .ensures)
 
 pub nearby-page-spec : {M : Type 1} → statement M
 nearby-page-spec =

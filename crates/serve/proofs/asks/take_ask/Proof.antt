@@ -38,37 +38,55 @@ enum-known-wrote c = search needs
 
 add-result : tie.Need-add-result
 add-result c =
-    let a = c .before .before .before .before .before .before .before .before .before .before .before .before .args in
-    let in-out : a .at ≤ length (a .out .now) = omega (arith, c .before .before .before .before .before .before .before .before .before .before .before .before .pre .serving .room) in
-    let h = line-inside (store (a .t) (a .references .now) (a .coordinates .now) (a .nodes .now)) (askMeant (a .ask)) (a .out .now) (a .at) (c .before .before .before .before .before .before .before .if1 .left) _ refl in-out _ _ (c .before .before .before .before .before .answer-ask .ensures) _ (c .before .wrote .given .1) (c .before .before .before .before .before .answer-ask .kept .1 .1 .1 .1 .1 .0) in
-    omega (arith, c .before .before .before .before .before .before .before .before .before .before .before .before .good .1 .1 .1 .1 .1 .0)
+    let args = c .before .before .before .before .before .before .before .before .before .before .before .before .args in
+    let pre = c .before .before .before .before .before .before .before .before .before .before .before .before .pre in
+    let good = c .before .before .before .before .before .before .before .before .before .before .before .before .good in
+    let if1 = c .before .before .before .before .before .before .before .if1 in
+    let answer-ask = c .before .before .before .before .before .answer-ask in
+    let a = args in
+    let in-out : a .at ≤ length (a .out .now) = omega (arith, pre .serving .room) in
+    let h = line-inside (store (a .t) (a .references .now) (a .coordinates .now) (a .nodes .now)) (askMeant (a .ask)) (a .out .now) (a .at) (if1 .left) _ refl in-out _ _ (answer-ask .ensures) _ (c .before .wrote .given .1) (answer-ask .kept .1 .1 .1 .1 .1 .0) in
+    omega (arith, good .1 .1 .1 .1 .1 .0)
 
 enum-known-wrote-2 : tie.Need-enum-known-wrote-2
 enum-known-wrote-2 c = search needs
 
 refuse-requires-2 : tie.Need-refuse-requires-2
 refuse-requires-2 c κs =
-    let a = c .before .before .before .before .before .before .before .before .before .before .before .before .before .args in
-    let in-out : a .at ≤ length (a .out .now) = omega (arith, c .before .before .before .before .before .before .before .before .before .before .before .before .before .pre .serving .room) in
-    refuse-ready (store (a .t) (a .references .now) (a .coordinates .now) (a .nodes .now)) (askMeant (a .ask)) (a .out .now) (a .at) (c .before .before .before .before .before .before .before .before .if1 .left) _ refl in-out _ _ (c .before .before .before .before .before .before .answer-ask .ensures) _ (c .before .before .wrote2 .given .1) (omega (arith, c .before .before .before .before .before .before .before .before .before .before .before .before .before .pre .serving .room))
+    let args = c .before .before .before .before .before .before .before .before .before .before .before .before .before .args in
+    let pre = c .before .before .before .before .before .before .before .before .before .before .before .before .before .pre in
+    let if1 = c .before .before .before .before .before .before .before .before .if1 in
+    let answer-ask = c .before .before .before .before .before .before .answer-ask in
+    let a = args in
+    let in-out : a .at ≤ length (a .out .now) = omega (arith, pre .serving .room) in
+    refuse-ready (store (a .t) (a .references .now) (a .coordinates .now) (a .nodes .now)) (askMeant (a .ask)) (a .out .now) (a .at) (if1 .left) _ refl in-out _ _ (answer-ask .ensures) _ (c .before .before .wrote2 .given .1) (omega (arith, pre .serving .room))
 
 same-length-2 : tie.Need-same-length-2
 same-length-2 c = search needs
 
 returns-2 : tie.Need-returns-2
 returns-2 c =
-    let a = c .before .before .before .before .before .before .before .before .before .before .before .before .args in
-    let in-out : a .at ≤ length (a .out .now) = omega (arith, c .before .before .before .before .before .before .before .before .before .before .before .before .pre .serving .room) in
-    ask-line (store (a .t) (a .references .now) (a .coordinates .now) (a .nodes .now)) (askMeant (a .ask)) (a .out .now) (a .at) (c .before .before .before .before .before .before .before .if1 .left) _ refl in-out _ _ (c .before .before .before .before .before .answer-ask .ensures) _ (c .before .wrote .given .1) (c .before .before .before .before .before .answer-ask .kept .1 .1 .1 .1 .1 .0)
+    let args = c .before .before .before .before .before .before .before .before .before .before .before .before .args in
+    let pre = c .before .before .before .before .before .before .before .before .before .before .before .before .pre in
+    let if1 = c .before .before .before .before .before .before .before .if1 in
+    let answer-ask = c .before .before .before .before .before .answer-ask in
+    let a = args in
+    let in-out : a .at ≤ length (a .out .now) = omega (arith, pre .serving .room) in
+    ask-line (store (a .t) (a .references .now) (a .coordinates .now) (a .nodes .now)) (askMeant (a .ask)) (a .out .now) (a .at) (if1 .left) _ refl in-out _ _ (answer-ask .ensures) _ (c .before .wrote .given .1) (answer-ask .kept .1 .1 .1 .1 .1 .0)
 
 same-length-3 : tie.Need-same-length-3
 same-length-3 c = search needs
 
 returns-3 : tie.Need-returns-3
 returns-3 c =
-    let a = c .before .before .before .before .before .before .before .before .before .before .before .before .before .before .before .before .args in
-    let in-out : a .at ≤ length (a .out .now) = omega (arith, c .before .before .before .before .before .before .before .before .before .before .before .before .before .before .before .before .pre .serving .room) in
-    ask-refused (store (a .t) (a .references .now) (a .coordinates .now) (a .nodes .now)) (askMeant (a .ask)) (a .out .now) (a .at) (c .before .before .before .before .before .before .before .before .before .before .before .if1 .left) _ refl in-out _ _ (c .before .before .before .before .before .before .before .before .before .answer-ask .ensures) _ (c .before .before .before .before .before .wrote2 .given .1) _ _ (c .before .before .refuse2 .ensures)
+    let args = c .before .before .before .before .before .before .before .before .before .before .before .before .before .before .before .before .args in
+    let pre = c .before .before .before .before .before .before .before .before .before .before .before .before .before .before .before .before .pre in
+    let if1 = c .before .before .before .before .before .before .before .before .before .before .before .if1 in
+    let answer-ask = c .before .before .before .before .before .before .before .before .before .answer-ask in
+    let wrote2 = c .before .before .before .before .before .wrote2 in
+    let a = args in
+    let in-out : a .at ≤ length (a .out .now) = omega (arith, pre .serving .room) in
+    ask-refused (store (a .t) (a .references .now) (a .coordinates .now) (a .nodes .now)) (askMeant (a .ask)) (a .out .now) (a .at) (if1 .left) _ refl in-out _ _ (answer-ask .ensures) _ (wrote2 .given .1) _ _ (c .before .before .refuse2 .ensures)
 
 pub take-ask-spec : {M : Type 1} → statement M
 take-ask-spec =

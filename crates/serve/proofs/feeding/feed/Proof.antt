@@ -24,7 +24,11 @@ turn-requires : tie.Need-turn-requires Inv-loop μ-loop
 turn-requires c κs = (c .before .before .before .before .before .before .before .loop .inv .ready, c .before .before .before .before .before .before .goes-on .ensures .0 (c .before .before .before .before .before .if1 .taken))
 
 loop-less : tie.Need-loop-less Inv-loop μ-loop
-loop-less c = let t = c .before .before .before .before .before .before .before .before .before .before .before .before .before .before .before .before .goes-on .ensures .0 (c .before .before .before .before .before .before .before .before .before .before .before .before .before .before .before .if1 .taken) in omega (arith, t .unread, c .before .before .before .before .before .before .before .before .before .turn .ensures .1 .1 .0)
+loop-less c =
+    let goes-on = c .before .before .before .before .before .before .before .before .before .before .before .before .before .before .before .before .goes-on in
+    let if1 = c .before .before .before .before .before .before .before .before .before .before .before .before .before .before .before .if1 in
+    let turn = c .before .before .before .before .before .before .before .before .before .turn in
+    let t = goes-on .ensures .0 (if1 .taken) in omega (arith, t .unread, turn .ensures .1 .1 .0)
 
 loop-again : tie.Need-loop-again Inv-loop μ-loop
 loop-again c =

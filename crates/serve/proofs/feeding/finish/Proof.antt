@@ -35,10 +35,14 @@ same-length-4 c = search needs
 
 returns-3 : tie.Need-returns-3
 returns-3 c =
-    let a = c .before .before .before .before .before .before .before .before .before .before .before .before .before .before .before .before .before .before .before .before .before .args in
+    let args = c .before .before .before .before .before .before .before .before .before .before .before .before .before .before .before .before .before .before .before .before .before .args in
+    let if1 = c .before .before .before .before .before .before .before .before .before .before .before .before .before .before .if1 in
+    let if2 = c .before .before .before .before .before .before .before .before .before .before .before .before .if2 in
+    let serve-cut = c .before .before .before .before .before .before .before .serve-cut in
+    let a = args in
     let s = store (a .d .table) (a .references .now) (a .coordinates .now) (a .nodes .now) in
-    let v = c .before .before .before .before .before .before .before .serve-cut .ensures in
-    ((λ o st. ended-line s (a .line .now) (a .d) o st _ (c .before .before .before .before .before .before .before .before .before .before .before .before .before .before .if1 .left) (c .before .before .before .before .before .before .before .before .before .before .before .before .if2 .left) _ _ _ (v .served)), v .short)
+    let v = serve-cut .ensures in
+    ((λ o st. ended-line s (a .line .now) (a .d) o st _ (if1 .left) (if2 .left) _ _ _ (v .served)), v .short)
 
 pub finish-spec : {M : Type 1} → statement M
 finish-spec =

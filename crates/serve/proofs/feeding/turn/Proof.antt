@@ -30,7 +30,10 @@ returns c =
     )
 
 serve-cut-requires : tie.Need-serve-cut-requires
-serve-cut-requires c κs = (record { ready = c .before .before .before .before .before .before .before .before .before .before .before .before .before .before .before .before .before .pre .0 .ready; room = c .before .before .before .before .before .before .before .before .before .before .before .before .before .before .before .before .before .pre .1 .room }, c .before .before .before .before .before .before .before .before .before .cut .kept .0 ∙ c .before .before .before .before .before .before .before .before .before .before .before .before .before .before .before .before .before .pre .0 .line)
+serve-cut-requires c κs =
+    let pre = c .before .before .before .before .before .before .before .before .before .before .before .before .before .before .before .before .before .pre in
+    let cut = c .before .before .before .before .before .before .before .before .before .cut in
+    (record { ready = pre .0 .ready; room = pre .1 .room }, cut .kept .0 ∙ pre .0 .line)
 
 sub-t28 : tie.Need-sub-t28
 sub-t28 c = let h = c .before .before .before .before .before .before .before .before .before .before .before .before .before .before .before .before .before .before .before .before .before .before .before .before .before .before .before .pre .1 .left in omega arith

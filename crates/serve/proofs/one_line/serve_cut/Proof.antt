@@ -15,8 +15,10 @@ same-length c = search needs
 
 returns : tie.Need-returns
 returns c =
-    let a = c .before .before .before .before .before .before .before .before .before .args in
-    cut-long (store (a .t) (a .references .now) (a .coordinates .now) (a .nodes .now)) (a .line .now) (a .size) (c .before .before .before .before .before .before .before .before .before .pre .1) (a .out .now) (a .at) _ _ (c .before .before .before .before .before .before .before .before .before .pre .0 .ready) (c .before .before .before .before .if1 .taken) (c .before .before .refuse .ensures)
+    let args = c .before .before .before .before .before .before .before .before .before .args in
+    let pre = c .before .before .before .before .before .before .before .before .before .pre in
+    let a = args in
+    cut-long (store (a .t) (a .references .now) (a .coordinates .now) (a .nodes .now)) (a .line .now) (a .size) (pre .1) (a .out .now) (a .at) _ _ (pre .0 .ready) (c .before .before .before .before .if1 .taken) (c .before .before .refuse .ensures)
 
 sub-serve-line : tie.Need-sub-serve-line
 sub-serve-line c = search needs
@@ -44,8 +46,12 @@ same-length-5 c = search needs
 
 returns-2 : tie.Need-returns-2
 returns-2 c =
-    let a = c .before .before .before .before .before .before .before .before .before .before .before .before .before .before .before .before .before .before .args in
-    cut-line (store (a .t) (a .references .now) (a .coordinates .now) (a .nodes .now)) (a .line .now) (a .size) (c .before .before .before .before .before .before .before .before .before .before .before .before .before .before .before .before .before .before .pre .1) (a .out .now) (a .at) _ _ _ (a .size - 0) (c .before .before .before .before .before .before .before .before .before .before .before .before .before .if1 .left) (omega arith) (c .before .before .before .before .before .before .before .serve-line .ensures)
+    let args = c .before .before .before .before .before .before .before .before .before .before .before .before .before .before .before .before .before .before .args in
+    let pre = c .before .before .before .before .before .before .before .before .before .before .before .before .before .before .before .before .before .before .pre in
+    let if1 = c .before .before .before .before .before .before .before .before .before .before .before .before .before .if1 in
+    let serve-line = c .before .before .before .before .before .before .before .serve-line in
+    let a = args in
+    cut-line (store (a .t) (a .references .now) (a .coordinates .now) (a .nodes .now)) (a .line .now) (a .size) (pre .1) (a .out .now) (a .at) _ _ _ (a .size - 0) (if1 .left) (omega arith) (serve-line .ensures)
 
 pub serve-cut-spec : {M : Type 1} → statement M
 serve-cut-spec =

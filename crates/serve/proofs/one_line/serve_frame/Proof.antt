@@ -16,7 +16,11 @@ claim-at-requires c κs = sym (c .before .claim-ok .ensures) ∙ c .if1 .taken
 
 take-claim-requires : tie.Need-take-claim-requires
 take-claim-requires c κs =
-    record { serving = (c .before .before .before .before .before .before .before .before .before .before .before .pre); range = rw (c .before .before .before .before .claim-at .ensures) (claim-range (frameIn (c .before .before .before .before .before .before .before .before .before .before .before .args .src .now)) (sym (c .before .before .before .before .before .before .claim-ok .ensures) ∙ c .before .before .before .before .before .if1 .taken)) }
+    let pre = c .before .before .before .before .before .before .before .before .before .before .before .pre in
+    let args = c .before .before .before .before .before .before .before .before .before .before .before .args in
+    let claim-ok = c .before .before .before .before .before .before .claim-ok in
+    let if1 = c .before .before .before .before .before .if1 in
+    record { serving = pre; range = rw (c .before .before .before .before .claim-at .ensures) (claim-range (frameIn (args .src .now)) (sym (claim-ok .ensures) ∙ if1 .taken)) }
 
 same-length : tie.Need-same-length
 same-length c = search needs
@@ -32,8 +36,13 @@ same-length-4 c = search needs
 
 returns : tie.Need-returns
 returns c =
-    let a = c .before .before .before .before .before .before .before .before .before .before .before .before .before .before .before .before .before .before .before .args in
-    frame-claim (store (a .t) (a .references .now) (a .coordinates .now) (a .nodes .now)) (frameIn (a .src .now)) (a .out .now) (a .at) _ _ _ _ (sym (c .before .before .before .before .before .before .before .before .before .before .before .before .before .before .claim-ok .ensures) ∙ c .before .before .before .before .before .before .before .before .before .before .before .before .before .if1 .taken) (c .before .before .before .before .before .before .before .before .before .before .before .before .claim-at .ensures) (c .before .before .before .before .before .before .before .take-claim .ensures)
+    let args = c .before .before .before .before .before .before .before .before .before .before .before .before .before .before .before .before .before .before .before .args in
+    let claim-ok = c .before .before .before .before .before .before .before .before .before .before .before .before .before .before .claim-ok in
+    let if1 = c .before .before .before .before .before .before .before .before .before .before .before .before .before .if1 in
+    let claim-at = c .before .before .before .before .before .before .before .before .before .before .before .before .claim-at in
+    let take-claim = c .before .before .before .before .before .before .before .take-claim in
+    let a = args in
+    frame-claim (store (a .t) (a .references .now) (a .coordinates .now) (a .nodes .now)) (frameIn (a .src .now)) (a .out .now) (a .at) _ _ _ _ (sym (claim-ok .ensures) ∙ if1 .taken) (claim-at .ensures) (take-claim .ensures)
 
 ask-ok-requires : tie.Need-ask-ok-requires
 ask-ok-requires c κs = search needs
@@ -43,7 +52,11 @@ ask-at-requires c κs = sym (c .before .ask-ok .ensures) ∙ c .if2 .taken
 
 take-ask-requires : tie.Need-take-ask-requires
 take-ask-requires c κs =
-    record { serving = (c .before .before .before .before .before .before .before .before .before .before .before .before .before .pre); ask = rw (c .before .before .before .before .ask-at .ensures) (ask-given (frameIn (c .before .before .before .before .before .before .before .before .before .before .before .before .before .args .src .now)) (sym (c .before .before .before .before .before .before .ask-ok .ensures) ∙ c .before .before .before .before .before .if2 .taken)) }
+    let pre = c .before .before .before .before .before .before .before .before .before .before .before .before .before .pre in
+    let args = c .before .before .before .before .before .before .before .before .before .before .before .before .before .args in
+    let ask-ok = c .before .before .before .before .before .before .ask-ok in
+    let if2 = c .before .before .before .before .before .if2 in
+    record { serving = pre; ask = rw (c .before .before .before .before .ask-at .ensures) (ask-given (frameIn (args .src .now)) (sym (ask-ok .ensures) ∙ if2 .taken)) }
 
 same-length-5 : tie.Need-same-length-5
 same-length-5 c = search needs
@@ -59,8 +72,15 @@ same-length-8 c = search needs
 
 returns-2 : tie.Need-returns-2
 returns-2 c =
-    let a = c .before .before .before .before .before .before .before .before .before .before .before .before .before .before .before .before .args in
-    frame-ask (store (a .t) (a .references .now) (a .coordinates .now) (a .nodes .now)) (frameIn (a .src .now)) (a .out .now) (a .at) _ _ _ (c .before .before .before .before .before .before .before .before .before .before .before .before .before .before .before .before .pre .ready) (sym (c .before .before .before .before .before .before .before .before .before .before .before .claim-ok .ensures) ∙ c .before .before .before .before .before .before .before .before .before .before .if1 .left) (sym (c .before .before .before .before .before .before .before .before .before .ask-ok .ensures) ∙ c .before .before .before .before .before .before .before .before .if2 .taken) (c .before .before .before .before .before .before .before .ask-at .ensures) (c .before .before .take-ask .ensures)
+    let args = c .before .before .before .before .before .before .before .before .before .before .before .before .before .before .before .before .args in
+    let pre = c .before .before .before .before .before .before .before .before .before .before .before .before .before .before .before .before .pre in
+    let claim-ok = c .before .before .before .before .before .before .before .before .before .before .before .claim-ok in
+    let if1 = c .before .before .before .before .before .before .before .before .before .before .if1 in
+    let ask-ok = c .before .before .before .before .before .before .before .before .before .ask-ok in
+    let if2 = c .before .before .before .before .before .before .before .before .if2 in
+    let ask-at = c .before .before .before .before .before .before .before .ask-at in
+    let a = args in
+    frame-ask (store (a .t) (a .references .now) (a .coordinates .now) (a .nodes .now)) (frameIn (a .src .now)) (a .out .now) (a .at) _ _ _ (pre .ready) (sym (claim-ok .ensures) ∙ if1 .left) (sym (ask-ok .ensures) ∙ if2 .taken) (ask-at .ensures) (c .before .before .take-ask .ensures)
 
 refuse-requires : tie.Need-refuse-requires
 refuse-requires c κs = search needs
@@ -70,8 +90,13 @@ same-length-9 c = search needs
 
 returns-3 : tie.Need-returns-3
 returns-3 c =
-    let a = c .before .before .before .before .before .before .before .before .before .before .before .before .args in
-    frame-none (store (a .t) (a .references .now) (a .coordinates .now) (a .nodes .now)) (frameIn (a .src .now)) (a .out .now) (a .at) _ _ (c .before .before .before .before .before .before .before .before .before .before .before .before .pre .ready) (sym (c .before .before .before .before .before .before .before .claim-ok .ensures) ∙ c .before .before .before .before .before .before .if1 .left) (sym (c .before .before .before .before .before .ask-ok .ensures) ∙ c .before .before .before .before .if2 .left) (c .before .before .refuse .ensures)
+    let args = c .before .before .before .before .before .before .before .before .before .before .before .before .args in
+    let pre = c .before .before .before .before .before .before .before .before .before .before .before .before .pre in
+    let claim-ok = c .before .before .before .before .before .before .before .claim-ok in
+    let if1 = c .before .before .before .before .before .before .if1 in
+    let ask-ok = c .before .before .before .before .before .ask-ok in
+    let a = args in
+    frame-none (store (a .t) (a .references .now) (a .coordinates .now) (a .nodes .now)) (frameIn (a .src .now)) (a .out .now) (a .at) _ _ (pre .ready) (sym (claim-ok .ensures) ∙ if1 .left) (sym (ask-ok .ensures) ∙ c .before .before .before .before .if2 .left) (c .before .before .refuse .ensures)
 
 pub serve-frame-spec : {M : Type 1} → statement M
 serve-frame-spec =

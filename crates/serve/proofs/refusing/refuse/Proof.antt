@@ -30,7 +30,12 @@ same-length : tie.Need-same-length
 same-length c = search needs
 
 returns : tie.Need-returns
-returns c = refuse-one (c .before .before .before .before .before .before .before .args .out .now) (c .before .before .before .before .before .before .before .args .at) _ (c .before .before .before .before .before .before .before .args .n) refl (c .before .before .before .before .before .before .before .pre .1) _ _ (c .before .before .before .before .before .if1 .taken) (c .before .before .copy .ensures .0) (c .before .before .copy .ensures .1)
+returns c =
+    let args = c .before .before .before .before .before .before .before .args in
+    let pre = c .before .before .before .before .before .before .before .pre in
+    let if1 = c .before .before .before .before .before .if1 in
+    let copy = c .before .before .copy in
+    refuse-one (args .out .now) (args .at) _ (args .n) refl (pre .1) _ _ (if1 .taken) (copy .ensures .0) (copy .ensures .1)
 
 add-t16 : tie.Need-add-t16
 add-t16 c = search needs
@@ -60,7 +65,12 @@ same-length-2 : tie.Need-same-length-2
 same-length-2 c = search needs
 
 returns-2 : tie.Need-returns-2
-returns-2 c = refuse-two (c .before .before .before .before .before .before .before .args .out .now) (c .before .before .before .before .before .before .before .args .at) _ (c .before .before .before .before .before .before .before .args .n) refl (c .before .before .before .before .before .before .before .pre .1) _ _ (c .before .before .before .before .before .if1 .left) (c .before .before .copy2 .ensures .0) (c .before .before .copy2 .ensures .1)
+returns-2 c =
+    let args = c .before .before .before .before .before .before .before .args in
+    let pre = c .before .before .before .before .before .before .before .pre in
+    let if1 = c .before .before .before .before .before .if1 in
+    let copy2 = c .before .before .copy2 in
+    refuse-two (args .out .now) (args .at) _ (args .n) refl (pre .1) _ _ (if1 .left) (copy2 .ensures .0) (copy2 .ensures .1)
 
 pub refuse-spec : {M : Type 1} → statement M
 refuse-spec =

@@ -27,7 +27,12 @@ same-length : tie.Need-same-length
 same-length c = search needs
 
 returns-4 : tie.Need-returns-4
-returns-4 c = ask-put _ _ _ _ (c .before .before .before .before .before .before .before .before .before .before .pre) (c .before .before .before .before .before .before .before .if1 .left) _ (c .before .before .before .before .before .before .size-holds .ensures) (c .before .before .before .before .before .if2 .left) (c .before .before .before .before .if3 .left) _ _ (c .before .before .put-ask .ensures)
+returns-4 c =
+    let pre = c .before .before .before .before .before .before .before .before .before .before .pre in
+    let if1 = c .before .before .before .before .before .before .before .if1 in
+    let size-holds = c .before .before .before .before .before .before .size-holds in
+    let if2 = c .before .before .before .before .before .if2 in
+    ask-put _ _ _ _ pre (if1 .left) _ (size-holds .ensures) (if2 .left) (c .before .before .before .before .if3 .left) _ _ (c .before .before .put-ask .ensures)
 
 pub write-ask-spec : {M : Type 1} → statement M
 write-ask-spec =

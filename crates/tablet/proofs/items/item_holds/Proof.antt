@@ -68,10 +68,18 @@ before-requires : tie.Need-before-requires
 before-requires c κs = search needs
 
 returns-4 : tie.Need-returns-4
-returns-4 c = way-next _ _ _ _ _ _ _ (c .before .before .before .before .before .before .before .before .before .before .before .pre .0) (c .before .before .before .before .before .before .before .if1 .left) (c .before .before .before .before .before .before .if2 .left) (c .before .before .before .before .before .is-after .result) (c .before .before .before .before .before .is-after .ensures _) (c .before .before .before .before .if3 .left) (c .before .before .before .if4 .taken) _ (c .before2 .ensures)
+returns-4 c =
+    let pre = c .before .before .before .before .before .before .before .before .before .before .before .pre in
+    let if1 = c .before .before .before .before .before .before .before .if1 in
+    let if2 = c .before .before .before .before .before .before .if2 in
+    let is-after = c .before .before .before .before .before .is-after in
+    way-next _ _ _ _ _ _ _ (pre .0) (if1 .left) (if2 .left) (is-after .result) (is-after .ensures _) (c .before .before .before .before .if3 .left) (c .before .before .before .if4 .taken) _ (c .before2 .ensures)
 
 returns-5 : tie.Need-returns-5
-returns-5 c = way-last _ _ _ _ _ _ _ (c .before .before .before .before .before .before .before .before .pre .0) (c .before .before .before .before .if1 .left) (c .before .before .before .if2 .left) (c .before .before .is-after .result) (c .before .before .is-after .ensures _) (c .before .if3 .left) (c .if4 .left)
+returns-5 c =
+    let pre = c .before .before .before .before .before .before .before .before .pre in
+    let is-after = c .before .before .is-after in
+    way-last _ _ _ _ _ _ _ (pre .0) (c .before .before .before .before .if1 .left) (c .before .before .before .if2 .left) (is-after .result) (is-after .ensures _) (c .before .if3 .left) (c .if4 .left)
 
 pub item-holds-spec : {M : Type 1} → statement M
 item-holds-spec =

@@ -20,7 +20,9 @@ returns-2 : tie.Need-returns-2
 returns-2 c = open-5 _ _ (c .before .before .before .in-range .ensures) (c .before .before .if1 .left) (c .before .if2 .taken) _ (c .no-list2 .ensures)
 
 query-of-requires : tie.Need-query-of-requires
-query-of-requires c κs = (c .if2 .left, open-narrow (record { order = c .before .before .before .args .order; table = c .before .before .before .args .table; measure = c .before .before .before .args .measure; d = c .before .before .before .args .d; probe = c .before .before .before .args .probe .now; reach = c .before .before .before .args .reach }) _ (c .before .before .in-range .ensures) (c .before .if1 .left))
+query-of-requires c κs =
+    let args = c .before .before .before .args in
+    (c .if2 .left, open-narrow (record { order = args .order; table = args .table; measure = args .measure; d = args .d; probe = args .probe .now; reach = args .reach }) _ (c .before .before .in-range .ensures) (c .before .if1 .left))
 
 returns-3 : tie.Need-returns-3
 returns-3 c = open-list _ _ (c .before .before .before .in-range .ensures) (c .before .before .if1 .left) (c .before .if2 .left) _ (c .query-of .ensures)

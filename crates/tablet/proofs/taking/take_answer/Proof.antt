@@ -38,8 +38,10 @@ same-length-2 c = search needs
 
 returns-3 : tie.Need-returns-3
 returns-3 c =
-    let g = c .before .before .before .before .before .before .before .before .args in
-    takes-refused _ _ _ _ _ (take-14 (g .l) (g .room .now) (g .y) (c .before .before .before .before .before .before .if1 .left) _ (c .before .before .before .before .to-present .ensures) (c .before .before .before .if2 .left) _ (c .before .before .page-holds .ensures) (c .before .if3 .taken)) (c .refused3 .ensures)
+    let args = c .before .before .before .before .before .before .before .before .args in
+    let if1 = c .before .before .before .before .before .before .if1 in
+    let g = args in
+    takes-refused _ _ _ _ _ (take-14 (g .l) (g .room .now) (g .y) (if1 .left) _ (c .before .before .before .before .to-present .ensures) (c .before .before .before .if2 .left) _ (c .before .before .page-holds .ensures) (c .before .if3 .taken)) (c .refused3 .ensures)
 
 cast-n : tie.Need-cast-n
 cast-n c = search needs
@@ -58,9 +60,15 @@ same-length-3 c = search needs
 
 returns-4 : tie.Need-returns-4
 returns-4 c =
-    let g = c .before .before .before .before .before .before .before .before .before .before .before .args in
+    let args = c .before .before .before .before .before .before .before .before .before .before .before .args in
+    let pre = c .before .before .before .before .before .before .before .before .before .before .before .pre in
+    let if1 = c .before .before .before .before .before .before .before .before .before .if1 in
+    let to-present = c .before .before .before .before .before .before .before .to-present in
+    let if2 = c .before .before .before .before .before .before .if2 in
+    let page-holds = c .before .before .before .before .before .page-holds in
+    let g = args in
     takes-refused _ _ _ _ _
-    (take-15 (g .l) (g .room .now) (g .y) (c .before .before .before .before .before .before .before .before .before .if1 .left) _ (c .before .before .before .before .before .before .before .to-present .ensures) (c .before .before .before .before .before .before .if2 .left) _ (c .before .before .before .before .before .page-holds .ensures) (c .before .before .before .before .if3 .left) (sound-few (g .l) (g .room .now) (c .before .before .before .before .before .before .before .before .before .before .before .pre .0)) (c .before .if4 .taken))
+    (take-15 (g .l) (g .room .now) (g .y) (if1 .left) _ (to-present .ensures) (if2 .left) _ (page-holds .ensures) (c .before .before .before .before .if3 .left) (sound-few (g .l) (g .room .now) (pre .0)) (c .before .if4 .taken))
     (c .refused4 .ensures)
 
 join-page-requires : tie.Need-join-page-requires
@@ -77,11 +85,20 @@ same-length-4 c = search needs
 
 returns-5 : tie.Need-returns-5
 returns-5 c =
-    let g = c .before .before .before .before .before .before .before .before .before .before .before .before .before .before .before .args in
-    let few : g .l .count ≤ length (g .room .now) / 3 = sound-few (g .l) (g .room .now) (c .before .before .before .before .before .before .before .before .before .before .before .before .before .before .before .pre .0) in
+    let args = c .before .before .before .before .before .before .before .before .before .before .before .before .before .before .before .args in
+    let pre = c .before .before .before .before .before .before .before .before .before .before .before .before .before .before .before .pre in
+    let if1 = c .before .before .before .before .before .before .before .before .before .before .before .before .before .if1 in
+    let to-present = c .before .before .before .before .before .before .before .before .before .before .before .to-present in
+    let if2 = c .before .before .before .before .before .before .before .before .before .before .if2 in
+    let page-holds = c .before .before .before .before .before .before .before .before .before .page-holds in
+    let if3 = c .before .before .before .before .before .before .before .before .if3 in
+    let if4 = c .before .before .before .before .before .if4 in
+    let join-page = c .before .before .before .join-page in
+    let g = args in
+    let few : g .l .count ≤ length (g .room .now) / 3 = sound-few (g .l) (g .room .now) (pre .0) in
     joined-is (g .l) (g .room .now) (g .y) _ _ _
-    (take-joined (g .l) (g .room .now) (g .y) (c .before .before .before .before .before .before .before .before .before .before .before .before .before .if1 .left) _ (c .before .before .before .before .before .before .before .before .before .before .before .to-present .ensures) (c .before .before .before .before .before .before .before .before .before .before .if2 .left) _ (c .before .before .before .before .before .before .before .before .before .page-holds .ensures) (c .before .before .before .before .before .before .before .before .if3 .left) few (c .before .before .before .before .before .if4 .left))
-    (omega arith) (omega (arith, c .before .before .before .join-page .ensures .1, c .before .before .before .before .before .before .before .before .before .before .before .before .before .before .before .pre .1)) (c .joined .ensures) (c .before .before .before .join-page .ensures .0)
+    (take-joined (g .l) (g .room .now) (g .y) (if1 .left) _ (to-present .ensures) (if2 .left) _ (page-holds .ensures) (if3 .left) few (if4 .left))
+    (omega arith) (omega (arith, join-page .ensures .1, pre .1)) (c .joined .ensures) (join-page .ensures .0)
 
 pub take-answer-spec : {M : Type 1} → statement M
 take-answer-spec =

@@ -21,7 +21,11 @@ same-length : tie.Need-same-length
 same-length c = search needs
 
 returns-2 : tie.Need-returns-2
-returns-2 c = taken-same _ _ _ _ (take-read _ (c .before .before .before .before .before .before .before .before .before .before .pre) _ _ (c .before .before .before .before .before .before .read-answer .ensures) (c .before .before .before .before .before .if1 .left)) (c .before .before .take-answer .ensures)
+returns-2 c =
+    let pre = c .before .before .before .before .before .before .before .before .before .before .pre in
+    let read-answer = c .before .before .before .before .before .before .read-answer in
+    let if1 = c .before .before .before .before .before .if1 in
+    taken-same _ _ _ _ (take-read _ pre _ _ (read-answer .ensures) (if1 .left)) (c .before .before .take-answer .ensures)
 
 pub take-line-spec : {M : Type 1} → statement M
 take-line-spec =

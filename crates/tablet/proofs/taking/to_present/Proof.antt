@@ -18,7 +18,9 @@ same-place-requires : tie.Need-same-place-requires
 same-place-requires c κs = search needs
 
 returns-2 : tie.Need-returns-2
-returns-2 c = present-place (c .before .before .before .before .before .before .before .before .args .l) (c .before .before .before .before .before .before .before .before .args .room .now) (c .before .before .before .before .before .before .before .before .args .y) _ (c .before .before .before .before .same-query .ensures) (c .before .before .before .if1 .left) _ (c .before .before .present .ensures) _ (c .same-place .ensures)
+returns-2 c =
+    let args = c .before .before .before .before .before .before .before .before .args in
+    present-place (args .l) (args .room .now) (args .y) _ (c .before .before .before .before .same-query .ensures) (c .before .before .before .if1 .left) _ (c .before .before .present .ensures) _ (c .same-place .ensures)
 
 pub to-present-spec : {M : Type 1} → statement M
 to-present-spec =

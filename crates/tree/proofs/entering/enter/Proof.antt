@@ -27,7 +27,8 @@ small c =
 lifted : (c : tie.After-widen Inv-loop μ-loop) → c .widen .last .0
     ≡ raise (apart (c .before .before .before .before .before .before .before .before .before .before .before .before .args .measure) (c .before .before .before .before .before .before .before .before .before .before .before .before .args .d) (c .before .before .before .before .before .before .before .before .before .before .before .before .args .coordinates .now)) (c .before .before .before .before .before .before .before .before .before .loop .nodes) (c .before .before .before .before .before .before .before .before .before .loop .m) (c .before .before .before .before .nearer .result .side) (c .before .before .before .before .before .before .before .before .before .before .before .before .args .k)
 lifted c =
-    let a = c .before .before .before .before .before .before .before .before .before .before .before .before .args in
+    let args = c .before .before .before .before .before .before .before .before .before .before .before .before .args in
+    let a = args in
     c .widen .ensures ∙ raised (apart (a .measure) (a .d) (a .coordinates .now)) _ _ _ _ _ (c .before .before .before .before .nearer .ensures .1)
 
 -- and the node has a claim on its right
@@ -86,12 +87,17 @@ add-store-2 : tie.Need-add-store-2 Inv-loop μ-loop
 add-store-2 c = omega (arith, small (c .before .before .before .before .before .before .before .before))
 
 add-store-3 : tie.Need-add-store-3 Inv-loop μ-loop
-add-store-3 c = omega (arith, c .before .before .before .before .before .before .before .before .before .before .before .before .before .before .before .before .pre .room, c .before .before .before .before .before .before .before .before .before .before .before .before .before .before .before .before .good)
+add-store-3 c =
+    let pre = c .before .before .before .before .before .before .before .before .before .before .before .before .before .before .before .before .pre in
+    let good = c .before .before .before .before .before .before .before .before .before .before .before .before .before .before .before .before .good in
+    omega (arith, pre .room, good)
 
 store-requires-2 : tie.Need-store-requires-2 Inv-loop μ-loop
 store-requires-2 c κs =
-    let g = c .before .before .before .before .before .before .before .before .before .before .before .before .before .loop .inv in
-    omega (arith, small (c .before .before .before .before .before .before .before .before), g .inUse, g .long, c .before .before .before .before .widen .kept .0, c .before .before .before .before .before .before .before .before .before .before .before .before .before .before .before .before .pre .room)
+    let pre = c .before .before .before .before .before .before .before .before .before .before .before .before .before .before .before .before .pre in
+    let loop = c .before .before .before .before .before .before .before .before .before .before .before .before .before .loop in
+    let g = loop .inv in
+    omega (arith, small (c .before .before .before .before .before .before .before .before), g .inUse, g .long, c .before .before .before .before .widen .kept .0, pre .room)
 
 make-requires-2 : tie.Need-make-requires-2 Inv-loop μ-loop
 make-requires-2 c κs =
@@ -100,30 +106,49 @@ make-requires-2 c κs =
     omega (arith, g .long, c .before .before .before .before .before .before .before .before .widen .kept .0, c .before .before .before .store2 .kept .0, p .room, p .few)
 
 add-result : tie.Need-add-result Inv-loop μ-loop
-add-result c = omega (arith, c .before .before .before .before .before .before .before .before .before .before .before .before .before .before .before .before .before .before .before .before .before .before .before .pre .room, c .before .before .before .before .before .before .before .before .before .before .before .before .before .before .before .before .before .before .before .before .before .before .before .good)
+add-result c =
+    let pre = c .before .before .before .before .before .before .before .before .before .before .before .before .before .before .before .before .before .before .before .before .before .before .before .pre in
+    let good = c .before .before .before .before .before .before .before .before .before .before .before .before .before .before .before .before .before .before .before .before .before .before .before .good in
+    omega (arith, pre .room, good)
 
 same-length-3 : tie.Need-same-length-3 Inv-loop μ-loop
-same-length-3 c = c .before .before .make2 .kept .0 ∙ c .before .before .before .before .before .before .store2 .kept .0 ∙ c .before .before .before .before .before .before .before .before .before .before .before .widen .kept .0 ∙ c .before .before .before .before .before .before .before .before .before .before .before .before .before .before .before .before .before .before .before .before .loop .inv .long
+same-length-3 c =
+    let loop = c .before .before .before .before .before .before .before .before .before .before .before .before .before .before .before .before .before .before .before .before .loop in
+    let widen = c .before .before .before .before .before .before .before .before .before .before .before .widen in
+    let store2 = c .before .before .before .before .before .before .store2 in
+    c .before .before .make2 .kept .0 ∙ store2 .kept .0 ∙ widen .kept .0 ∙ loop .inv .long
 
 returns-3 : tie.Need-returns-3 Inv-loop μ-loop
 returns-3 c =
+    let args = c .before .before .before .before .before .before .before .before .before .before .before .before .before .before .before .before .before .before .before .before .before .before .before .args in
+    let loop = c .before .before .before .before .before .before .before .before .before .before .before .before .before .before .before .before .before .before .before .before .loop in
+    let nearer = c .before .before .before .before .before .before .before .before .before .before .before .before .before .before .before .nearer in
+    let field2 = c .before .before .before .before .before .before .before .before .before .before .before .before .before .field2 in
+    let if3 = c .before .before .before .before .before .before .before .before .if3 in
+    let store2 = c .before .before .before .before .before .before .store2 in
     let w = c .before .before .before .before .before .before .before .before .before .before .before in
-    let a = c .before .before .before .before .before .before .before .before .before .before .before .before .before .before .before .before .before .before .before .before .before .before .before .args in
-    let e = going-new _ _ _ _ _ _ (c .before .before .before .before .before .before .before .before .before .before .before .before .before .before .before .before .before .before .before .before .loop .inv) _ _ _ (full w) (c .before .before .before .before .before .before .before .before .before .before .before .before .before .before .before .nearer .ensures .0) (c .before .before .before .before .before .before .before .before .before .before .before .before .before .field2 .ensures) (lifted w) (c .before .before .before .before .before .before .before .before .if3 .taken) in
-    (c .before .before .make2 .ensures ∙ ap (λ (x : List ℕ). newNode x (a .used) (a .k)) (c .before .before .before .before .before .before .store2 .ensures) ∙ sym (ap (λ (x : Grown). x .nodes) e), sym (ap (λ (x : Grown). x .used) e))
+    let a = args in
+    let e = going-new _ _ _ _ _ _ (loop .inv) _ _ _ (full w) (nearer .ensures .0) (field2 .ensures) (lifted w) (if3 .taken) in
+    (c .before .before .make2 .ensures ∙ ap (λ (x : List ℕ). newNode x (a .used) (a .k)) (store2 .ensures) ∙ sym (ap (λ (x : Grown). x .nodes) e), sym (ap (λ (x : Grown). x .used) e))
 
 sub-m : tie.Need-sub-m Inv-loop μ-loop
 sub-m c = omega arith
 
 loop-less : tie.Need-loop-less Inv-loop μ-loop
 loop-less c =
+    let loop = c .before .before .before .before .before .before .before .before .before .before .before .before .loop in
+    let nearer = c .before .before .before .before .before .before .before .nearer in
+    let field2 = c .before .before .before .before .before .field2 in
     let w = c .before .before .before in
-    omega (arith, c .before .before .before .before .before .before .before .before .before .before .before .before .loop .inv .inUse, going-rises _ _ _ _ _ _ (c .before .before .before .before .before .before .before .before .before .before .before .before .loop .inv) _ _ _ (full w) (c .before .before .before .before .before .before .before .nearer .ensures .0) (c .before .before .before .before .before .field2 .ensures) (lifted w) (c .if3 .left))
+    omega (arith, loop .inv .inUse, going-rises _ _ _ _ _ _ (loop .inv) _ _ _ (full w) (nearer .ensures .0) (field2 .ensures) (lifted w) (c .if3 .left))
 
 loop-again : tie.Need-loop-again Inv-loop μ-loop
 loop-again c =
+    let loop = c .before .before .before .before .before .before .before .before .before .before .before .before .loop in
+    let nearer = c .before .before .before .before .before .before .before .nearer in
+    let field2 = c .before .before .before .before .before .field2 in
     let w = c .before .before .before in
-    going-down _ _ _ _ _ _ (c .before .before .before .before .before .before .before .before .before .before .before .before .loop .inv) _ _ _ (full w) (c .before .before .before .before .before .before .before .nearer .ensures .0) (c .before .before .before .before .before .field2 .ensures) (lifted w) (c .if3 .left)
+    going-down _ _ _ _ _ _ (loop .inv) _ _ _ (full w) (nearer .ensures .0) (field2 .ensures) (lifted w) (c .if3 .left)
 
 pub enter-spec : {M : Type 1} → statement M
 enter-spec =

@@ -42,8 +42,12 @@ same-length-3 c = search needs
 
 returns : tie.Need-returns
 returns c =
-    let a = c .before .before .before .before .before .before .before .before .before .before .before .before .before .before .args in
-    add-way (store (a .t) (a .references .now) (a .coordinates .now) (a .nodes .now)) _ _ _ _ _ _ _ (c .before .before .before .before .before .before .before .before .before .before .put-reference .ensures) (c .before .before .before .before .before .before .copy .ensures) (c .before .before .enter .ensures .0) (c .before .before .enter .ensures .1)
+    let args = c .before .before .before .before .before .before .before .before .before .before .before .before .before .before .args in
+    let put-reference = c .before .before .before .before .before .before .before .before .before .before .put-reference in
+    let copy = c .before .before .before .before .before .before .copy in
+    let enter = c .before .before .enter in
+    let a = args in
+    add-way (store (a .t) (a .references .now) (a .coordinates .now) (a .nodes .now)) _ _ _ _ _ _ _ (put-reference .ensures) (copy .ensures) (enter .ensures .0) (enter .ensures .1)
 
 pub add-spec : {M : Type 1} → statement M
 add-spec =

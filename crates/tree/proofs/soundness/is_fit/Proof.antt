@@ -29,22 +29,36 @@ unfolding fits
 returns-4 c = simp (sym (c .before .before .before .before .in-range .ensures) ∙ not-false _ (c .before .before .before .if1 .left), le-leb _ _ (c .before .before .if2 .left), le-leb _ _ (c .before .if3 .left), lt-leb _ _ (c .if4 .taken))
 
 mul-if5 : tie.Need-mul-if5
-mul-if5 c = let t = c .before .before .before .before .before .before .before .before .args .t in record { fits = omega (arith, few-places (t .capacity) (t .d) (omega arith) (range-is (t .measure) (t .d) (sym (c .before .before .before .before .before .in-range .ensures) ∙ not-false _ (c .before .before .before .before .if1 .left)) .narrow)) }
+mul-if5 c =
+    let args = c .before .before .before .before .before .before .before .before .args in
+    let in-range = c .before .before .before .before .before .in-range in
+    let t = args .t in record { fits = omega (arith, few-places (t .capacity) (t .d) (omega arith) (range-is (t .measure) (t .d) (sym (in-range .ensures) ∙ not-false _ (c .before .before .before .before .if1 .left)) .narrow)) }
 
 returns-5 : tie.Need-returns-5
 unfolding fits
-returns-5 c = simp (sym (c .before .before .before .before .before .before .in-range .ensures) ∙ not-false _ (c .before .before .before .before .before .if1 .left), le-leb _ _ (c .before .before .before .before .if2 .left), le-leb _ _ (c .before .before .before .if3 .left), le-leb _ _ (c .before .before .if4 .left), lt-leb _ _ (c .if5 .taken))
+returns-5 c =
+    let in-range = c .before .before .before .before .before .before .in-range in
+    let if1 = c .before .before .before .before .before .if1 in
+    simp (sym (in-range .ensures) ∙ not-false _ (if1 .left), le-leb _ _ (c .before .before .before .before .if2 .left), le-leb _ _ (c .before .before .before .if3 .left), le-leb _ _ (c .before .before .if4 .left), lt-leb _ _ (c .if5 .taken))
 
 mul-if6 : tie.Need-mul-if6
 mul-if6 c = search needs
 
 returns-6 : tie.Need-returns-6
 unfolding fits
-returns-6 c = simp (sym (c .before .before .before .before .before .before .before .in-range .ensures) ∙ not-false _ (c .before .before .before .before .before .before .if1 .left), le-leb _ _ (c .before .before .before .before .before .if2 .left), le-leb _ _ (c .before .before .before .before .if3 .left), le-leb _ _ (c .before .before .before .if4 .left), le-leb _ _ (c .before .if5 .left), lt-leb _ _ (c .if6 .taken))
+returns-6 c =
+    let in-range = c .before .before .before .before .before .before .before .in-range in
+    let if1 = c .before .before .before .before .before .before .if1 in
+    let if2 = c .before .before .before .before .before .if2 in
+    simp (sym (in-range .ensures) ∙ not-false _ (if1 .left), le-leb _ _ (if2 .left), le-leb _ _ (c .before .before .before .before .if3 .left), le-leb _ _ (c .before .before .before .if4 .left), le-leb _ _ (c .before .if5 .left), lt-leb _ _ (c .if6 .taken))
 
 returns-7 : tie.Need-returns-7
 unfolding fits
-returns-7 c = simp (sym (c .before .before .before .before .before .before .before .in-range .ensures) ∙ not-false _ (c .before .before .before .before .before .before .if1 .left), le-leb _ _ (c .before .before .before .before .before .if2 .left), le-leb _ _ (c .before .before .before .before .if3 .left), le-leb _ _ (c .before .before .before .if4 .left), le-leb _ _ (c .before .if5 .left), le-leb _ _ (c .if6 .left))
+returns-7 c =
+    let in-range = c .before .before .before .before .before .before .before .in-range in
+    let if1 = c .before .before .before .before .before .before .if1 in
+    let if2 = c .before .before .before .before .before .if2 in
+    simp (sym (in-range .ensures) ∙ not-false _ (if1 .left), le-leb _ _ (if2 .left), le-leb _ _ (c .before .before .before .before .if3 .left), le-leb _ _ (c .before .before .before .if4 .left), le-leb _ _ (c .before .if5 .left), le-leb _ _ (c .if6 .left))
 
 pub is-fit-spec : {M : Type 1} → statement M
 is-fit-spec =

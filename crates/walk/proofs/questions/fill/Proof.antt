@@ -9,13 +9,19 @@ asked-requires : tie.Need-asked-requires
 asked-requires c κs = search needs
 
 page-requires : tie.Need-page-requires
-page-requires c κs = let a = c .before .before .before .before .before .args in fill-ready (store (a .t) (a .references .now) (a .coordinates .now) (a .nodes .now)) (a .probe .now) (c .before .before .before .before .before .pre .0) _ _ _ _ _ (c .before .asked .ensures) _ (c .before .before .before .before .before .pre .1)
+page-requires c κs =
+    let args = c .before .before .before .before .before .args in
+    let pre = c .before .before .before .before .before .pre in
+    let a = args in fill-ready (store (a .t) (a .references .now) (a .coordinates .now) (a .nodes .now)) (a .probe .now) (pre .0) _ _ _ _ _ (c .before .asked .ensures) _ (pre .1)
 
 same-length : tie.Need-same-length
 same-length c = search needs
 
 returns : tie.Need-returns
-returns c = let a = c .before .before .before .before .before .before .before .before .args in fill-done (store (a .t) (a .references .now) (a .coordinates .now) (a .nodes .now)) (a .probe .now) (c .before .before .before .before .before .before .before .before .pre .0) _ _ _ _ _ (c .before .before .before .before .asked .ensures) _ (c .before .before .before .before .before .before .before .before .pre .1) _ _ (c .before .before .page .ensures)
+returns c =
+    let args = c .before .before .before .before .before .before .before .before .args in
+    let pre = c .before .before .before .before .before .before .before .before .pre in
+    let a = args in fill-done (store (a .t) (a .references .now) (a .coordinates .now) (a .nodes .now)) (a .probe .now) (pre .0) _ _ _ _ _ (c .before .before .before .before .asked .ensures) _ (pre .1) _ _ (c .before .before .page .ensures)
 
 pub fill-spec : {M : Type 1} → statement M
 fill-spec = tie.close (tie.spec asked-requires page-requires same-length returns)

@@ -20,10 +20,16 @@ from-probe-requires : tie.Need-from-probe-requires
 from-probe-requires c κs = let a = c .before .before .before .before .args in mark-sight (a .t) (a .coordinates .now) (a .probe .now) (a .reach) (a .place) _ _ (c .before .before .place .given .1) (c .before .before .before .before .pre) (c .if1 .left)
 
 returns-3 : tie.Need-returns-3
-returns-3 c = let a = c .before .before .before .before .before .before .args in mark-off (a .t) (a .coordinates .now) (a .probe .now) (a .reach) (a .place) _ _ (c .before .before .before .before .place .given .1) (c .before .before .before .before .before .before .pre) _ (c .before .from-probe .ensures) (c .before .before .if1 .left) (c .if2 .taken)
+returns-3 c =
+    let args = c .before .before .before .before .before .before .args in
+    let pre = c .before .before .before .before .before .before .pre in
+    let a = args in mark-off (a .t) (a .coordinates .now) (a .probe .now) (a .reach) (a .place) _ _ (c .before .before .before .before .place .given .1) pre _ (c .before .from-probe .ensures) (c .before .before .if1 .left) (c .if2 .taken)
 
 returns-4 : tie.Need-returns-4
-returns-4 c = let a = c .before .before .before .before .before .before .args in mark-within (a .t) (a .coordinates .now) (a .probe .now) (a .reach) (a .place) _ _ (c .before .before .before .before .place .given .1) (c .before .before .before .before .before .before .pre) _ (c .before .from-probe .ensures) (c .before .before .if1 .left) (c .if2 .left)
+returns-4 c =
+    let args = c .before .before .before .before .before .before .args in
+    let pre = c .before .before .before .before .before .before .pre in
+    let a = args in mark-within (a .t) (a .coordinates .now) (a .probe .now) (a .reach) (a .place) _ _ (c .before .before .before .before .place .given .1) pre _ (c .before .from-probe .ensures) (c .before .before .if1 .left) (c .if2 .left)
 
 pub mark-holds-spec : {M : Type 1} → statement M
 mark-holds-spec =

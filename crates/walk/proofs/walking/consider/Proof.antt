@@ -17,7 +17,11 @@ same-length : tie.Need-same-length
 same-length c = search needs
 
 returns : tie.Need-returns
-returns c = consider-kept _ _ _ _ _ _ _ _ _ _ (c .before .before .before .before .before .before .before .before .before .pre .stored) (c .before .before .before .before .before .before .admits .ensures) (c .before .before .before .before .before .if1 .taken) (c .before .before .before .before .reference .ensures) (c .before .before .keep .ensures)
+returns c =
+    let pre = c .before .before .before .before .before .before .before .before .before .pre in
+    let admits = c .before .before .before .before .before .before .admits in
+    let if1 = c .before .before .before .before .before .if1 in
+    consider-kept _ _ _ _ _ _ _ _ _ _ (pre .stored) (admits .ensures) (if1 .taken) (c .before .before .before .before .reference .ensures) (c .before .before .keep .ensures)
 
 returns-2 : tie.Need-returns-2
 returns-2 c = consider-left _ _ _ _ _ _ _ (c .before .before .before .before .pre .roomy .few) (c .before .admits .ensures) (c .if1 .left)

@@ -14,7 +14,10 @@ same-length : tie.Need-same-length
 same-length c = search needs
 
 returns-2 : tie.Need-returns-2
-returns-2 c = let a = c .before .before .before .before .before .before .before .before .args in page-all (a .references .now) (a .coordinates .now) (a .nodes .now) (a .probe .now) (a .ask) _ (c .before .before .before .before .before .before .before .before .pre) _ _ (c .before .before .node .ensures)
+returns-2 c =
+    let args = c .before .before .before .before .before .before .before .before .args in
+    let pre = c .before .before .before .before .before .before .before .before .pre in
+    let a = args in page-all (a .references .now) (a .coordinates .now) (a .nodes .now) (a .probe .now) (a .ask) _ pre _ _ (c .before .before .node .ensures)
 
 pub page-spec : {M : Type 1} → statement M
 page-spec = tie.close (tie.spec returns node-requires same-length returns-2)
