@@ -129,18 +129,18 @@ last-at : (n : ℕ) (room : List ℕ) → 1 ≤ n → lastItem (itemsIn n room) 
 last-at n room h = rw (length-in n room) (item-get n (n - 1) room (omega arith))
 
 module _ (l : lists.List) (room : List ℕ) where
-  abbrev now-at : Place
-  now-at = presentPlace (listing (held l room))
+  abbrev present-at : Place
+  present-at = presentPlace (listing (held l room))
 
   pub present-after : l .started ≡ true → 1 ≤ l .count
-      → record { from = 1; snapshot = l .snapshot; distance = getD room (l .count * 3 - 1) 0; number = getD room (l .count * 3 - 3) 0 } ≡ scopeOf now-at (snapshotOf now-at 0)
+      → record { from = 1; snapshot = l .snapshot; distance = getD room (l .count * 3 - 1) 0; number = getD room (l .count * 3 - 3) 0 } ≡ scopeOf present-at (snapshotOf present-at 0)
   unfolding presentPlace listing scopeOf
   present-after s h =
       let a : (l .count - 1) * 3 ≡ l .count * 3 - 3 = omega arith in
       let b : l .count * 3 - 3 + 2 ≡ l .count * 3 - 1 = omega arith in
       rw (s, last-at (l .count) room h, a, b)
 
-  pub present-start : l .started ≡ false → record { from = 0; snapshot = 0; distance = 0; number = 0 } ≡ scopeOf now-at (snapshotOf now-at 0)
+  pub present-start : l .started ≡ false → record { from = 0; snapshot = 0; distance = 0; number = 0 } ≡ scopeOf present-at (snapshotOf present-at 0)
   unfolding presentPlace listing scopeOf
   present-start s = rw s
 
@@ -149,11 +149,11 @@ module _ (l : lists.List) (room : List ℕ) where
     unfolding toPresent listing answerMeant
     present-query h = rw (← ae, not-true a h)
 
-    pub present-place : not a ≡ false → (p : Scope) → p ≡ scopeOf now-at (snapshotOf now-at 0)
+    pub present-place : not a ≡ false → (p : Scope) → p ≡ scopeOf present-at (snapshotOf present-at 0)
         → (r : Bool) → r ≡ samePlace (placeIn p) (placeIn (y .scope)) → r ≡ toPresent (listing (held l room)) (answerMeant y)
     unfolding toPresent listing answerMeant
     present-place h p pe r e =
-        let b : placeIn p ≡ now-at = ap placeIn pe ∙ place-back now-at in
+        let b : placeIn p ≡ present-at = ap placeIn pe ∙ place-back present-at in
         e ∙ ap (λ (u : Place). samePlace u (placeIn (y .scope))) b ∙ rw (← ae, not-false a h)
 
 -- ---- the page
