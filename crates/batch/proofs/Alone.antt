@@ -15,7 +15,7 @@ use Rattle.paper.specs.Tree.{Store}
 use Rattle.paper.specs.Lines.{putLine}
 use Rattle.paper.specs.Calls.{officeCall}
 use Rattle.paper.proofs.Outcomes.{must-go}
-use Rattle.batch.specs.Batch.{lineAt, Batch, batchStart, answerNow, lengthSaid, rowPut, stepBy, step, goes, batchAnswered, startAt, nthLine, alone, lineSaid, answersOf, rowsOf, batchAt, AsAlone}
+use Rattle.batch.specs.Batch.{lineAt, Batch, batchStart, answerNow, lengthGiven, rowPut, stepBy, step, goes, batchAnswered, startAt, nthLine, alone, lineGiven, answersOf, rowsOf, batchAt, LineAsAlone}
 use Rattle.batch.proofs.Cutting.{cut-on}
 use Rattle.batch.proofs.Steps.{goes-room-for, same-batch}
 use Rattle.paper.specs.Limits.{longestAnswer}
@@ -27,13 +27,13 @@ pub office-any-room : (s : Store) (room : ℕ) (line : List ℕ) → longestAnsw
 unfolding officeCall
 office-any-room s room line h = must-go (leb longestAnswer room) 12 _ (le-leb longestAnswer room h)
 
-pub said-size : (o : Outcome (List ℕ)) → length (lineSaid o) ≡ lengthSaid o
-unfolding lineSaid lengthSaid
+pub said-size : (o : Outcome (List ℕ)) → length (lineGiven o) ≡ lengthGiven o
+unfolding lineGiven lengthGiven
 said-size (refused n) = refl
 said-size (gives line) = refl
 
-room-is : (o : Outcome (List ℕ)) (room : List ℕ) → leaves putLine o room ≡ lineSaid o ++ drop (length (lineSaid o)) room
-unfolding lineSaid
+room-is : (o : Outcome (List ℕ)) (room : List ℕ) → leaves putLine o room ≡ lineGiven o ++ drop (length (lineGiven o)) room
+unfolding lineGiven
 room-is (refused n) room = refl
 room-is (gives line) room = refl
 
@@ -49,7 +49,7 @@ module _ (s : Store) (asks : List ℕ) where
   unfolding rowsOf
   rows-long zero = refl
   rows-long (suc n) =
-      let m = length-append (rowsOf n s asks) (number (alone s asks n) ∷ lengthSaid (alone s asks n) ∷ []) in
+      let m = length-append (rowsOf n s asks) (number (alone s asks n) ∷ lengthGiven (alone s asks n) ∷ []) in
       omega (arith, m, rows-long n)
 
   module _ (outcomes out : List ℕ) where
@@ -91,18 +91,18 @@ module _ (s : Store) (asks : List ℕ) where
 
       out-at : (o : Outcome (List ℕ))
           → take (length Said) (Said ++ drop (length Said) out) ++ leaves putLine o (drop (length Said) (Said ++ drop (length Said) out))
-          ≡ (Said ++ lineSaid o) ++ drop (length (Said ++ lineSaid o)) out
+          ≡ (Said ++ lineGiven o) ++ drop (length (Said ++ lineGiven o)) out
       out-at o =
-          rw (take-at Said (drop (length Said) out) (length Said) refl, behind-said, room-is o (drop (length Said) out), drop-drop (length (lineSaid o)) (length Said) out, length-append Said (lineSaid o))
-          (sym (append-assoc Said (lineSaid o) (drop (length Said + length (lineSaid o)) out)))
+          rw (take-at Said (drop (length Said) out) (length Said) refl, behind-said, room-is o (drop (length Said) out), drop-drop (length (lineGiven o)) (length Said) out, length-append Said (lineGiven o))
+          (sym (append-assoc Said (lineGiven o) (drop (length Said + length (lineGiven o)) out)))
 
       step-by : (o : Outcome (List ℕ)) → o ≡ alone s asks n → stepBy o asks (batchAt n s asks outcomes out) ≡ batchAt (suc n) s asks outcomes out
       unfolding stepBy batchAt startAt answersOf rowsOf
       step-by o q =
           rw q
           (same-batch (add-one n) refl
-          (sym (length-append Said (lineSaid (alone s asks n)) ∙ ap (λ (i : ℕ). length Said + i) (said-size (alone s asks n))))
-          (row-at (number (alone s asks n)) (lengthSaid (alone s asks n))) (out-at (alone s asks n)))
+          (sym (length-append Said (lineGiven (alone s asks n)) ∙ ap (λ (i : ℕ). length Said + i) (said-size (alone s asks n))))
+          (row-at (number (alone s asks n)) (lengthGiven (alone s asks n))) (out-at (alone s asks n)))
 
       pub step-is : step s asks (batchAt n s asks outcomes out) ≡ batchAt (suc n) s asks outcomes out
       unfolding step
@@ -174,23 +174,23 @@ line-of a l rest behind all m e q =
     (take-at l (rest ++ behind) m q)
 
 module _ (s : Store) (asks : List ℕ) where
-  row-of : (n k i : ℕ) → k < n → i < 2 → getD (rowsOf n s asks) (2 * k + i) 0 ≡ getD (number (alone s asks k) ∷ lengthSaid (alone s asks k) ∷ []) i 0
+  row-of : (n k i : ℕ) → k < n → i < 2 → getD (rowsOf n s asks) (2 * k + i) 0 ≡ getD (number (alone s asks k) ∷ lengthGiven (alone s asks k) ∷ []) i 0
   unfolding rowsOf
   row-of zero k i h j = absurd (omega arith)
   row-of (suc n) k i h j = go (ℕ-discrete k n) (row-of n k i)
     where
-      go : Dec (k ≡ n) → (k < n → i < 2 → getD (rowsOf n s asks) (2 * k + i) 0 ≡ getD (number (alone s asks k) ∷ lengthSaid (alone s asks k) ∷ []) i 0)
-          → getD (rowsOf n s asks ++ (number (alone s asks n) ∷ lengthSaid (alone s asks n) ∷ [])) (2 * k + i) 0 ≡ getD (number (alone s asks k) ∷ lengthSaid (alone s asks k) ∷ []) i 0
+      go : Dec (k ≡ n) → (k < n → i < 2 → getD (rowsOf n s asks) (2 * k + i) 0 ≡ getD (number (alone s asks k) ∷ lengthGiven (alone s asks k) ∷ []) i 0)
+          → getD (rowsOf n s asks ++ (number (alone s asks n) ∷ lengthGiven (alone s asks n) ∷ [])) (2 * k + i) 0 ≡ getD (number (alone s asks k) ∷ lengthGiven (alone s asks k) ∷ []) i 0
       go (yes e) deep =
           let q : 2 * k + i ≡ length (rowsOf n s asks) + i = omega (arith, rows-long s asks n) in
-          rw (q, e) (getD-append-add (rowsOf n s asks) (number (alone s asks n) ∷ lengthSaid (alone s asks n) ∷ []) i 0)
+          rw (q, e) (getD-append-add (rowsOf n s asks) (number (alone s asks n) ∷ lengthGiven (alone s asks n) ∷ []) i 0)
       go (no ne) deep =
-          List·getD-append (rowsOf n s asks) (number (alone s asks n) ∷ lengthSaid (alone s asks n) ∷ []) 0 (2 * k + i) (omega (arith, rows-long s asks n)) ∙ deep (omega arith) j
+          List·getD-append (rowsOf n s asks) (number (alone s asks n) ∷ lengthGiven (alone s asks n) ∷ []) 0 (2 * k + i) (omega (arith, rows-long s asks n)) ∙ deep (omega arith) j
 
   -- the answer lines go on behind line k's
   record Parts (n k : ℕ) : Type 0 where
     pub rest : List ℕ
-    pub is : answersOf n s asks ≡ answersOf k s asks ++ (lineSaid (alone s asks k) ++ rest)
+    pub is : answersOf n s asks ≡ answersOf k s asks ++ (lineGiven (alone s asks k) ++ rest)
 
   parts : (n k : ℕ) → k < n → Parts n k
   unfolding answersOf
@@ -202,27 +202,27 @@ module _ (s : Store) (asks : List ℕ) where
       go (no ne) deep =
           let p = deep (omega arith) in
           record {
-            rest = p .rest ++ lineSaid (alone s asks n);
-            is = ap (λ (l : List ℕ). l ++ lineSaid (alone s asks n)) (p .is) ∙ simp append-assoc;
+            rest = p .rest ++ lineGiven (alone s asks n);
+            is = ap (λ (l : List ℕ). l ++ lineGiven (alone s asks n)) (p .is) ∙ simp append-assoc;
           }
 
   module _ (outcomes out : List ℕ) (f k : ℕ) (h : k < batchAnswered f s asks (batchStart outcomes out) .lines) where
     abbrev Done : Batch
     Done = batchAnswered f s asks (batchStart outcomes out)
 
-    row-in : (i : ℕ) → i < 2 → getD (Done .outcomes) (2 * k + i) 0 ≡ getD (number (alone s asks k) ∷ lengthSaid (alone s asks k) ∷ []) i 0
+    row-in : (i : ℕ) → i < 2 → getD (Done .outcomes) (2 * k + i) 0 ≡ getD (number (alone s asks k) ∷ lengthGiven (alone s asks k) ∷ []) i 0
     row-in i j =
         ap (λ (l : List ℕ). getD l (2 * k + i) 0) (outcomes-is s asks outcomes out f)
         ∙ List·getD-append (rowsOf (Done .lines) s asks) (drop (2 * Done .lines) outcomes) 0 (2 * k + i) (omega (arith, rows-long s asks (Done .lines)))
         ∙ row-of (Done .lines) k i h j
 
-    line-in : take (lengthSaid (alone s asks k)) (drop (length (answersOf k s asks)) (Done .out)) ≡ lineSaid (alone s asks k)
+    line-in : take (lengthGiven (alone s asks k)) (drop (length (answersOf k s asks)) (Done .out)) ≡ lineGiven (alone s asks k)
     line-in =
         let p = parts (Done .lines) k h in
-        line-of (answersOf k s asks) (lineSaid (alone s asks k)) (p .rest) (drop (length (answersOf (Done .lines) s asks)) out) (Done .out) (lengthSaid (alone s asks k))
+        line-of (answersOf k s asks) (lineGiven (alone s asks k)) (p .rest) (drop (length (answersOf (Done .lines) s asks)) out) (Done .out) (lengthGiven (alone s asks k))
         (out-is s asks outcomes out f ∙ ap (λ (l : List ℕ). l ++ drop (length (answersOf (Done .lines) s asks)) out) (p .is)) (said-size (alone s asks k))
 
-    pub each-line-as-alone : AsAlone s asks Done k
+    pub each-line-as-alone : LineAsAlone s asks Done k
     each-line-as-alone =
         let q : 2 * k ≡ 2 * k + 0 = omega arith in
         record {

@@ -15,7 +15,7 @@ use Rattle.paper.specs.Tree as Tree
 use Rattle.paper.specs.Frames.{frameOf, isLine}
 use Rattle.paper.specs.Fields.{flagOf}
 use Rattle.paper.specs.Lines.{isAsk, askAt, answerFrame}
-use Rattle.paper.specs.Ends.{Ask, tableOf, matches, answerOf, answerTo, served}
+use Rattle.paper.specs.Ends.{Ask, tableOf, matches, answerOf, answerTo, lineAnswered}
 use Rattle.paper.specs.Ends as Ends
 use Rattle.paper.specs.Codec.{askMeant, answerLine, readAsk, scopeOf, lines}
 use Rattle.paper.specs.Calls.{officeCall}
@@ -23,7 +23,7 @@ use Rattle.orders.proofs.Rooms.{flat-length}
 use Rattle.digits.proofs.NumbersAndFrames.{length-line}
 use Rattle.lines.proofs.Tests.{length-answer}
 use Rattle.desk.proofs.AnswerToAsk.{ask-given}
-use Rattle.batch.specs.Batch.{Batch, batchStart, lengthSaid, goes, batchAnswered, startAt, nthLine, alone, lineSaid, answersOf, rowsOf, batchAt}
+use Rattle.batch.specs.Batch.{Batch, batchStart, lengthGiven, goes, batchAnswered, startAt, nthLine, alone, lineGiven, answersOf, rowsOf, batchAt}
 use Rattle.batch.proofs.Cutting.{cut-short}
 use Rattle.batch.proofs.Alone.{said-size, rows-long, batch-is, stops-for-want}
 use Rattle.paper.specs.Limits.{longestAnswer, mostPage}
@@ -40,22 +40,22 @@ answer-short t a narrow most =
     let f = length-answer (a .query) (scopeOf (a .place) (y .snapshot)) (flagOf (y .last)) (length items) (flat items) (flat-length items) in
     omega (arith, length-line frame, f, n)
 
-reply-short : (t : Ends.Table) (a : Ask) → length (a .query .probe) ≤ 8 → a .size ≤ mostPage → lengthSaid (onto (answerTo t a) (λ y. gives (answerLine y))) ≤ longestAnswer
-unfolding answerTo lengthSaid
+reply-short : (t : Ends.Table) (a : Ask) → length (a .query .probe) ≤ 8 → a .size ≤ mostPage → lengthGiven (onto (answerTo t a) (λ y. gives (answerLine y))) ≤ longestAnswer
+unfolding answerTo lengthGiven
 reply-short t a narrow most = go (matches t (a .query)) (snapshotHolds (t .claims) (a .place)) (markHolds (a .query) (t .claims) (a .place))
   where
-    go : (x y z : Bool) → lengthSaid (onto (must x 11 (must y 7 (must z 8 (gives (answerOf t a))))) (λ y. gives (answerLine y))) ≤ longestAnswer
+    go : (x y z : Bool) → lengthGiven (onto (must x 11 (must y 7 (must z 8 (gives (answerOf t a))))) (λ y. gives (answerLine y))) ≤ longestAnswer
     go true true true = answer-short t a narrow most
     go true true false = omega arith
     go true false z = omega arith
     go false y z = omega arith
 
-served-short : (t : Ends.Table) (line : List ℕ) → lengthSaid (served lines t line) ≤ longestAnswer
-unfolding served readAsk lengthSaid askMeant
+served-short : (t : Ends.Table) (line : List ℕ) → lengthGiven (lineAnswered lines t line) ≤ longestAnswer
+unfolding lineAnswered readAsk lengthGiven askMeant
 served-short t line = go (isLine line) (isAsk (frameOf line)) refl
   where
     go : (x y : Bool) → isAsk (frameOf line) ≡ y
-        → lengthSaid (onto (must x 9 (must y 10 (gives (askMeant (askAt (frameOf line)))))) (λ a. onto (answerTo t a) (λ y. gives (answerLine y)))) ≤ longestAnswer
+        → lengthGiven (onto (must x 9 (must y 10 (gives (askMeant (askAt (frameOf line)))))) (λ a. onto (answerTo t a) (λ y. gives (answerLine y)))) ≤ longestAnswer
     go true true e =
         let g = ask-given (frameOf line) e in
         let q = askAt (frameOf line) .query in
@@ -64,11 +64,11 @@ served-short t line = go (isLine line) (isAsk (frameOf line)) refl
     go true false e = omega arith
     go false y e = omega arith
 
-pub office-short : (s : Store) (room : ℕ) (line : List ℕ) → lengthSaid (officeCall s room line) ≤ longestAnswer
-unfolding officeCall lengthSaid
+pub office-short : (s : Store) (room : ℕ) (line : List ℕ) → lengthGiven (officeCall s room line) ≤ longestAnswer
+unfolding officeCall lengthGiven
 office-short s room line = go (leb longestAnswer room) (fits s) (Tree.sound s)
   where
-    go : (x y z : Bool) → lengthSaid (must x 12 (must y 1 (must z 2 (served lines (tableOf s) line)))) ≤ longestAnswer
+    go : (x y z : Bool) → lengthGiven (must x 12 (must y 1 (must z 2 (lineAnswered lines (tableOf s) line)))) ≤ longestAnswer
     go true true true = served-short (tableOf s) line
     go true true false = omega arith
     go true false z = omega arith
@@ -82,7 +82,7 @@ module _ (s : Store) (asks : List ℕ) where
   answers-short zero = omega arith
   answers-short (suc n) =
       let h = answers-short n in
-      let m = length-append (answersOf n s asks) (lineSaid (alone s asks n)) in
+      let m = length-append (answersOf n s asks) (lineGiven (alone s asks n)) in
       omega (arith, m, said-size (alone s asks n), office-short s longestAnswer (nthLine n asks))
 
 start-inside : (asks : List ℕ) (n : ℕ) → startAt n asks ≤ length asks

@@ -10,7 +10,7 @@ use lib.ListN.{length}
 use Rattle.paper.specs.Outcomes.{Outcome, refused, gives, must, number, leaves}
 use Rattle.paper.specs.Tree.{Store, fits, sound}
 use Rattle.batch.specs.declared.Answered.{Answered}
-use Rattle.batch.specs.Batch.{Batch, batchStart, goes, batchAnswered, batchCall, batchOf, twoRooms, answeredAs, putBatch, AnswersAll, AsAlone}
+use Rattle.batch.specs.Batch.{Batch, batchStart, goes, batchAnswered, batchCall, batchOf, twoRooms, batchShown, putBatch, AnswersAll, LineAsAlone}
 use Rattle.batch.proofs.Alone.{each-line-as-alone, stops-for-want}
 use Rattle.paper.specs.Limits.{longestAnswer}
 
@@ -21,7 +21,7 @@ given true true false x h = absurd (omega arith)
 given true false c x h = absurd (omega arith)
 given false b c x h = absurd (omega arith)
 
-number-shown : (o : Outcome Batch) → number o ≡ answeredAs o .refusal
+number-shown : (o : Outcome Batch) → number o ≡ batchShown o .refusal
 number-shown (refused n) = refl
 number-shown (gives b) = refl
 
@@ -33,13 +33,13 @@ module _ (s : Store) (asks outcomes out : List ℕ) (r : Answered) (outcomes' ou
       let b = batchAnswered (length asks) s asks (batchStart outcomes out) in
       let n : number (batchCall s asks outcomes out) ≡ 0 = number-shown (batchCall s asks outcomes out) ∙ ap (λ (x : Answered). x .refusal) (sym (p .result)) ∙ none in
       let e = given (leb longestAnswer (length out)) (fits s) (sound s) b n in
-      let x : r ≡ answeredAs (gives b) = p .result ∙ ap answeredAs e in
+      let x : r ≡ batchShown (gives b) = p .result ∙ ap batchShown e in
       let y : twoRooms outcomes' out' ≡ putBatch b (twoRooms outcomes out) = p .memory ∙ ap (λ (o : Outcome Batch). leaves putBatch o (twoRooms outcomes out)) e in
       λ i. record { lines = x i .lines; used = x i .used; written = x i .written; outcomes = y i .outcomes; out = y i .out }
 
-  pub promise-as-alone : (k : ℕ) → k < r .lines → AsAlone s asks (batchOf r outcomes' out') k
+  pub promise-as-alone : (k : ℕ) → k < r .lines → LineAsAlone s asks (batchOf r outcomes' out') k
   promise-as-alone k h =
-      subst (λ (b : Batch). AsAlone s asks b k) (sym promise-gives)
+      subst (λ (b : Batch). LineAsAlone s asks b k) (sym promise-gives)
       (each-line-as-alone s asks outcomes out (length asks) k (subst (λ (n : ℕ). k < n) (ap (λ (b : Batch). b .lines) promise-gives) h))
 
   pub promise-stops : goes asks (batchOf r outcomes' out') ≡ false

@@ -11,7 +11,7 @@ use Rattle.batch.proofs.Cutting.{cut-on, cut-inside}
 use Rattle.batch.proofs.Steps.{goes-room-for}
 
 -- b is reached from b₀ by as many steps as it has lines
-pub record Going (s : Store) (asks : List ℕ) (b₀ b : Batch) : Type 0 where
+pub record BatchGoing (s : Store) (asks : List ℕ) (b₀ b : Batch) : Type 0 where
   pub same : (f : ℕ) → batchAnswered (f + b .lines) s asks b₀ ≡ batchAnswered f s asks b
   pub few : b .lines ≤ b .used
   pub inside : b .used ≤ length asks
@@ -28,15 +28,15 @@ answered-stop zero s asks b e = refl
 answered-stop (suc f) s asks b e = rw e
 
 module _ (s : Store) (asks : List ℕ) where
-  pub going-start : (outcomes out : List ℕ) → Going s asks (batchStart outcomes out) (batchStart outcomes out)
+  pub going-start : (outcomes out : List ℕ) → BatchGoing s asks (batchStart outcomes out) (batchStart outcomes out)
   going-start outcomes out =
       record { same = λ f. ap (λ (n : ℕ). batchAnswered n s asks (batchStart outcomes out)) (plus-0 f); few = omega arith; inside = omega arith; outcomes = refl; out = refl }
     where
       plus-0 : (f : ℕ) → f + 0 ≡ f
       plus-0 f = omega arith
 
-  module _ (b₀ b : Batch) (g : Going s asks b₀ b) where
-    pub going-on : goes asks b ≡ true → (b' : Batch) → b' ≡ step s asks b → length (b' .outcomes) ≡ length (b .outcomes) → length (b' .out) ≡ length (b .out) → Going s asks b₀ b'
+  module _ (b₀ b : Batch) (g : BatchGoing s asks b₀ b) where
+    pub going-on : goes asks b ≡ true → (b' : Batch) → b' ≡ step s asks b → length (b' .outcomes) ≡ length (b .outcomes) → length (b' .out) ≡ length (b .out) → BatchGoing s asks b₀ b'
     unfolding step stepBy
     going-on e b' is ko kr =
         let h = goes-room-for asks b e .unread in

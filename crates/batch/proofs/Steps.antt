@@ -12,7 +12,7 @@ use borrow.Author.Tests.{ltb-true, leb-true, lt-ltb, le-ltb, le-leb, lt-leb}
 use Rattle.paper.specs.declared.lines.Wrote.{Wrote}
 use Rattle.paper.specs.Outcomes.{Outcome, refused, gives, number, leaves}
 use Rattle.paper.specs.Tree.{Store}
-use Rattle.paper.specs.Ends.{tableOf, served}
+use Rattle.paper.specs.Ends.{tableOf, lineAnswered}
 use Rattle.paper.specs.Codec.{lines}
 use Rattle.paper.proofs.Tests.{and-first, and-second}
 use Rattle.paper.specs.Lines.{wroteOf, putLine, Writes}
@@ -20,7 +20,7 @@ use Rattle.desk.specs.Desk.{Open}
 use Rattle.nearby.proofs.QuestionsAndLists.{office-open, office-answers}
 use Rattle.batch.specs.declared.Answered.{Answered}
 use Rattle.batch.specs.declared.outcomes.Said.{Said}
-use Rattle.batch.specs.Batch.{cutAt, lineAt, Batch, answerNow, lengthSaid, rowPut, stepBy, step, goes, batchOf, Stands, Turning, saidBy}
+use Rattle.batch.specs.Batch.{cutAt, lineAt, Batch, answerNow, lengthGiven, rowPut, stepBy, step, goes, batchOf, BatchStands, LineLeft, saidBy}
 use Rattle.batch.proofs.Cutting.{cut-inside}
 use Rattle.paper.specs.Limits.{longestAnswer}
 
@@ -80,13 +80,13 @@ unfolding saidBy wroteOf
 said-refusal (refused n) = refl
 said-refusal (gives line) = refl
 
-said-length : (o : Outcome (List ℕ)) → saidBy (wroteOf o) .length ≡ lengthSaid o
-unfolding saidBy wroteOf lengthSaid
+said-length : (o : Outcome (List ℕ)) → saidBy (wroteOf o) .length ≡ lengthGiven o
+unfolding saidBy wroteOf lengthGiven
 said-length (refused n) = refl
 said-length (gives line) = refl
 
-said-fits : (o : Outcome (List ℕ)) (room part : List ℕ) → part ≡ leaves putLine o room → length part ≡ length room → lengthSaid o ≤ length room
-unfolding lengthSaid
+said-fits : (o : Outcome (List ℕ)) (room part : List ℕ) → part ≡ leaves putLine o room → length part ≡ length room → lengthGiven o ≤ length room
+unfolding lengthGiven
 said-fits (refused n) room part e k = omega arith
 said-fits (gives line) room part e k =
     let m = ap length e ∙ length-append line (drop (length line) room) in
@@ -98,7 +98,7 @@ same-batch p q r x y = cc
 
 -- ---- a line is answered
 
-module _ (s : Store) (asks : List ℕ) (d : Answered) (outcomes out : List ℕ) (t : Turning s asks (batchOf d outcomes out)) where
+module _ (s : Store) (asks : List ℕ) (d : Answered) (outcomes out : List ℕ) (t : LineLeft s asks (batchOf d outcomes out)) where
   pub has : Room asks (batchOf d outcomes out)
   has = goes-room-for asks (batchOf d outcomes out) (t .more)
 
@@ -117,7 +117,7 @@ module _ (s : Store) (asks : List ℕ) (d : Answered) (outcomes out : List ℕ) 
       line-open = office-open s (take k (drop (d .written) out)) [] long 0 (t .sound) refl
 
       module _ (w : Wrote) (part : List ℕ)
-          (says : Writes (served lines (tableOf s) (take (e - d .used) (drop (d .used) asks))) (take k (drop (d .written) out)) w part) where
+          (says : Writes (lineAnswered lines (tableOf s) (take (e - d .used) (drop (d .used) asks))) (take k (drop (d .written) out)) w part) where
         abbrev said-now : Outcome (List ℕ)
         said-now = answerNow s asks (batchOf d outcomes out)
 
@@ -134,7 +134,7 @@ module _ (s : Store) (asks : List ℕ) (d : Answered) (outcomes out : List ℕ) 
             rw (lent, line-is) at x
 
         module _ (said : Said) (is : said ≡ saidBy w) where
-          length-is : said .length ≡ lengthSaid said-now
+          length-is : said .length ≡ lengthGiven said-now
           length-is = ap (λ (x : Said). x .length) is ∙ ap (λ (x : Wrote). saidBy x .length) (as-alone .result) ∙ said-length said-now
 
           refusal-is : said .refusal ≡ number said-now
@@ -146,7 +146,7 @@ module _ (s : Store) (asks : List ℕ) (d : Answered) (outcomes out : List ℕ) 
               omega (arith, length-is, length-drop (d .written) out, has .room)
 
           pub next-stands : (outcomes' : List ℕ) → outcomes' ≡ rowPut outcomes (d .lines) (said .refusal) (said .length)
-              → Stands (step s asks (batchOf d outcomes out)) (record { refusal = 0; lines = d .lines + 1; used = e; written = d .written + said .length })
+              → BatchStands (step s asks (batchOf d outcomes out)) (record { refusal = 0; lines = d .lines + 1; used = e; written = d .written + said .length })
               outcomes' (take (d .written) out ++ (part ++ drop k (drop (d .written) out)))
           unfolding step stepBy
           next-stands outcomes' put =

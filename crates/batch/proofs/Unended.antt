@@ -9,7 +9,7 @@ use borrow.Author.Tests.{ne-eqb}
 use Rattle.paper.specs.Outcomes.{Outcome, refused, gives, onto}
 use Rattle.paper.specs.Tree.{Store}
 use Rattle.paper.specs.Frames.{digit, pairsEnded, isLine}
-use Rattle.paper.specs.Ends.{Ask, tableOf, answerTo, served}
+use Rattle.paper.specs.Ends.{Ask, tableOf, answerTo, lineAnswered}
 use Rattle.paper.specs.Codec.{lines, readAsk, answerLine}
 use Rattle.paper.specs.Calls.{tableRefusal, officeCall}
 use Rattle.paper.proofs.Outcomes.{must-stop}
@@ -46,8 +46,8 @@ unsound l e = go (ltb 1 (length l)) (leb (length l) longestAnswer)
     go false y = refl
 
 pub unended-refused : (s : Store) (asks : List ℕ) (k : ℕ) → 0 ≡ tableRefusal s → ((i : ℕ) → getD (nthLine k asks) i 0 ≡ 10 → ⊥) → alone s asks k ≡ refused 9
-unfolding alone officeCall served readAsk
+unfolding alone officeCall lineAnswered readAsk
 unended-refused s asks k ok h =
-    table-goes s 0 ok refl (served lines (tableOf s) (nthLine k asks))
+    table-goes s 0 ok refl (lineAnswered lines (tableOf s) (nthLine k asks))
     ∙ ap (λ (o : Outcome Ask). onto o (λ a. onto (answerTo (tableOf s) a) (λ y. gives (answerLine y))))
     (must-stop (isLine (nthLine k asks)) 9 _ (unsound (nthLine k asks) (unended (nthLine k asks) h)))

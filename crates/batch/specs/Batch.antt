@@ -40,9 +40,9 @@ batchStart outcomes out = record { lines = 0; used = 0; written = 0; outcomes = 
 unfoldable pub answerNow : Store → List ℕ → Batch → Outcome (List ℕ)
 answerNow s asks b = officeCall s (length (drop (b .written) (b .out))) (lineAt asks (b .used))
 
-unfoldable pub lengthSaid : Outcome (List ℕ) → ℕ
-lengthSaid (refused n) = 0
-lengthSaid (gives line) = length line
+unfoldable pub lengthGiven : Outcome (List ℕ) → ℕ
+lengthGiven (refused n) = 0
+lengthGiven (gives line) = length line
 
 -- [6.6] row k of the outcomes: the refusal's number, and how long the answer line is
 unfoldable pub rowPut : List ℕ → ℕ → ℕ → ℕ → List ℕ
@@ -53,8 +53,8 @@ stepBy o asks b =
     record {
       lines = b .lines + 1;
       used = b .used + cutAt (drop (b .used) asks);
-      written = b .written + lengthSaid o;
-      outcomes = rowPut (b .outcomes) (b .lines) (number o) (lengthSaid o);
+      written = b .written + lengthGiven o;
+      outcomes = rowPut (b .outcomes) (b .lines) (number o) (lengthGiven o);
       out = take (b .written) (b .out) ++ leaves putLine o (drop (b .written) (b .out));
     }
 
@@ -92,18 +92,18 @@ nthLine k asks = lineAt asks (startAt k asks)
 unfoldable pub alone : Store → List ℕ → ℕ → Outcome (List ℕ)
 alone s asks k = officeCall s longestAnswer (nthLine k asks)
 
-unfoldable pub lineSaid : Outcome (List ℕ) → List ℕ
-lineSaid (refused n) = []
-lineSaid (gives line) = line
+unfoldable pub lineGiven : Outcome (List ℕ) → List ℕ
+lineGiven (refused n) = []
+lineGiven (gives line) = line
 
 -- [6.5] [6.6] the answer lines to the first n lines, one after another, and the rows of their outcomes
 unfoldable pub answersOf : ℕ → Store → List ℕ → List ℕ
 answersOf zero s asks = []
-answersOf (suc n) s asks = answersOf n s asks ++ lineSaid (alone s asks n)
+answersOf (suc n) s asks = answersOf n s asks ++ lineGiven (alone s asks n)
 
 unfoldable pub rowsOf : ℕ → Store → List ℕ → List ℕ
 rowsOf zero s asks = []
-rowsOf (suc n) s asks = rowsOf n s asks ++ (number (alone s asks n) ∷ lengthSaid (alone s asks n) ∷ [])
+rowsOf (suc n) s asks = rowsOf n s asks ++ (number (alone s asks n) ∷ lengthGiven (alone s asks n) ∷ [])
 
 -- the first n lines answered, into the front of two rooms
 unfoldable pub batchAt : ℕ → Store → List ℕ → List ℕ → List ℕ → Batch
@@ -117,10 +117,10 @@ batchAt n s asks outcomes out =
     }
 
 -- [6.5] [6.6] line k stands in the batch as the single call answers it
-pub record AsAlone (s : Store) (asks : List ℕ) (b : Batch) (k : ℕ) : Type 0 where
+pub record LineAsAlone (s : Store) (asks : List ℕ) (b : Batch) (k : ℕ) : Type 0 where
   pub refusal : getD (b .outcomes) (2 * k) 0 ≡ number (alone s asks k)
-  pub size : getD (b .outcomes) (2 * k + 1) 0 ≡ lengthSaid (alone s asks k)
-  pub line : take (lengthSaid (alone s asks k)) (drop (length (answersOf k s asks)) (b .out)) ≡ lineSaid (alone s asks k)
+  pub size : getD (b .outcomes) (2 * k + 1) 0 ≡ lengthGiven (alone s asks k)
+  pub line : take (lengthGiven (alone s asks k)) (drop (length (answersOf k s asks)) (b .out)) ≡ lineGiven (alone s asks k)
 
 -- ---- contracts
 
@@ -132,32 +132,32 @@ abbrev pub refusedBy : ℕ → Answered
 refusedBy n = record { refusal = n; lines = 0; used = 0; written = 0 }
 
 -- [6.7] [9.18] how the call shows its outcome: how far it came, or the refusal's number beside zeros
-abbrev pub answeredAs : Outcome Batch → Answered
-answeredAs (refused n) = refusedBy n
-answeredAs (gives b) = record { refusal = 0; lines = b .lines; used = b .used; written = b .written }
+abbrev pub batchShown : Outcome Batch → Answered
+batchShown (refused n) = refusedBy n
+batchShown (gives b) = record { refusal = 0; lines = b .lines; used = b .used; written = b .written }
 
 -- the two rooms that the call is lent for writing
-pub record Rooms : Type 0 where
+pub record BatchRooms : Type 0 where
   pub outcomes : List ℕ
   pub out : List ℕ
 
-abbrev pub twoRooms : List ℕ → List ℕ → Rooms
+abbrev pub twoRooms : List ℕ → List ℕ → BatchRooms
 twoRooms outcomes out = record { outcomes = outcomes; out = out }
 
-abbrev pub putBatch : Batch → Rooms → Rooms
+abbrev pub putBatch : Batch → BatchRooms → BatchRooms
 putBatch b nodes = twoRooms (b .outcomes) (b .out)
 
 -- what the call promises
-abbrev pub AnswersAll : Outcome Batch → Rooms → Answered → Rooms → Type 0
-AnswersAll o before r after = Promise answeredAs putBatch o before r after
+abbrev pub AnswersAll : Outcome Batch → BatchRooms → Answered → BatchRooms → Type 0
+AnswersAll o before r after = Promise batchShown putBatch o before r after
 
 -- the batch stands at b, and nothing is refused
-pub record Stands (b : Batch) (r : Answered) (outcomes out : List ℕ) : Type 0 where
+pub record BatchStands (b : Batch) (r : Answered) (outcomes out : List ℕ) : Type 0 where
   pub refusal : r .refusal ≡ 0
   pub batch : batchOf r outcomes out ≡ b
 
 -- a table that may be asked, and a line to answer
-pub record Turning (s : Store) (asks : List ℕ) (b : Batch) : Type 0 where
+pub record LineLeft (s : Store) (asks : List ℕ) (b : Batch) : Type 0 where
   pub sound : 0 ≡ tableRefusal s
   pub more : goes asks b ≡ true
 

@@ -6,7 +6,7 @@ ghost use lib.Dec.{ltb, leb};
 ghost use lib.ListN.{length};
 ghost use Rattle.paper.specs.Tree.{lent};
 ghost use Rattle.paper.specs.Calls.{tableRefusal};
-ghost use Rattle.batch.specs.Batch.{batchStart, step, batchAnswered, batchOf, Stands, Turning};
+ghost use Rattle.batch.specs.Batch.{batchStart, step, batchAnswered, batchOf, BatchStands, LineLeft};
 ghost use Rattle.paper.specs.Limits.{longestAnswer};
 use super::ends::line_end;
 use super::outcomes::put_row;
@@ -42,8 +42,8 @@ fn answer_next(
     outcomes: &mut [u64],
     out: &mut [u8],
 ) -> Answered
-    requires { ⌜ Turning (lent t references coordinates nodes) (now asks) (batchOf d (now outcomes) (now out)) ⌝ }
-    ensures { λ r. ⌜ Stands (step (lent t (references .entry) (coordinates .entry) (nodes .entry)) (now (asks .entry)) (batchOf d (now (outcomes .entry)) (now (out .entry)))) r (now (outcomes .exit)) (now (out .exit)) ⌝ }
+    requires { ⌜ LineLeft (lent t references coordinates nodes) (now asks) (batchOf d (now outcomes) (now out)) ⌝ }
+    ensures { λ r. ⌜ BatchStands (step (lent t (references .entry) (coordinates .entry) (nodes .entry)) (now (asks .entry)) (batchOf d (now (outcomes .entry)) (now (out .entry)))) r (now (outcomes .exit)) (now (out .exit)) ⌝ }
 {
     let at = d.used;
     let w = d.written;
@@ -78,7 +78,7 @@ pub fn answer_lines(
     out: &mut [u8],
 ) -> Answered
     requires { ⌜ 0 ≡ tableRefusal (lent t references coordinates nodes) ⌝ }
-    ensures { λ r. ⌜ Stands (batchAnswered (length (now (asks .entry))) (lent t (references .entry) (coordinates .entry) (nodes .entry)) (now (asks .entry)) (batchStart (now (outcomes .entry)) (now (out .entry)))) r (now (outcomes .exit)) (now (out .exit)) ⌝ }
+    ensures { λ r. ⌜ BatchStands (batchAnswered (length (now (asks .entry))) (lent t (references .entry) (coordinates .entry) (nodes .entry)) (now (asks .entry)) (batchStart (now (outcomes .entry)) (now (out .entry)))) r (now (outcomes .exit)) (now (out .exit)) ⌝ }
 {
     let mut d = Answered {
         refusal: 0,

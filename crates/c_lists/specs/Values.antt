@@ -14,7 +14,7 @@ use Rattle.paper.specs.declared.orders.Order.the-variants.{Near}
 use Rattle.paper.specs.Orders.{Query}
 use Rattle.paper.specs.Outcomes.{Outcome, Promise}
 use Rattle.paper.specs.Fields.{flagOf}
-use Rattle.paper.specs.Lists.{takenAs, putItems}
+use Rattle.paper.specs.Lists.{takenShown, putItems}
 use Rattle.paper.specs.Ends as Ends
 use Rattle.c_lists.specs.declared.Extent.{Extent}
 use Rattle.c_lists.specs.declared.AskShown.{AskShown}
@@ -106,4 +106,4 @@ abbrev pub takenOut : Taken → Listed
 takenOut t = record { refusal = t .refusal; list = listOut (t .list) }
 
 abbrev pub TakesOut : lists.List → Outcome Ends.Listing → List ℕ → Listed → List ℕ → Type 0
-TakesOut l o before r after = Promise (λ u. takenOut (takenAs l u)) putItems o before r after
+TakesOut l o before r after = Promise (λ u. takenOut (takenShown l u)) putItems o before r after

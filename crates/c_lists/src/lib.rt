@@ -2,11 +2,11 @@
 // Apart from `c_values`, so that a wrong conversion of either is tried in seconds.
 ghost use mathlib.Core.Path.{_≡_};
 ghost use Prim.Native.Nat.{_≤_};
-ghost use Rattle.paper.specs.Limits.{mostPlaces};
+ghost use Rattle.paper.specs.Limits.{mostCoordinates};
 ghost use Rattle.c_lists.specs.Values.{listIn, listOut, openedOut, takenOut, scopeFrom, extentOut, askOut, answerOut};
 use checks::flag;
 use paper::limits::ITEM_ROOM;
-use paper::limits::MOST_PLACES;
+use paper::limits::MOST_COORDINATES;
 use paper::lines::AnswerRead;
 use paper::lines::AskRead;
 use paper::lines::Scope;
@@ -32,7 +32,7 @@ pub struct AskFields {
     pub table: u32,
     pub measure: u8,
     pub d: u8,
-    pub probe: [i32; MOST_PLACES],
+    pub probe: [i32; MOST_COORDINATES],
     pub scope: Extent,
     pub size: u8,
 }
@@ -43,7 +43,7 @@ pub struct AnswerFields {
     pub table: u32,
     pub measure: u8,
     pub d: u8,
-    pub probe: [i32; MOST_PLACES],
+    pub probe: [i32; MOST_COORDINATES],
     pub scope: Extent,
     pub last: u8,
     pub count: u8,
@@ -72,7 +72,7 @@ pub struct Listing {
     pub started: u8,
     pub complete: u8,
     pub d: usize,
-    pub probe: [i32; MOST_PLACES],
+    pub probe: [i32; MOST_COORDINATES],
     pub reach: u64,
     pub snapshot: u64,
     pub count: usize,
@@ -168,7 +168,7 @@ fn extent_of(reach: u64, p: Scope) -> Extent
 }
 
 pub fn ask_out(x: AskRead) -> AskShown
-    requires { ⌜ x .ask .query .d ≤ mostPlaces ⌝ }
+    requires { ⌜ x .ask .query .d ≤ mostCoordinates ⌝ }
     ensures { λ r. ⌜ r ≡ askOut x ⌝ }
 {
     let a = x.ask;
@@ -190,7 +190,7 @@ pub fn ask_out(x: AskRead) -> AskShown
 }
 
 pub fn answer_out(x: AnswerRead) -> AnswerShown
-    requires { ⌜ x .answer .query .d ≤ mostPlaces ⌝ }
+    requires { ⌜ x .answer .query .d ≤ mostCoordinates ⌝ }
     ensures { λ r. ⌜ r ≡ answerOut x ⌝ }
 {
     let y = x.answer;

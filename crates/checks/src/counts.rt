@@ -4,14 +4,14 @@ ghost use Prim.Native.Nat.{_*_, _≤_};
 ghost use lib.Dec.{eqb};
 
 // [8.5] Whether there are d of them for each of so many.
-pub fn is_whole(d: usize, given: usize, places: usize) -> bool
+pub fn is_whole(d: usize, given: usize, numbers: usize) -> bool
     requires { ⌜ 1 ≤ d ⌝ }
-    ensures { λ r. ⌜ r ≡ eqb places (d * given) ⌝ }
+    ensures { λ r. ⌜ r ≡ eqb numbers (d * given) ⌝ }
 {
-    if places % d != 0 {
+    if numbers % d != 0 {
         return false;
     }
-    if places / d != given {
+    if numbers / d != given {
         return false;
     }
     true

@@ -2,8 +2,8 @@
 ghost use mathlib.Core.Path.{_≡_};
 ghost use Rattle.paper.specs.Points.{inRange};
 ghost use Rattle.paper.specs.Ends.{sizeHolds};
+use paper::limits::MOST_COORDINATES;
 use paper::limits::MOST_PAGE;
-use paper::limits::MOST_PLACES;
 use paper::points::Measure;
 
 // [1.3] [1.5] Whether there is such a measure, and d is in range: the first part of refusal 1 for tables and lists, and of 10 for lines.
@@ -19,7 +19,7 @@ pub fn in_range(measure: u8, d: usize) -> bool
     if d < 1 {
         return false;
     }
-    d <= MOST_PLACES
+    d <= MOST_COORDINATES
 }
 
 // [4.3] [8.6] Whether a page may have so many items.

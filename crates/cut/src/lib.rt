@@ -3,7 +3,7 @@
 ghost use mathlib.Core.Path.{_≡_};
 ghost use Prim.Native.Nat.{_<_, _^_};
 ghost use lib.ListN.{length, drop, set};
-ghost use Rattle.cut.specs.Cut.{longer, takenWith, cutOf};
+ghost use Rattle.cut.specs.Cut.{oneMore, cutWith, cutOf};
 
 // How far the chunk is read, the size of the line so far, and whether its end was met.
 pub struct Piece {
@@ -24,14 +24,14 @@ fn keep(line: &mut [u8], n: usize, b: u8)
 // [10.8] The size of a line of n bytes with one more, where more than `most` count as one more than that.
 fn grow(most: usize, n: usize) -> usize
     requires { ⌜ most < 2 ^ 63 ⌝ }
-    ensures { λ r. ⌜ r ≡ longer most n ⌝ }
+    ensures { λ r. ⌜ r ≡ oneMore most n ⌝ }
 {
     if n <= most { n + 1 } else { n }
 }
 
 // [10.8] [10.11] Adds the bytes of the chunk from `from` on to the line so far, up to the end of the line or of the chunk.
 pub fn cut(line: &mut [u8], size: usize, chunk: &[u8], from: usize) -> Piece
-    ensures { λ r. ⌜ takenWith (now (line .exit)) r ≡ cutOf (length (now (line .entry))) (now (line .entry)) size from (drop from (now (chunk .entry))) ⌝ }
+    ensures { λ r. ⌜ cutWith (now (line .exit)) r ≡ cutOf (length (now (line .entry))) (now (line .entry)) size from (drop from (now (chunk .entry))) ⌝ }
 {
     let most = line.len();
     let mut n = size;

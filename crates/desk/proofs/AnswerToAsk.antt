@@ -20,7 +20,7 @@ use Rattle.paper.specs.Outcomes.{refused, gives, must, onto}
 use Rattle.paper.specs.Frames.{num, frameOf, isLine}
 use Rattle.paper.specs.Fields.{scopeIn, scopeOk}
 use Rattle.paper.specs.Lines.{Writes, behind, queryAt, askRanges, isAsk, askAt, anAsk, noAsk, readAsAsk, reading}
-use Rattle.paper.specs.Ends.{Ask, tableOf, matches, answerOf, answerTo, served}
+use Rattle.paper.specs.Ends.{Ask, tableOf, matches, answerOf, answerTo, lineAnswered}
 use Rattle.paper.specs.Ends as Ends
 use Rattle.paper.specs.Codec.{placeIn, askMeant, answerLine, readAsk, lines}
 use Rattle.paper.specs.Program.{replyTo}
@@ -29,7 +29,7 @@ use Rattle.lines.proofs.WritersReaders.{writes-refused}
 use Rattle.lines.proofs.Tests.{any-ask}
 use Rattle.paper.specs.Calls.{tableQuery}
 use Rattle.tree.proofs.Places.{claims-length}
-use Rattle.desk.specs.Desk.{Given, Answering, Asking, askIn, pageLine, pageReply}
+use Rattle.desk.specs.Desk.{Given, Answering, AskOurs, askIn, pageLine, pageReply}
 use Rattle.desk.proofs.Telling.{own-query}
 use Rattle.paper.specs.Limits.{mostPage}
 
@@ -51,7 +51,7 @@ module _ (s : Store) (q : queries.Query) (p : Scope) (size : ℕ) (b : Bool) (ho
   pub here-stored : not b ≡ false → snapshotOf (placeIn p) (s .table .count) ≤ s .table .count
   here-stored t = leb-true _ _ (sym holds ∙ not-false b t)
 
-  module _ (out : ℕ) (h : Asking s q p size out) (m : Bool) (place : Place) (at : place ≡ placeIn p)
+  module _ (out : ℕ) (h : AskOurs s q p size out) (m : Bool) (place : Place) (at : place ≡ placeIn p)
       (marked : m ≡ markHolds (tableQuery (s .table) (q .order) (take (q .d) (q .probe)) (q .reach)) (claimsIn s) place) (t : not b ≡ false) where
     marked-is : markHolds (queryIn q) (claimsIn s) (placeIn p) ≡ m
     marked-is = subst (λ (x : Query). markHolds x (claimsIn s) (placeIn p) ≡ m) (sym (own-query s q p size out h)) (rw (← at) (sym marked))
@@ -92,7 +92,7 @@ module _ (s : Store) (a : lines-Ask.Ask) (b : Bool)
     unfolding askMeant
     ask-here before w after x = rw (reply-here (tableOf s) (askMeant a) (matches-is ∙ not-false b t)) x
 
-    pub ask-ready : (out : ℕ) → Answering s a out → Asking s (a .query) (a .scope) (a .size) out
+    pub ask-ready : (out : ℕ) → Answering s a out → AskOurs s (a .query) (a .scope) (a .size) out
     ask-ready out h = record { isOpen = h .isOpen; ask = h .ask; ours = matches-is ∙ not-false b t }
 
 -- ---- answer_line
@@ -129,11 +129,11 @@ read-is line r e = rw e (go (isLine line) (isAsk (frameOf line)) refl refl)
     go false c p q = rw p (record { refuses = λ n. rw p; given = λ z. absurd (omega arith); reads = λ z. absurd (omega arith) })
 
 module _ (s : Store) (line : List ℕ) (r : AskRead) (is : Reads line r) where
-  pub line-refused : (before : List ℕ) → (r .refusal ≡ 0 → ⊥) → Writes (served lines (tableOf s) line) before (Refused (r .refusal)) before
-  unfolding served
+  pub line-refused : (before : List ℕ) → (r .refusal ≡ 0 → ⊥) → Writes (lineAnswered lines (tableOf s) line) before (Refused (r .refusal)) before
+  unfolding lineAnswered
   line-refused before n = writes-refused _ (r .refusal) before (rw (is .refuses n))
 
   pub line-answered : (before : List ℕ) (w : Wrote) (after : List ℕ) → r .refusal ≡ 0
-      → Writes (replyTo (tableOf s) (askMeant (r .ask))) before w after → Writes (served lines (tableOf s) line) before w after
-  unfolding served replyTo
+      → Writes (replyTo (tableOf s) (askMeant (r .ask))) before w after → Writes (lineAnswered lines (tableOf s) line) before w after
+  unfolding lineAnswered replyTo
   line-answered before w after z x = rw (is .reads z) x

@@ -34,20 +34,20 @@ use Rattle.tree.proofs.Places.{claims-length}
 use Rattle.orders.proofs.Rooms.{flat-length}
 use Rattle.walk.proofs.Bridge.{claims-at}
 use Rattle.walk.proofs.Answers.{good-measurable}
-use Rattle.desk.specs.Desk.{Asking, Paging, askIn, pageLine}
+use Rattle.desk.specs.Desk.{AskOurs, Paging, askIn, pageLine}
 use Rattle.paper.specs.Limits.{itemRoom, longestAnswer, mostClaims, mostNumber, mostPage}
 
 -- ---- items that an answer can tell
 
-pub record Small (a : Item) : Type 0 where
+pub record SmallItem (a : Item) : Type 0 where
   pub number : a .number ≤ mostNumber
   pub reference : a .reference < 4294967296
 
 abbrev pub AllSmall : List Item → Type 0
 AllSmall [] = Unit {0}
-AllSmall (a ∷ l) = Small a × AllSmall l
+AllSmall (a ∷ l) = SmallItem a × AllSmall l
 
-insert-small : (o : Order) (a : Item) (l : List Item) → Small a → AllSmall l → AllSmall (insert o a l)
+insert-small : (o : Order) (a : Item) (l : List Item) → SmallItem a → AllSmall l → AllSmall (insert o a l)
 unfolding insert
 insert-small o a [] s all = (s, tt)
 insert-small o a (b ∷ l) s all = go (earlier o a b) (insert-small o a l s (all .1))
@@ -56,7 +56,7 @@ insert-small o a (b ∷ l) s all = go (earlier o a b) (insert-small o a l s (all
     go true deep = (s, all)
     go false deep = (all .0, deep)
 
-listed-small : (q : Query) (cs : List Claim) (n : ℕ) → ((k : ℕ) → k < n → Small (itemOf q cs k)) → AllSmall (listed q cs n)
+listed-small : (q : Query) (cs : List Claim) (n : ℕ) → ((k : ℕ) → k < n → SmallItem (itemOf q cs k)) → AllSmall (listed q cs n)
 unfolding listed
 listed-small q cs zero h = tt
 listed-small q cs (suc n) h = go (leb (itemOf q cs n .distance) (q .reach)) (listed-small q cs n (λ k l. h k (omega arith)))
@@ -117,7 +117,7 @@ scope-repeats p n e h = go (p .from) refl
 
 -- ---- a query of this table, as the walk and a line have it
 
-module _ (s : Store) (q : queries.Query) (p : Scope) (size out : ℕ) (h : Asking s q p size out) where
+module _ (s : Store) (q : queries.Query) (p : Scope) (size out : ℕ) (h : AskOurs s q p size out) where
   same-header : (q .table ≡ s .table .number) × ((q .measure ≡ s .table .measure) × (q .d ≡ s .table .d))
   unfolding matches
   same-header =
@@ -178,7 +178,7 @@ module _ (s : Store) (q : queries.Query) (p : Scope) (size out : ℕ) (h : Pagin
   page-few = simp length-take (omega arith)
 
   item-small : ((i : ℕ) → getD (s .references) i 0 < 4294967296) → (k : ℕ) → k < snapshotOf (placeIn p) (s .table .count)
-      → Small (itemOf (queryIn q) (claimsIn s) k)
+      → SmallItem (itemOf (queryIn q) (claimsIn s) k)
   unfolding itemOf
   item-small known k l =
       let few = good-few s (h .asking .isOpen .good) in

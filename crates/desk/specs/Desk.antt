@@ -15,12 +15,12 @@ use Rattle.paper.specs.Ends.{Ask, tableOf, matches, answerOf}
 use Rattle.paper.specs.Ends as Ends
 use Rattle.paper.specs.Codec.{placeIn, answerLine}
 use Rattle.tree.specs.Soundness.{Good}
-use Rattle.paper.specs.Limits.{longestAnswer, mostPage, mostPlaces}
+use Rattle.paper.specs.Limits.{longestAnswer, mostPage, mostCoordinates}
 
 -- [5.8] [5.9] [5.10] an ask that a reader gives
 pub record Given (a : lines-Ask.Ask) : Type 0 where
   pub known : spoken (a .query .order) ≡ true
-  pub narrow : a .query .d ≤ mostPlaces
+  pub narrow : a .query .d ≤ mostCoordinates
   pub scope : scopeOk (a .scope) ≡ true
   pub some : 1 ≤ a .size
   pub most : a .size ≤ mostPage
@@ -35,14 +35,14 @@ pub record Answering (s : Store) (a : lines-Ask.Ask) (out : ℕ) : Type 0 where
   pub ask : Given a
 
 -- [6.2] an ask to this very table
-pub record Asking (s : Store) (q : queries.Query) (p : Scope) (size out : ℕ) : Type 0 where
+pub record AskOurs (s : Store) (q : queries.Query) (p : Scope) (size out : ℕ) : Type 0 where
   pub isOpen : Open s out
   pub ask : Given (record { query = q; scope = p; size = size })
   pub ours : matches (tableOf s) (queryIn q) ≡ true
 
 -- [8.7] whose snapshot is not over the count
 pub record Paging (s : Store) (q : queries.Query) (p : Scope) (size out : ℕ) : Type 0 where
-  pub asking : Asking s q p size out
+  pub asking : AskOurs s q p size out
   pub stored : snapshotOf (placeIn p) (s .table .count) ≤ s .table .count
 
 -- what an ask of these fields says

@@ -1,12 +1,12 @@
 // The answer to an ask, as fields or as a line.
 ghost use lib.ListN.{length};
 ghost use Rattle.paper.specs.Tree.{lent};
-ghost use Rattle.paper.specs.Ends.{tableOf, served};
+ghost use Rattle.paper.specs.Ends.{tableOf, lineAnswered};
 ghost use Rattle.paper.specs.Codec.{askMeant};
 ghost use Rattle.paper.specs.Codec.{lines as Codec·lines};
 ghost use Rattle.paper.specs.Program.{replyTo};
 ghost use Rattle.paper.specs.Lines.{Writes};
-ghost use Rattle.desk.specs.Desk.{Open, Answering, Asking, askIn, pageReply};
+ghost use Rattle.desk.specs.Desk.{Open, Answering, AskOurs, askIn, pageReply};
 use super::pages::tell_page;
 use checks::is_ours;
 use checks::place_of;
@@ -28,7 +28,7 @@ fn answer_here(
     size: u8,
     out: &mut [u8],
 ) -> Wrote
-    requires { ⌜ Asking (lent t references coordinates nodes) q p size (length (now out)) ⌝ }
+    requires { ⌜ AskOurs (lent t references coordinates nodes) q p size (length (now out)) ⌝ }
     ensures { λ r. ⌜ Writes (pageReply (tableOf (lent t (references .entry) (coordinates .entry) (nodes .entry))) (askIn q p size)) (now (out .entry)) r (now (out .exit)) ⌝ }
 {
     let place = place_of(p);
@@ -73,7 +73,7 @@ pub fn answer_line(
     out: &mut [u8],
 ) -> Wrote
     requires { ⌜ Open (lent t references coordinates nodes) (length (now out)) ⌝ }
-    ensures { λ r. ⌜ Writes (served Codec·lines (tableOf (lent t (references .entry) (coordinates .entry) (nodes .entry))) (now (line .entry))) (now (out .entry)) r (now (out .exit)) ⌝ }
+    ensures { λ r. ⌜ Writes (lineAnswered Codec·lines (tableOf (lent t (references .entry) (coordinates .entry) (nodes .entry))) (now (line .entry))) (now (out .entry)) r (now (out .exit)) ⌝ }
 {
     let read = lines::read_ask(line);
     if read.refusal != 0 {

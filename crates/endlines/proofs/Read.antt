@@ -12,17 +12,17 @@ use Rattle.paper.specs.declared.orders.Order.{Order}
 use Rattle.paper.specs.Frames.{num, frameOf, isLine}
 use Rattle.paper.specs.Points.{inRange}
 use Rattle.paper.specs.Orders.{queryIn}
-use Rattle.paper.specs.Fields.{coordsIn, places, scopeIn, scopeOk, itemPlaces}
+use Rattle.paper.specs.Fields.{coordsIn, inSlots, scopeIn, scopeOk, itemSlots}
 use Rattle.paper.specs.Fields as fields
 use Rattle.paper.specs.Lines.{askKind, answerKind, spoken, askOrder, behind, queryAt, askRanges, isAsk, askAt, answerRanges, countIn, answerOk, answerAt}
 use Rattle.paper.specs.Outcomes.{gives}
 use Rattle.paper.specs.Ends.{Ask, Answer}
 use Rattle.paper.specs.Codec.{askMeant, answerMeant, readAsk, readAnswer}
 use Rattle.digits.proofs.NumbersAndFrames.{Bytes, bytes-drop, bytes-frame, num-lt}
-use Rattle.fields.proofs.PartLaws.{Headed, length-coordsIn}
-use Rattle.fields.proofs.Round.{take-places}
+use Rattle.fields.proofs.PartLaws.{HeadOk, length-coordsIn}
+use Rattle.fields.proofs.Round.{take-slots}
 use Rattle.lines.proofs.Tests.{any-ask, is-answer}
-use Rattle.orders.specs.LawfulLines.{QueryOk, AskOk, AnswerOk}
+use Rattle.orders.specs.LawfulLines.{QueryInRange, AskInRange, AnswerInRange}
 use Rattle.paper.proofs.Tests.{and-first, and-second}
 use Rattle.paper.proofs.Outcomes.{must-test, must-rest, same-given}
 use Rattle.orders.proofs.Lists.{all-mem}
@@ -36,11 +36,11 @@ unfolding behind
 bytes-behind f b = bytes-drop (7 + 4 * num 1 (drop 6 f)) f b
 
 module _ (f : List ℕ) (b : Bytes f) where
-  query-ok : (o : Order) → inRange (num 1 (drop 5 f)) (num 1 (drop 6 f)) ≡ true → QueryOk (queryIn (queryAt o f))
+  query-ok : (o : Order) → inRange (num 1 (drop 5 f)) (num 1 (drop 6 f)) ≡ true → QueryInRange (queryIn (queryAt o f))
   unfolding queryAt
   query-ok o e =
       let d = num 1 (drop 6 f) in
-      let t : take d (places d (coordsIn d (drop 7 f))) ≡ coordsIn d (drop 7 f) = take-places d (drop 7 f) in
+      let t : take d (inSlots d (coordsIn d (drop 7 f))) ≡ coordsIn d (drop 7 f) = take-slots d (drop 7 f) in
       record {
         range = e;
         long = ap length t ∙ length-coordsIn d (drop 7 f);
@@ -55,7 +55,7 @@ module _ (f : List ℕ) (b : Bytes f) where
   unfolding scopeIn
   far = num-lt 8 (drop 11 (behind f)) (bytes-drop 11 (behind f) (bytes-behind f b))
 
-  frame-ask : isAsk f ≡ true → AskOk (askMeant (askAt f)) × (spoken (askMeant (askAt f) .query .order) ≡ true)
+  frame-ask : isAsk f ≡ true → AskInRange (askMeant (askAt f)) × (spoken (askMeant (askAt f) .query .order) ≡ true)
   unfolding askMeant askAt askRanges queryAt
   frame-ask e =
       let q = any-ask f e in
@@ -71,13 +71,13 @@ module _ (f : List ℕ) (b : Bytes f) where
         le-leb 1 (askKind (askOrder (num 1 f))) (q .headed .some),
       )
 
-  frame-answer : (o : Order) → answerOk (answerKind o) f ≡ true → AnswerOk (answerMeant (answerAt o f)) × (answerMeant (answerAt o f) .query .order ≡ o)
-  unfolding answerMeant answerAt answerRanges itemPlaces queryAt
+  frame-answer : (o : Order) → answerOk (answerKind o) f ≡ true → AnswerInRange (answerMeant (answerAt o f)) × (answerMeant (answerAt o f) .query .order ≡ o)
+  unfolding answerMeant answerAt answerRanges itemSlots queryAt
   frame-answer o e =
       let q = is-answer (answerKind o) f e in
       let s = and-first (scopeOk (scopeIn (behind f))) _ (q .rest) in
       let n = countIn f in
-      let room = itemPlaces n (fields.itemNumbers n (drop 23 (behind f))) in (
+      let room = itemSlots n (fields.itemNumbers n (drop 23 (behind f))) in (
         record {
           query = query-ok o (q .headed .test);
           place = place-ok (scopeIn (behind f)) s far;
@@ -90,25 +90,25 @@ module _ (f : List ℕ) (b : Bytes f) where
       )
 
 -- a line that reads is in range; an ask is of an order that has lines, an answer of the order it is read in
-pub ask-ok : (l : List ℕ) (a : Ask) → readAsk l ≡ gives a → AskOk a × (spoken (a .query .order) ≡ true)
+pub ask-ok : (l : List ℕ) (a : Ask) → readAsk l ≡ gives a → AskInRange a × (spoken (a .query .order) ≡ true)
 unfolding readAsk
 ask-ok l a e₀ =
     let e = must-rest (isLine l) 9 _ _ e₀ in
     let is : askMeant (askAt (frameOf l)) ≡ a = same-given _ _ (must-rest (isAsk (frameOf l)) 10 _ _ e) in
-    subst (λ (x : Ask). AskOk x × (spoken (x .query .order) ≡ true)) is (frame-ask (frameOf l) (bytes-frame l) (must-test (isAsk (frameOf l)) 10 _ _ e))
+    subst (λ (x : Ask). AskInRange x × (spoken (x .query .order) ≡ true)) is (frame-ask (frameOf l) (bytes-frame l) (must-test (isAsk (frameOf l)) 10 _ _ e))
 
 module _ (o : Order) (l : List ℕ) (y : Answer) (e : readAnswer o l ≡ gives y) where
   test : answerOk (answerKind o) (frameOf l) ≡ true
   unfolding readAnswer
   test = must-test (answerOk (answerKind o) (frameOf l)) 10 _ _ (must-rest (isLine l) 9 _ _ e)
 
-  pub answer-ok : AnswerOk y × (y .query .order ≡ o)
+  pub answer-ok : AnswerInRange y × (y .query .order ≡ o)
   unfolding readAnswer
   answer-ok =
       let is : answerMeant (answerAt o (frameOf l)) ≡ y =
       same-given _ _ (must-rest (answerOk (answerKind o) (frameOf l)) 10 _ _ (must-rest (isLine l) 9 _ _ e)) in
-      subst (λ (x : Answer). AnswerOk x × (x .query .order ≡ o)) is (frame-answer (frameOf l) (bytes-frame l) o test)
+      subst (λ (x : Answer). AnswerInRange x × (x .query .order ≡ o)) is (frame-answer (frameOf l) (bytes-frame l) o test)
 
   -- and begins with the kind of that order's answers
-  pub answer-headed : Headed (answerKind o) (frameOf l)
+  pub answer-headed : HeadOk (answerKind o) (frameOf l)
   answer-headed = is-answer (answerKind o) (frameOf l) test .headed

@@ -8,7 +8,7 @@ use lib.ListN.{length, replicate}
 use borrow.Author.Tests.{eq-eqb, le-leb}
 use Rattle.paper.specs.declared.lines.Scope.{Scope}
 use Rattle.paper.specs.Frames.{num, frameOf}
-use Rattle.paper.specs.Fields.{inPlaces, flagOf, itemPlaces}
+use Rattle.paper.specs.Fields.{queryInSlots, flagOf, itemSlots}
 use Rattle.paper.specs.Lines.{askKind, answerKind, spoken, queryFits, askFrame, askRanges, askFits, anAsk, answerFrame, answerRanges, answerFits, anAnswer}
 use Rattle.paper.specs.Orders.{Query, snapshotOf, flat}
 use Rattle.paper.specs.Outcomes.{gives}
@@ -21,7 +21,7 @@ use Rattle.paper.proofs.LineKinds.{ask-small, answer-small}
 use Rattle.lines.proofs.Tests.{bytes-ask, bytes-answer}
 use Rattle.lines.proofs.AskRound.{ask-reads-back}
 use Rattle.lines.proofs.AnswerRound.{answer-reads-back}
-use Rattle.orders.specs.LawfulLines.{QueryOk, AskOk, ItemOk, AnswerOk}
+use Rattle.orders.specs.LawfulLines.{QueryInRange, AskInRange, ItemInRange, AnswerInRange}
 use Rattle.paper.proofs.Tests.{and-both}
 use Rattle.orders.proofs.Lists.{All, all-of-mem}
 use Rattle.orders.proofs.Rooms.{read-flat, flat-length, query-placed}
@@ -37,12 +37,12 @@ flag-small true = omega arith
 flag-small false = omega arith
 
 -- a query in range fits where its order has lines
-query-fits : (q : Query) → QueryOk q → spoken (q .order) ≡ true → queryFits q ≡ true
+query-fits : (q : Query) → QueryInRange q → spoken (q .order) ≡ true → queryFits q ≡ true
 unfolding queryFits
 query-fits q ok o = and-both _ _ o (and-both _ _ (ok .range) (eq-eqb _ _ (ok .long)))
 
 -- an ask's fields, as its reader gives them
-module _ (a : Ask) (ok : AskOk a) where
+module _ (a : Ask) (ok : AskInRange a) where
   -- the snapshot that it carries
   abbrev carried : ℕ
   carried = snapshotOf (a .place) 0
@@ -60,7 +60,7 @@ module _ (a : Ask) (ok : AskOk a) where
       (and-both _ _ (scope-ok (a .place) carried (ok .place) (asked-small (a .place) (ok .place)))
       (and-both _ _ (scope-asks (a .place)) (and-both _ _ (le-leb 1 (a .size) (ok .one)) (le-leb (a .size) mostPage (ok .most)))))
 
-  ask-same : askMeant (record { query = inPlaces (a .query); scope = scope; size = a .size }) ≡ a
+  ask-same : askMeant (record { query = queryInSlots (a .query); scope = scope; size = a .size }) ≡ a
   unfolding askMeant
   ask-same =
       let q = query-placed (a .query) (ok .query .long) in
@@ -81,7 +81,7 @@ module _ (a : Ask) (ok : AskOk a) where
       ∙ front-read _ _ (a .query) scope _ refl (ask-small (a .query .order)) (query-fit (a .query) (ok .query)) scope-fits .kind
 
 -- an answer's
-module _ (y : Answer) (ok : AnswerOk y) where
+module _ (y : Answer) (ok : AnswerInRange y) where
   abbrev around : Scope
   around = scopeOf (y .place) (y .snapshot)
 
@@ -91,7 +91,7 @@ module _ (y : Answer) (ok : AnswerOk y) where
   around-fits : ScopeFit around
   around-fits = scope-fit (y .place) (y .snapshot) (ok .place) (ok .snapshot)
 
-  all-ok : All ItemOk (y .items)
+  all-ok : All ItemInRange (y .items)
   all-ok = all-of-mem _ (y .items) (ok .items)
 
   answer-fits : spoken (y .query .order) ≡ true → answerFits (y .query) around (flagOf (y .last)) pages (flat (y .items)) ≡ true
@@ -102,8 +102,8 @@ module _ (y : Answer) (ok : AnswerOk y) where
       (and-both _ _ (le-leb (flagOf (y .last)) 1 (flag-small (y .last))) (le-leb pages mostPage (ok .few))))
       (and-both _ _ (eq-eqb _ _ (flat-length (y .items))) (and-both _ _ (flat-references (y .items) all-ok) (flat-numbers (y .items) all-ok))))
 
-  answer-same : answerMeant (record { query = inPlaces (y .query); scope = around; last = flagOf (y .last); count = pages; items = itemPlaces pages (flat (y .items)) }) ≡ y
-  unfolding answerMeant itemPlaces
+  answer-same : answerMeant (record { query = queryInSlots (y .query); scope = around; last = flagOf (y .last); count = pages; items = itemSlots pages (flat (y .items)) }) ≡ y
+  unfolding answerMeant itemSlots
   answer-same =
       let q = query-placed (y .query) (ok .query .long) in
       let p = scope-place (y .place) (y .snapshot) (ok .used) in

@@ -11,17 +11,17 @@ use Rattle.paper.specs.Ends.{Table, tableOf}
 
 -- the claims that a table's d cuts out of references and coordinates
 abbrev pub runOf : Store → List ℕ → List ℤ → List Claim
-runOf s given places = claimsFrom (s .table .d) (length given) given places
+runOf s given points = claimsFrom (s .table .d) (length given) given points
 
 -- the references and the coordinates of a run, one after another
 unfoldable pub referencesOf : List Claim → List ℕ
 referencesOf [] = []
 referencesOf (c ∷ run) = c .reference ∷ referencesOf run
 
-unfoldable pub placesOf : List Claim → List ℤ
-placesOf [] = []
-placesOf (c ∷ run) = c .place ++ placesOf run
+unfoldable pub pointsOf : List Claim → List ℤ
+pointsOf [] = []
+pointsOf (c ∷ run) = c .point ++ pointsOf run
 
 -- what the public call `enter` leaves, as a world's table
 unfoldable pub callEnters : Store → List ℕ → List ℤ → Outcome Table
-callEnters s given places = onto (enterCall s given places) (λ x. gives (tableOf x))
+callEnters s given points = onto (enterCall s given points) (λ x. gives (tableOf x))

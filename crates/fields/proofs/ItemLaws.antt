@@ -12,16 +12,16 @@ use lib.Seq.{drop-cons, drop-drop}
 use Rattle.paper.specs.Frames.{be, num}
 use Rattle.digits.specs.Places.{overlaid}
 use Rattle.digits.proofs.NumbersAndFrames.{and-false, and-both, num-lt, Bytes, bytes-append, bytes-be, bytes-drop, length-be, field-read, field-back}
-use Rattle.paper.specs.Fields.{item, itemBytes, itemNumbers, numbersOk, referencesOk}
+use Rattle.paper.specs.Fields.{itemFrame, itemBytes, itemNumbers, numbersOk, referencesOk}
 use Rattle.fields.proofs.PartLaws.{over-to}
 use Rattle.paper.specs.Limits.{itemRoom, mostNumber, mostPage}
 
-pub length-item : (n r x : ℕ) → length (item n r x) ≡ 14
-unfolding item
+pub length-item : (n r x : ℕ) → length (itemFrame n r x) ≡ 14
+unfolding itemFrame
 length-item n r x = simp (length-append, length-be)
 
-pub bytes-item : (n r x : ℕ) → Bytes (item n r x)
-unfolding item
+pub bytes-item : (n r x : ℕ) → Bytes (itemFrame n r x)
+unfolding itemFrame
 bytes-item n r x = bytes-append (be 2 n) (be 4 r ++ be 8 x) (bytes-be 2 n) (bytes-append (be 4 r) (be 8 x) (bytes-be 4 r) (bytes-be 8 x))
 
 pub length-items : (k : ℕ) (ns : List ℕ) → length ns ≡ 3 * k → length (itemBytes ns) ≡ 14 * k
@@ -40,11 +40,11 @@ unfolding itemBytes
 bytes-items [] = tt
 bytes-items (n ∷ []) = tt
 bytes-items (n ∷ r ∷ []) = tt
-bytes-items (n ∷ r ∷ x ∷ ns) = bytes-append (item n r x) (itemBytes ns) (bytes-item n r x) (bytes-items ns)
+bytes-items (n ∷ r ∷ x ∷ ns) = bytes-append (itemFrame n r x) (itemBytes ns) (bytes-item n r x) (bytes-items ns)
 
 -- one item of those that are left to write
 pub item-step : (o o' : List ℕ) (at i : ℕ) (ns : List ℕ) → 3 * i + 2 < length ns → 2 * (at + 14 * (i + 1)) ≤ length o
-    → o' ≡ overlaid o (at + 14 * i) (item (getD ns (3 * i) 0) (getD ns (3 * i + 1) 0) (getD ns (3 * i + 2) 0))
+    → o' ≡ overlaid o (at + 14 * i) (itemFrame (getD ns (3 * i) 0) (getD ns (3 * i + 1) 0) (getD ns (3 * i + 2) 0))
     → overlaid o (at + 14 * i) (itemBytes (drop (3 * i) ns)) ≡ overlaid o' (at + 14 * (i + 1)) (itemBytes (drop (3 * (i + 1)) ns))
 unfolding itemBytes
 item-step o o' at i ns h k e =
@@ -53,9 +53,9 @@ item-step o o' at i ns h k e =
     let e2 : 3 * i + 2 ≡ suc (suc (3 * i)) = omega arith in
     let e3 : 3 * (i + 1) ≡ suc (suc (suc (3 * i))) = omega arith in
     let l = length-item (getD ns (3 * i) 0) (getD ns (suc (3 * i)) 0) (getD ns (suc (suc (3 * i))) 0) in
-    let e' : o' ≡ overlaid o (at + 14 * i) (item (getD ns (3 * i) 0) (getD ns (suc (3 * i)) 0) (getD ns (suc (suc (3 * i))) 0)) = rw (← e2, ← e1) e in
+    let e' : o' ≡ overlaid o (at + 14 * i) (itemFrame (getD ns (3 * i) 0) (getD ns (suc (3 * i)) 0) (getD ns (suc (suc (3 * i))) 0)) = rw (← e2, ← e1) e in
     rw (e3, drop-cons ns (3 * i) 0 (omega arith), drop-cons ns (suc (3 * i)) 0 (omega arith), drop-cons ns (suc (suc (3 * i))) 0 (omega arith))
-    (over-to o o' (at + 14 * i) (at + 14 * (i + 1)) (item (getD ns (3 * i) 0) (getD ns (suc (3 * i)) 0) (getD ns (suc (suc (3 * i))) 0)) (itemBytes (drop (suc (suc (suc (3 * i)))) ns)) (omega arith) k e')
+    (over-to o o' (at + 14 * i) (at + 14 * (i + 1)) (itemFrame (getD ns (3 * i) 0) (getD ns (suc (3 * i)) 0) (getD ns (suc (suc (3 * i))) 0)) (itemBytes (drop (suc (suc (suc (3 * i)))) ns)) (omega arith) k e')
 
 pub length-itemsIn : (k : ℕ) (f : List ℕ) → length (itemNumbers k f) ≡ 3 * k
 unfolding itemNumbers
@@ -83,17 +83,17 @@ three (h ∷ p) q (suc n) a b c x y z e =
     let e2 : suc n + 2 ≡ suc (n + 2) = omega arith in
     rw (e1, e2) (ap (λ (l : List ℕ). h ∷ l) (three p q n a b c x y z (omega arith)))
 
-pub places-step : (f : List ℕ) (i : ℕ) → i < mostPage
+pub slots-step : (f : List ℕ) (i : ℕ) → i < mostPage
     → set (set (set (itemNumbers i f ++ replicate (itemRoom - 3 * i) 0) (3 * i) (num 2 (drop (14 * i) f))) (3 * i + 1) (num 4 (drop (14 * i + 2) f))) (3 * i + 2) (num 8 (drop (14 * i + 6) f))
     ≡ itemNumbers (i + 1) f ++ replicate (itemRoom - 3 * (i + 1)) 0
-places-step f i h =
+slots-step f i h =
     let e : itemRoom - 3 * i ≡ suc (suc (suc (itemRoom - 3 * (i + 1)))) = omega arith in
     rw (e, add-one i, items-snoc i f, ← add-one i)
     (three (itemNumbers i f) (replicate (itemRoom - 3 * (i + 1)) 0) (3 * i) (num 2 (drop (14 * i) f)) (num 4 (drop (14 * i + 2) f)) (num 8 (drop (14 * i + 6) f)) 0 0 0 (length-itemsIn i f))
 
 -- there and back
 pub items-back : (k : ℕ) (f : List ℕ) → Bytes f → 14 * k ≤ length f → itemBytes (itemNumbers k f) ++ drop (14 * k) f ≡ f
-unfolding itemNumbers itemBytes item
+unfolding itemNumbers itemBytes itemFrame
 items-back zero f p h = refl
 items-back (suc k) f p h =
     let e : 14 * suc k ≡ 14 + 14 * k = omega arith in
@@ -111,7 +111,7 @@ ItemsFit (suc k) (n ∷ r ∷ []) = ⊥
 ItemsFit (suc k) (n ∷ r ∷ x ∷ ns) = (n < 2 ^ 16) × ((r < 2 ^ 32) × ((x < 2 ^ 64) × ItemsFit k ns))
 
 pub items-read : (k : ℕ) (ns g : List ℕ) → ItemsFit k ns → itemNumbers k (itemBytes ns ++ g) ≡ ns
-unfolding itemNumbers itemBytes item
+unfolding itemNumbers itemBytes itemFrame
 items-read zero [] g p = refl
 items-read zero (n ∷ ns) g p = absurd p
 items-read (suc k) [] g p = absurd p

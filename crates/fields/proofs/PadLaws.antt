@@ -1,4 +1,4 @@
--- A probe copied into eight places, one by one. Assumes nothing.
+-- A probe copied into eight slots, one by one. Assumes nothing.
 use Prim.Native.Nat.{ℕ, suc, _+_, _-_, _≤_, _<_}
 use mathlib.Core.Path.{_≡_, sym, ap, _∙_}
 use mathlib.Core.List.{List, _++_}
@@ -8,7 +8,7 @@ use lib.IntN.{ℤ, pos}
 use lib.ListN.{length, getD, take, set, replicate}
 use lib.Seq.{length-take-le, take-suc, set-at, append-snoc}
 
--- the first i coordinates in eight places
+-- the first i coordinates in eight slots
 abbrev pub soFar : List ℤ → ℕ → List ℤ
 soFar p i = take i p ++ replicate (8 - i) (pos 0)
 

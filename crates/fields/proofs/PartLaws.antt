@@ -120,13 +120,13 @@ unfolding scopeOk
 scope-rule p a b c = rw (le-leb (p .from) 1 a, le-leb (p .snapshot) mostClaims b, le-leb (p .number) mostNumber c)
 
 -- what a head of kind k is known for
-pub record Headed (k : ℕ) (f : List ℕ) : Type 0 where
+pub record HeadOk (k : ℕ) (f : List ℕ) : Type 0 where
   pub some : 1 ≤ k
   pub kind : num 1 f ≡ k
   pub test : inRange (num 1 (drop 5 f)) (num 1 (drop 6 f)) ≡ true
   pub range : InRange (num 1 (drop 5 f)) (num 1 (drop 6 f))
 
-pub is-head : (k : ℕ) (f : List ℕ) → headOk k f ≡ true → Headed k f
+pub is-head : (k : ℕ) (f : List ℕ) → headOk k f ≡ true → HeadOk k f
 unfolding headOk
 is-head k f e =
     let o = and-both (leb 1 k) (eqb (num 1 f) k && inRange (num 1 (drop 5 f)) (num 1 (drop 6 f))) e in

@@ -13,7 +13,7 @@ use mir.Facts.{toZ-ofZ, ofZ-toZ, fits-ofZ}
 use Rattle.paper.specs.Frames.{be, num}
 use Rattle.digits.proofs.NumbersAndFrames.{Bytes, bytes-drop, length-be, num-be, be-num, num-lt, field-read, field-back}
 use Rattle.paper.specs.Orders.{Query, queryIn}
-use Rattle.paper.specs.Fields.{head, front, coordBytes, coordsIn, places, inPlaces, scopeBytes, scopeIn}
+use Rattle.paper.specs.Fields.{head, front, coordBytes, coordsIn, inSlots, queryInSlots, scopeBytes, scopeIn}
 use Rattle.paper.specs.declared.lines.Scope.{Scope}
 use Rattle.paper.specs.declared.orders.Order.{Order}
 use Rattle.paper.specs.Lines.{behind, queryAt}
@@ -49,11 +49,11 @@ pub last-field : (f : List ℕ) (w : ℕ) → Bytes f → length f ≡ w → be 
 last-field f w p e = be-num w f p (omega arith) ∙ take-all w f (omega arith)
 
 -- every coordinate is a number of 32 bits
-abbrev pub Fit : List ℤ → Type 0
-Fit [] = Unit {0}
-Fit (z ∷ zs) = SFits w32 z × Fit zs
+abbrev pub Signed32 : List ℤ → Type 0
+Signed32 [] = Unit {0}
+Signed32 (z ∷ zs) = SFits w32 z × Signed32 zs
 
-pub coords-read : (cs : List ℤ) (g : List ℕ) → Fit cs → coordsIn (length cs) (coordBytes cs ++ g) ≡ cs
+pub coords-read : (cs : List ℤ) (g : List ℕ) → Signed32 cs → coordsIn (length cs) (coordBytes cs ++ g) ≡ cs
 unfolding coordsIn coordBytes
 coords-read [] g p = refl
 coords-read (z ∷ cs) g p =
@@ -68,10 +68,10 @@ coords-back (suc d) f p h =
     rw (append-assoc, ofZ-toZ {w = w32} {n = num 4 f} (record { fits = num-lt 4 f p }), e, ← drop-drop (4 * d) 4 f, coords-back d (drop 4 f) (bytes-drop 4 f p) k)
     (field-back f 0 4 p (omega arith))
 
--- the places in use
-pub take-places : (d : ℕ) (f : List ℕ) → take d (places d (coordsIn d f)) ≡ coordsIn d f
-unfolding places
-take-places d f = take-at (coordsIn d f) (replicate (8 - d) (pos 0)) d (length-coordsIn d f)
+-- the slots in use
+pub take-slots : (d : ℕ) (f : List ℕ) → take d (inSlots d (coordsIn d f)) ≡ coordsIn d f
+unfolding inSlots
+take-slots d f = take-at (coordsIn d f) (replicate (8 - d) (pos 0)) d (length-coordsIn d f)
 
 -- ---- the scope, behind the reach
 
@@ -119,7 +119,7 @@ pub record QueryFit (q : Query) : Type 0 where
   pub measure : q .measure < 256
   pub dim : q .d < 256
   pub long : length (q .probe) ≡ q .d
-  pub probe : Fit (q .probe)
+  pub probe : Signed32 (q .probe)
   pub reach : q .reach < 2 ^ 64
 
 -- what a frame that begins so says
@@ -127,13 +127,13 @@ pub record Fronts (f : List ℕ) (k : ℕ) (q : Query) (p : Scope) (g : List ℕ
   pub kind : num 1 f ≡ k
   pub measure : num 1 (drop 5 f) ≡ q .measure
   pub dim : num 1 (drop 6 f) ≡ q .d
-  pub query : queryAt (q .order) f ≡ inPlaces q
+  pub query : queryAt (q .order) f ≡ queryInSlots q
   pub scope : scopeIn (behind f) ≡ p
   pub rest : drop 21 (behind f) ≡ g
 
 pub front-read : (f : List ℕ) (k : ℕ) (q : Query) (p : Scope) (g : List ℕ) → f ≡ front k q p ++ g
     → k < 256 → QueryFit q → ScopeFit p → Fronts f k q p g
-unfolding front behind queryAt inPlaces
+unfolding front behind queryAt queryInSlots
 front-read f k q p g e hk hq hp =
     let cs = q .probe in
     let tail = scopeBytes (q .reach) p ++ g in
@@ -166,7 +166,7 @@ front-back o f p h =
     let l7 : length (drop 7 f) ≡ length f - 7 = length-drop 7 f in
     let lb : length (drop (4 * d) (drop 7 f)) ≡ length (drop 7 f) - 4 * d = length-drop (4 * d) (drop 7 f) in
     let long : 28 + 4 * d ≤ length f = h .long in
-    rw (take-places d (drop 7 f))
+    rw (take-slots d (drop 7 f))
     (simp append-assoc
     (rw (b, scope-back (drop (4 * d) (drop 7 f)) (bytes-drop (4 * d) (drop 7 f) (bytes-drop 7 f p)) (omega arith), coords-back d (drop 7 f) (bytes-drop 7 f p) (omega arith))
     (head-back f p (omega arith))))

@@ -4,7 +4,7 @@ ghost use mathlib.Core.Bool.{_&&_};
 ghost use Prim.Native.Nat.{_+_, _*_, _≤_};
 ghost use lib.ListN.{length, drop};
 ghost use lib.Dec.{eqb};
-ghost use Rattle.paper.specs.Fields.{item, itemBytes, itemNumbers, itemPlaces, numbersOk, referencesOk};
+ghost use Rattle.paper.specs.Fields.{itemFrame, itemBytes, itemNumbers, itemSlots, numbersOk, referencesOk};
 ghost use Rattle.digits.specs.Places.{frameIn, overlaid};
 ghost use Rattle.paper.specs.Limits.{mostPage};
 use paper::limits::ITEM_ROOM;
@@ -12,7 +12,7 @@ use paper::limits::MOST_NUMBER;
 
 fn put_item(out: &mut [u8], at: usize, n: u64, r: u64, x: u64)
     requires { ⌜ 2 * (at + 14) ≤ length (now out) ⌝ }
-    ensures { λ _. ⌜ now (out .exit) ≡ overlaid (now (out .entry)) at (item n r x) ⌝ }
+    ensures { λ _. ⌜ now (out .exit) ≡ overlaid (now (out .entry)) at (itemFrame n r x) ⌝ }
 {
     digits::put(out, at, 2, n);
     digits::put(out, at + 2, 4, r);
@@ -35,7 +35,7 @@ pub fn put_items(out: &mut [u8], at: usize, items: &[u64], k: usize)
 // [5.6] [5.14] The k items from byte `at` on, 14 bytes for each, and 0 behind them.
 pub fn items_at(src: &[u8], at: usize, k: usize) -> [u64; ITEM_ROOM]
     requires { ⌜ (at + 14 * k ≤ length (frameIn (now src))) × (k ≤ mostPage) ⌝ }
-    ensures { λ r. ⌜ r ≡ itemPlaces k (itemNumbers k (drop at (frameIn (now (src .entry))))) ⌝ }
+    ensures { λ r. ⌜ r ≡ itemSlots k (itemNumbers k (drop at (frameIn (now (src .entry))))) ⌝ }
 {
     let mut found = [0u64; ITEM_ROOM];
     let mut i = 0;

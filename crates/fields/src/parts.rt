@@ -3,14 +3,14 @@ ghost use mathlib.Core.Path.{_≡_};
 ghost use Prim.Native.Nat.{_+_, _*_, _≤_};
 ghost use lib.ListN.{length, drop};
 ghost use Rattle.paper.specs.Frames.{num};
-ghost use Rattle.paper.specs.Fields.{head, coordBytes, coordsIn, places, scopeBytes, scopeIn, scopeOk};
+ghost use Rattle.paper.specs.Fields.{head, coordBytes, coordsIn, inSlots, scopeBytes, scopeIn, scopeOk};
 ghost use Rattle.paper.specs.Fields.{front as Fields·front};
 ghost use Rattle.paper.specs.Orders.{queryIn};
 ghost use Rattle.paper.specs.Lines.{headOk};
 ghost use Rattle.digits.specs.Places.{frameIn, overlaid};
-ghost use Rattle.paper.specs.Limits.{mostPlaces};
+ghost use Rattle.paper.specs.Limits.{mostCoordinates};
 use checks::in_range;
-use paper::limits::MOST_PLACES;
+use paper::limits::MOST_COORDINATES;
 use paper::lines::Scope;
 use paper::queries::Query;
 
@@ -63,11 +63,11 @@ pub fn put_coords(out: &mut [u8], at: usize, coords: &[i32])
 }
 
 // [5.3] [5.14] The d coordinates from byte `at` on, four bytes for each, and 0 behind them.
-pub fn coords_at(src: &[u8], at: usize, d: usize) -> [i32; MOST_PLACES]
-    requires { ⌜ (at + 4 * d ≤ length (frameIn (now src))) × (d ≤ mostPlaces) ⌝ }
-    ensures { λ r. ⌜ r ≡ places d (coordsIn d (drop at (frameIn (now (src .entry))))) ⌝ }
+pub fn coords_at(src: &[u8], at: usize, d: usize) -> [i32; MOST_COORDINATES]
+    requires { ⌜ (at + 4 * d ≤ length (frameIn (now src))) × (d ≤ mostCoordinates) ⌝ }
+    ensures { λ r. ⌜ r ≡ inSlots d (coordsIn d (drop at (frameIn (now (src .entry))))) ⌝ }
 {
-    let mut found = [0i32; MOST_PLACES];
+    let mut found = [0i32; MOST_COORDINATES];
     let mut i = 0;
     while i < d {
         found[i] = digits::signed(digits::number(src, at + 4 * i, 4) as u32);
@@ -126,7 +126,7 @@ pub fn scope_at(src: &[u8], at: usize) -> Scope
 
 // [5.5] [5.6] Writes what an ask and an answer begin with: the head, the probe from byte 7, then reach (8) and scope (13), 28 + 4d in all.
 pub fn put_front(out: &mut [u8], kind: u8, q: Query, p: Scope)
-    requires { ⌜ (q .d ≤ mostPlaces) × (2 * (28 + 4 * q .d) ≤ length (now out)) ⌝ }
+    requires { ⌜ (q .d ≤ mostCoordinates) × (2 * (28 + 4 * q .d) ≤ length (now out)) ⌝ }
     ensures { λ _. ⌜ now (out .exit) ≡ overlaid (now (out .entry)) 0 (Fields·front kind (queryIn q) p) ⌝ }
 {
     let d = q.d;

@@ -1,46 +1,46 @@
-// A query with its probe in eight places, from a probe of d coordinates and from a frame.
+// A query with its probe in eight slots, from a probe of d coordinates and from a frame.
 ghost use mathlib.Core.Path.{_≡_};
 ghost use Prim.Native.Nat.{_≤_};
 ghost use lib.ListN.{length};
-ghost use Rattle.paper.specs.Fields.{places, inPlaces};
+ghost use Rattle.paper.specs.Fields.{inSlots, queryInSlots};
 ghost use Rattle.paper.specs.Orders.{queryIn};
 ghost use Rattle.paper.specs.Lines.{queryAt, queryFits};
 ghost use Rattle.digits.specs.Places.{frameIn};
 ghost use Rattle.fields.specs.Fronts.{Begun};
-ghost use Rattle.paper.specs.Limits.{mostPlaces};
+ghost use Rattle.paper.specs.Limits.{mostCoordinates};
 use super::parts::coords_at;
 use checks::has_lines;
 use checks::in_range;
-use paper::limits::MOST_PLACES;
+use paper::limits::MOST_COORDINATES;
 use paper::orders::Order;
 use paper::queries::Query;
 
-// [7.3] [5.14] A probe in eight places, the unused ones 0.
-fn padded(probe: &[i32]) -> [i32; MOST_PLACES]
-    requires { ⌜ length (now probe) ≤ mostPlaces ⌝ }
-    ensures { λ r. ⌜ r ≡ places (length (now (probe .entry))) (now (probe .entry)) ⌝ }
+// [7.3] [5.14] A probe in eight slots, the unused ones 0.
+fn padded(probe: &[i32]) -> [i32; MOST_COORDINATES]
+    requires { ⌜ length (now probe) ≤ mostCoordinates ⌝ }
+    ensures { λ r. ⌜ r ≡ inSlots (length (now (probe .entry))) (now (probe .entry)) ⌝ }
 {
-    let mut places = [0i32; MOST_PLACES];
+    let mut slots = [0i32; MOST_COORDINATES];
     let mut i: usize = 0;
     while i < probe.len() {
-        places[i] = probe[i];
+        slots[i] = probe[i];
         i += 1;
     }
-    places
+    slots
 }
 
 // [7.1] The query of these parts.
 pub fn query_of(order: Order, table: u32, measure: u8, d: usize, probe: &[i32], reach: u64) -> Query
-    requires { ⌜ (length (now probe) ≡ d) × (d ≤ mostPlaces) ⌝ }
-    ensures { λ r. ⌜ r ≡ inPlaces (record { order = order; table = table; measure = measure; d = d; probe = now (probe .entry); reach = reach }) ⌝ }
+    requires { ⌜ (length (now probe) ≡ d) × (d ≤ mostCoordinates) ⌝ }
+    ensures { λ r. ⌜ r ≡ queryInSlots (record { order = order; table = table; measure = measure; d = d; probe = now (probe .entry); reach = reach }) ⌝ }
 {
-    let places = padded(probe);
+    let slots = padded(probe);
     Query {
         order,
         table,
         measure,
         d,
-        probe: places,
+        probe: slots,
         reach,
     }
 }

@@ -20,9 +20,9 @@ use Rattle.orders.proofs.Lists.{All, all-map, all-take, all-getD, all-mem, all-
 use Rattle.orders.proofs.Sorted.{rising-take, rising-rest, rising-test, IsOf, listed-are, listed-rising, rest-follows, all-rest}
 use Rattle.orders.proofs.Page.{last-some}
 use Rattle.orders.proofs.Taking.{present-start, present-after, query-same, place-same}
-use Rattle.orders.specs.LawfulLines.{QueryOk, PlaceOk, AskOk, ItemOk, AnswerOk}
+use Rattle.orders.specs.LawfulLines.{QueryInRange, PlaceInRange, AskInRange, ItemInRange, AnswerInRange}
 use Rattle.journey.specs.World.{TableOk}
-use Rattle.journey.proofs.Kept.{Kept, after, Vouched, kept-are, is-fitting}
+use Rattle.journey.proofs.Kept.{ListTrue, after, Vouched, kept-are, is-fitting}
 use Rattle.paper.specs.Limits.{mostClaims, mostPage}
 
 -- what a sound list says of its present place
@@ -47,27 +47,27 @@ parts room L e =
     }
 
 -- a sound list's place is in range
-present-ok : (room : ℕ) (L : Listing) → QueryOk (L .query) → soundIn room L ≡ true → L .complete ≡ false → PlaceOk (presentPlace L)
+present-ok : (room : ℕ) (L : Listing) → QueryInRange (L .query) → soundIn room L ≡ true → L .complete ≡ false → PlaceInRange (presentPlace L)
 present-ok room L ok e c = go (L .started) refl (parts room L e)
   where
-    go : (b : Bool) → L .started ≡ b → Parts L → PlaceOk (presentPlace L)
-    go false p s = subst PlaceOk (sym (present-start L p)) tt
+    go : (b : Bool) → L .started ≡ b → Parts L → PlaceInRange (presentPlace L)
+    go false p s = subst PlaceInRange (sym (present-start L p)) tt
     go true p s =
         let j : 1 ≤ length (L .items) = s .some p c in
         let f = all-getD _ (L .items) (length (L .items) - 1) noItem (s .fit) (omega arith) in
         let f1 : lastItem (L .items) .distance ≤ L .query .reach = leb-true _ _ (and-first _ _ f) in
         let f2 : lastItem (L .items) .number < L .snapshot = ltb-true _ _ (and-second (leb (lastItem (L .items) .distance) (L .query .reach)) _ f) in
-        subst PlaceOk (sym (present-after L p))
+        subst PlaceInRange (sym (present-after L p))
         (record { snapshot = s .small; distance = omega (arith, ok .typed .reach); number = omega (arith, s .small) })
 
-pub asked-ok : (room n : ℕ) (L : Listing) → QueryOk (L .query) → soundIn room L ≡ true → L .complete ≡ false → 1 ≤ n → n ≤ mostPage → AskOk (presentAsk L n)
+pub asked-ok : (room n : ℕ) (L : Listing) → QueryInRange (L .query) → soundIn room L ≡ true → L .complete ≡ false → 1 ≤ n → n ≤ mostPage → AskInRange (presentAsk L n)
 asked-ok room n L ok e c one most = record { query = ok; place = present-ok room L ok e c; one = one; most = most }
 
 -- what the office gives is in range, and vouched for
 after-are : (t : Table) (q : Query) (p : Place) (s : ℕ) → All (IsOf q (t .claims) s) (after t q p s)
 after-are t q p s = all-rest (q .order) _ p _ (listed-are q (t .claims) s)
 
-item-ok : (t : Table) (q : Query) (s : ℕ) → TableOk t → QueryOk q → s ≤ count t → (x : Item) → IsOf q (t .claims) s x → ItemOk x
+item-ok : (t : Table) (q : Query) (s : ℕ) → TableOk t → QueryInRange q → s ≤ count t → (x : Item) → IsOf q (t .claims) s x → ItemInRange x
 unfolding itemOf
 item-ok t q s tok qok small x p =
     record {
@@ -81,7 +81,7 @@ used-again : (p : Place) (n : ℕ) → snapshotOf p (snapshotOf p n) ≡ snapsho
 used-again Start n = refl
 used-again (After k m) n = refl
 
-pub answer-ok : (t : Table) (a : Ask) → TableOk t → AskOk a → snapshotOf (a .place) (count t) ≤ count t → AnswerOk (answerOf t a)
+pub answer-ok : (t : Table) (a : Ask) → TableOk t → AskInRange a → snapshotOf (a .place) (count t) ≤ count t → AnswerInRange (answerOf t a)
 unfolding answerOf pageOf following
 answer-ok t a tok ok small =
     record {
@@ -116,7 +116,7 @@ unfolding answerOf pageOf following
 answer-vouched t a ours held one = record { ours = ours; held = held; size = a .size; one = one; page = refl; flag = refl }
 
 -- the mark of a list's ask holds
-module _ (t : Table) (L : Listing) (k : Kept t L) (c : L .complete ≡ false) where
+module _ (t : Table) (L : Listing) (k : ListTrue t L) (c : L .complete ≡ false) where
   mark-holds : markHolds (L .query) (t .claims) (presentPlace L) ≡ true
   unfolding markHolds
   mark-holds = go (L .started) refl

@@ -9,14 +9,14 @@ use Rattle.orders.proofs.Lists.{all-getD, all-mem}
 use Rattle.orders.specs.LawfulLines.{Lawful}
 use Rattle.journey.specs.World.{World, noListing, theList, Reachable, Later, Unshared}
 use Rattle.journey.specs.Promise.{allOf, Truthful, MayAsk, Answered, Grows}
-use Rattle.journey.proofs.Kept.{Kept, Grown, grown-matches, kept-grown, kept-sound}
-use Rattle.journey.proofs.Growth.{Ready, is-answered, has-grown}
+use Rattle.journey.proofs.Kept.{ListTrue, TableGrown, grown-matches, kept-grown, kept-sound}
+use Rattle.journey.proofs.Growth.{MayAnswer, is-answered, has-grown}
 use Rattle.journey.proofs.Journey.{Good, always, later-grown, later-reachable, later-lists}
 use Rattle.paper.specs.Limits.{mostClaims}
 
 module _ (c : Codec) (law : Lawful c) (Elsewhere : List ℕ → Type 0) (w : World) (r : Reachable c Elsewhere w) where
   module _ (L : Listing) (m : List·Memᴰ L (w .lists)) (alone : Unshared c Elsewhere (L .query .table)) where
-    kept : Kept (w .table) L
+    kept : ListTrue (w .table) L
     kept = all-mem _ L (w .lists) (always c law Elsewhere r .lists) m .kept alone
 
     pub truthful : Truthful (w .table) L
@@ -30,11 +30,11 @@ module _ (c : Codec) (law : Lawful c) (Elsewhere : List ℕ → Type 0) (w : Wor
 
   -- a list that may ask in w is ready wherever its ask arrives later
   ready : (v : World) (i size : ℕ) → Later c Elsewhere w v → Unshared c Elsewhere (theList w i .query .table) → MayAsk w i size
-      → Ready c (v .table) (theList w i) size
+      → MayAnswer c (v .table) (theList w i) size
   ready v i size l alone may =
       let good : Good c law Elsewhere (w .table) (theList w i) =
       all-getD _ (w .lists) i noListing (always c law Elsewhere r .lists) (may .here) in
-      let g : Grown (w .table) (v .table) = later-grown c law Elsewhere w l in
+      let g : TableGrown (w .table) (v .table) = later-grown c law Elsewhere w l in
       record {
         table = always c law Elsewhere (later-reachable c law Elsewhere w r l) .table;
         kept = kept-grown _ _ g (theList w i) (good .kept alone);

@@ -9,31 +9,31 @@ use lib.Seq.{getD-set-same}
 use borrow.Author.Tests.{le-leb}
 use Rattle.paper.specs.Orders.{Item, listed, snapshotOf, following, pageOf, lastOf}
 use Rattle.paper.specs.Outcomes.{Outcome, gives, onto}
-use Rattle.paper.specs.Ends.{Ask, Answer, Codec, Table, count, matches, answerOf, answerTo, served, office, Listing, presentPlace, presentAsk, asking, joinedTo, taken, taking}
+use Rattle.paper.specs.Ends.{Ask, Answer, Codec, Table, count, matches, answerOf, answerTo, lineAnswered, office, Listing, presentPlace, presentAsk, asking, joinedTo, taken, taking}
 use Rattle.paper.proofs.Tests.{and-both, false-not}
 use Rattle.paper.proofs.Outcomes.{must-go}
-use Rattle.orders.specs.LawfulLines.{AskOk, AnswerOk, Lawful}
-use Rattle.journey.specs.World.{World, noListing, theList, sent, moved, TableOk, next}
+use Rattle.orders.specs.LawfulLines.{AskInRange, AnswerInRange, Lawful}
+use Rattle.journey.specs.World.{World, noListing, theList, sent, listChanged, TableOk, next}
 use Rattle.journey.specs.Promise.{askLineOf, replyLineOf, Answered, Grows}
-use Rattle.journey.proofs.Kept.{Kept, Grown, grown-listed, kept-sound, Continues, continues, longer}
+use Rattle.journey.proofs.Kept.{ListTrue, TableGrown, grown-listed, kept-sound, Continues, continues, longer}
 use Rattle.journey.proofs.Answers.{asked-ok, answer-ok, present-snapshot, present-held, present-answered, reply-taken}
 use Rattle.paper.specs.Limits.{longestAnswer, longestAsk, mostClaims, mostPage}
 
 -- a list that may ask this table for a page
-pub record Ready (c : Codec) (t : Table) (L : Listing) (size : ℕ) : Type 0 where
+pub record MayAnswer (c : Codec) (t : Table) (L : Listing) (size : ℕ) : Type 0 where
   pub table : TableOk t
-  pub kept : Kept t L
+  pub kept : ListTrue t L
   pub spoken : c .speaks (L .query .order) ≡ true
   pub ours : matches t (L .query) ≡ true
   pub unfinished : L .complete ≡ false
   pub one : 1 ≤ size
   pub most : size ≤ mostPage
 
-module _ (c : Codec) (law : Lawful c) (t : Table) (L : Listing) (size : ℕ) (r : Ready c t L size) where
+module _ (c : Codec) (law : Lawful c) (t : Table) (L : Listing) (size : ℕ) (r : MayAnswer c t L size) where
   few : count t ≤ mostClaims
   few = omega (arith, r .table .fits, r .table .small)
 
-  ask-ok : AskOk (presentAsk L size)
+  ask-ok : AskInRange (presentAsk L size)
   ask-ok =
       asked-ok (length (L .items)) size L (r .kept .query) (kept-sound t L (length (L .items)) (r .kept) few (omega arith)) (r .unfinished) (r .one) (r .most)
 
@@ -43,7 +43,7 @@ module _ (c : Codec) (law : Lawful c) (t : Table) (L : Listing) (size : ℕ) (r 
   abbrev pub reply : Answer
   reply = answerOf t (presentAsk L size)
 
-  reply-ok : AnswerOk reply
+  reply-ok : AnswerInRange reply
   reply-ok = answer-ok t (presentAsk L size) (r .table) ask-ok held
 
   pub asks-line : (room out : ℕ) → length (L .items) ≤ room → longestAsk ≤ out → asking c room size out L ≡ gives (askLineOf c L size)
@@ -53,7 +53,7 @@ module _ (c : Codec) (law : Lawful c) (t : Table) (L : Listing) (size : ℕ) (r 
       ∙ must-go _ _ _ (and-both _ _ (le-leb 1 size (r .one)) (le-leb size mostPage (r .most))) ∙ must-go _ _ _ (le-leb longestAsk out g)
 
   pub office-line : (out : ℕ) → longestAnswer ≤ out → office c t out (askLineOf c L size) ≡ gives (replyLineOf c t L size)
-  unfolding office served
+  unfolding office lineAnswered
   office-line out h =
       must-go _ _ _ (le-leb longestAnswer out h)
       ∙ ap (λ (x : Outcome Ask). onto x (λ a. onto (answerTo t a) (λ y. gives (c .answerLine y)))) (law .ask-back (presentAsk L size) ask-ok (r .spoken))
@@ -70,7 +70,7 @@ module _ (c : Codec) (law : Lawful c) (t : Table) (L : Listing) (size : ℕ) (r 
   abbrev at : ℕ
   at = snapshotOf (presentPlace L) (count t)
 
-  module _ (u : Table) (g : Grown t u) where
+  module _ (u : Table) (g : TableGrown t u) where
     same : listed (L .query) (u .claims) at ≡ listed (L .query) (t .claims) at
     same = grown-listed t u g (L .query) at held
 
@@ -91,11 +91,11 @@ module _ (c : Codec) (law : Lawful c) (t : Table) (L : Listing) (size : ℕ) (r 
 sent-has : (w : World) (x : Outcome (List ℕ)) (s : List ℕ) → x ≡ gives s → List·Memᴰ s (sent w x .air)
 sent-has w x s e = rw e (List·Memᴰ·head refl)
 
-moved-is : (w : World) (i : ℕ) (x : Outcome Listing) (L : Listing) → x ≡ gives L → i < length (w .lists) → theList (moved w i x) i ≡ L
+moved-is : (w : World) (i : ℕ) (x : Outcome Listing) (L : Listing) → x ≡ gives L → i < length (w .lists) → theList (listChanged w i x) i ≡ L
 moved-is w i x L e here = rw e (getD-set-same (w .lists) i L noListing here)
 
 module _ (c : Codec) (law : Lawful c) where
-  pub is-answered : (w v : World) (i size : ℕ) → Ready c (w .table) (theList w i) size → Ready c (v .table) (theList w i) size → Answered c w v i size
+  pub is-answered : (w v : World) (i size : ℕ) → MayAnswer c (w .table) (theList w i) size → MayAnswer c (v .table) (theList w i) size → Answered c w v i size
   unfolding next
   is-answered w v i size before after =
       record {
@@ -103,7 +103,7 @@ module _ (c : Codec) (law : Lawful c) where
         answered = λ out h. sent-has v _ _ (office-line c law (v .table) (theList w i) size after out h);
       }
 
-  pub has-grown : (w v u : World) (i size : ℕ) → Ready c (v .table) (theList w i) size → Grown (v .table) (u .table) → theList u i ≡ theList w i
+  pub has-grown : (w v u : World) (i size : ℕ) → MayAnswer c (v .table) (theList w i) size → TableGrown (v .table) (u .table) → theList u i ≡ theList w i
       → i < length (u .lists) → Grows c w v u i size
   unfolding next joinedTo answerOf pageOf
   has-grown w v u i size r g stands here =

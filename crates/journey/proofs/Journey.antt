@@ -13,14 +13,14 @@ use Rattle.paper.specs.Points.{Claim}
 use Rattle.paper.specs.Orders.{Query}
 use Rattle.paper.specs.Points.{inRange}
 use Rattle.paper.specs.Outcomes.{Outcome, refused, gives}
-use Rattle.paper.specs.Ends.{Ask, Answer, Codec, Table, count, answerOf, answerTo, served, answerRoom, office, Listing, fresh, opening, presentAsk, every, soundIn, sizeHolds, askRoom, asking, taking}
+use Rattle.paper.specs.Ends.{Ask, Answer, Codec, Table, count, answerOf, answerTo, lineAnswered, answerRoom, office, Listing, fresh, opening, presentAsk, every, soundIn, sizeHolds, askRoom, asking, taking}
 use Rattle.paper.proofs.Tests.{and-first, and-second}
 use Rattle.paper.proofs.Outcomes.{must-test, must-rest, through, same-given}
 use Rattle.orders.proofs.Lists.{All, all-map, all-append, all-set, all-getD, all-mem}
 use Rattle.orders.proofs.Taking.{took, took-query, fits-present}
-use Rattle.orders.specs.LawfulLines.{Typed, QueryOk, AskOk, AnswerOk, Lawful}
-use Rattle.journey.specs.World.{World, Event, enters, opens, asks, receives, takes, strays, noListing, theList, runEntering, tableChanged, sent, listAdded, moved, next, Allowed, TableOk, Reachable, begins, goes, Later, still, onwards, Unshared}
-use Rattle.journey.proofs.Kept.{Kept, Vouched, kept-fresh, Grown, grown-same, grown-trans, kept-grown, vouched-grown, kept-joined}
+use Rattle.orders.specs.LawfulLines.{Typed, QueryInRange, AskInRange, AnswerInRange, Lawful}
+use Rattle.journey.specs.World.{World, Event, enters, opens, asks, receives, takes, strays, noListing, theList, runEntering, tableChanged, sent, listAdded, listChanged, next, Allowed, TableOk, Reachable, begins, goes, Later, still, onwards, Unshared}
+use Rattle.journey.proofs.Kept.{ListTrue, Vouched, kept-fresh, TableGrown, grown-same, grown-trans, kept-grown, vouched-grown, kept-joined}
 use Rattle.journey.proofs.Answers.{asked-ok, answer-ok, replied, answer-vouched}
 
 -- what entering gave
@@ -31,14 +31,14 @@ record Entered (t : Table) (run : List Claim) (u : Table) : Type 0 where
 was-entered : (t : Table) (run : List Claim) (u : Table) → runEntering t run ≡ gives u → Entered t run u
 unfolding runEntering
 was-entered t run u e =
-    let e1 = must-rest (every (λ k. eqb (length (k .place)) (t .d)) run) 5 _ _ e in
+    let e1 = must-rest (every (λ k. eqb (length (k .point)) (t .d)) run) 5 _ _ e in
     record {
       roomy = leb-true _ _ (must-test (leb (count t + length run) (t .capacity)) 3 _ _ e1);
       is = sym (same-given _ _ (must-rest (leb (count t + length run) (t .capacity)) 3 _ _ e1));
     }
 
 -- a table that enters a run only grows
-entered-grown : (t : Table) (run : List Claim) (u : Table) → Entered t run u → Grown t u
+entered-grown : (t : Table) (run : List Claim) (u : Table) → Entered t run u → TableGrown t u
 entered-grown t run u e = rw (e .is) (record { more = run; claims = refl; number = refl; measure = refl; d = refl })
 
 entered-ok : (t : Table) (run : List Claim) (u : Table) → Entered t run u → TableOk t → ((k : Claim) → List·Memᴰ k run → k .reference < 2 ^ 32)
@@ -52,7 +52,7 @@ entered-ok t run u e ok typed =
 
 -- what one event, or none, makes of a world
 record Onward (w v : World) : Type 0 where
-  table : Grown (w .table) (v .table)
+  table : TableGrown (w .table) (v .table)
   lists : length (w .lists) ≤ length (v .lists)
 
 module _ (c : Codec) (law : Lawful c) (Elsewhere : List ℕ → Type 0) where
@@ -61,9 +61,9 @@ module _ (c : Codec) (law : Lawful c) (Elsewhere : List ℕ → Type 0) where
   Honest t s = (o : Order) (y : Answer) → c .readAnswer o s ≡ gives y → Vouched t y ⊎ Elsewhere s
 
   pub record Good (t : Table) (L : Listing) : Type 0 where
-    pub query : QueryOk (L .query)
+    pub query : QueryInRange (L .query)
     pub spoken : c .speaks (L .query .order) ≡ true
-    pub kept : Unshared c Elsewhere (L .query .table) → Kept t L
+    pub kept : Unshared c Elsewhere (L .query .table) → ListTrue t L
 
   pub record Inv (w : World) : Type 0 where
     pub table : TableOk (w .table)
@@ -87,7 +87,7 @@ module _ (c : Codec) (law : Lawful c) (Elsewhere : List ℕ → Type 0) where
   opens-inv w q i typed spoken (refused n) e = i
   opens-inv w q i typed spoken (gives L) e =
       let e1 = must-rest (inRange (q .measure) (q .d)) 1 _ _ e in
-      let ok : QueryOk q =
+      let ok : QueryInRange q =
       record {
         range = must-test (inRange (q .measure) (q .d)) 1 _ _ e;
         long = eqb-true _ _ (must-test (eqb (length (q .probe)) (q .d)) 5 _ _ e1);
@@ -105,7 +105,7 @@ module _ (c : Codec) (law : Lawful c) (Elsewhere : List ℕ → Type 0) where
   sent-inv : (w : World) (s : List ℕ) → Inv w → Honest (w .table) s → Inv (sent w (gives s))
   sent-inv w s i h = record { table = i .table; air = (h, i .air); lists = i .lists }
 
-  asks-inv : (w : World) (L : Listing) (room size out : ℕ) → Inv w → QueryOk (L .query) → (r : Outcome (List ℕ)) → asking c room size out L ≡ r
+  asks-inv : (w : World) (L : Listing) (room size out : ℕ) → Inv w → QueryInRange (L .query) → (r : Outcome (List ℕ)) → asking c room size out L ≡ r
       → Inv (sent w r)
   unfolding asking
   asks-inv w L room size out i ok (refused k) e = i
@@ -117,19 +117,19 @@ module _ (c : Codec) (law : Lawful c) (Elsewhere : List ℕ → Type 0) where
       let unfinished = not-true _ (must-test (not (L .complete)) 16 _ _ e1) in
       let ranged = must-test (sizeHolds size) 6 _ _ e2 in
       let is : c .askLine (presentAsk L size) ≡ s = same-given _ _ (must-rest (askRoom out) 12 _ _ e3) in
-      let ask : AskOk (presentAsk L size) =
+      let ask : AskInRange (presentAsk L size) =
       asked-ok room size L ok sound unfinished (leb-true _ _ (and-first _ _ ranged)) (leb-true _ _ (and-second (leb 1 size) _ ranged)) in
       sent-inv w s i (λ o y r. absurd (law .ask-kind o (presentAsk L size) y ask (rw is r)))
 
   -- a line that the office wrote reads as what it wrote
-  reads-back : (t : Table) (y : Answer) → AnswerOk y → c .speaks (y .query .order) ≡ true → Vouched t y → Honest t (c .answerLine y)
+  reads-back : (t : Table) (y : Answer) → AnswerInRange y → c .speaks (y .query .order) ≡ true → Vouched t y → Honest t (c .answerLine y)
   reads-back t y ok spoken v o x r =
       let p : o ≡ y .query .order = law .answer-kind o y x ok spoken r in
       let q : x ≡ y = same-given _ _ (sym (rw p at r) ∙ law .answer-back y ok spoken) in
       inl (rw q v)
 
   receives-inv : (w : World) (s : List ℕ) (out : ℕ) → Inv w → (r : Outcome (List ℕ)) → office c (w .table) out s ≡ r → Inv (sent w r)
-  unfolding office served
+  unfolding office lineAnswered
   receives-inv w s out i (refused k) e = i
   receives-inv w s out i (gives z) e =
       let a1 = through (c .readAsk s) _ _ (must-rest (answerRoom out) 12 _ _ e) in
@@ -138,15 +138,15 @@ module _ (c : Codec) (law : Lawful c) (Elsewhere : List ℕ → Type 0) where
       let y : Answer = a2 .value in
       let ok = law .ask-ok s a (a1 .first) in
       let rep = replied (w .table) a y (a2 .first) in
-      let yok : AnswerOk y = rw (rep .is) (answer-ok (w .table) a (i .table) (ok .0) (rep .held)) in
+      let yok : AnswerInRange y = rw (rep .is) (answer-ok (w .table) a (i .table) (ok .0) (rep .held)) in
       let v : Vouched (w .table) y = rw (rep .is) (answer-vouched (w .table) a (rep .ours) (rep .held) (ok .0 .one)) in
       let spoken : c .speaks (y .query .order) ≡ true = unfold answerOf in rw (rep .is) (ok .1) in
       let is : c .answerLine y ≡ z = same-given _ _ (a2 .second) in
       sent-inv w z i (rw (← is) (reads-back (w .table) y yok spoken v))
 
   -- whatever line comes, from the air or a file: a list that takes it stays what it promised
-  pub line-keeps : (t : Table) (room : ℕ) (L K : Listing) (s : List ℕ) → Honest t s → Unshared c Elsewhere (L .query .table) → Kept t L
-      → taking c room L s ≡ gives K → Kept t K
+  pub line-keeps : (t : Table) (room : ℕ) (L K : Listing) (s : List ℕ) → Honest t s → Unshared c Elsewhere (L .query .table) → ListTrue t L
+      → taking c room L s ≡ gives K → ListTrue t K
   unfolding taking Unshared
   line-keeps t room L K s honest alone k e =
       let a1 = through (c .readAnswer (L .query .order) s) _ _ (must-rest (soundIn room L) 2 _ _ e) in
@@ -166,13 +166,13 @@ module _ (c : Codec) (law : Lawful c) (Elsewhere : List ℕ → Type 0) where
       took-query room L (a1 .value) K (took room L (a1 .value) K (a1 .second))
 
   takes-inv : (w : World) (j at room : ℕ) (s : List ℕ) → Inv w → j < length (w .lists) → List·Memᴰ s (w .air) → (r : Outcome Listing)
-      → taking c room (theList w j) s ≡ r → Inv (moved w at r)
+      → taking c room (theList w j) s ≡ r → Inv (listChanged w at r)
   takes-inv w j at room s i hj m (refused k) e = i
   takes-inv w j at room s i hj m (gives K) e =
       let L : Listing = theList w j in
       let q : K .query ≡ L .query = same-query room L K s e in
       let good : Good (w .table) L = all-getD _ (w .lists) j noListing (i .lists) hj in
-      let keeps : Unshared c Elsewhere (K .query .table) → Kept (w .table) K =
+      let keeps : Unshared c Elsewhere (K .query .table) → ListTrue (w .table) K =
       λ u. let v : Unshared c Elsewhere (L .query .table) = rw q at u in
       line-keeps (w .table) room L K s (all-mem _ s (w .air) (i .air) m) v (good .kept v) e in
       record {
@@ -209,7 +209,7 @@ module _ (c : Codec) (law : Lawful c) (Elsewhere : List ℕ → Type 0) where
   sent-onward w (refused n) = record { table = grown-same _; lists = omega arith }
   sent-onward w (gives s) = record { table = grown-same _; lists = omega arith }
 
-  moved-onward : (w : World) (i : ℕ) (x : Outcome Listing) → Onward w (moved w i x)
+  moved-onward : (w : World) (i : ℕ) (x : Outcome Listing) → Onward w (listChanged w i x)
   moved-onward w i (refused n) = record { table = grown-same _; lists = omega arith }
   moved-onward w i (gives L) = record { table = grown-same _; lists = omega (arith, length-set (w .lists) i L) }
 
@@ -222,7 +222,7 @@ module _ (c : Codec) (law : Lawful c) (Elsewhere : List ℕ → Type 0) where
   next-onward w (takes i room s) = moved-onward w _ (taking c _ (theList w i) s)
   next-onward w (strays s) = sent-onward w (gives s)
 
-  pub later-grown : (w : World) {v : World} → Later c Elsewhere w v → Grown (w .table) (v .table)
+  pub later-grown : (w : World) {v : World} → Later c Elsewhere w v → TableGrown (w .table) (v .table)
   later-grown w still = grown-same _
   later-grown w (onwards {v} l e a) = grown-trans _ _ _ (later-grown w l) (next-onward v e .table)
 

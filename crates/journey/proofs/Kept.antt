@@ -16,13 +16,13 @@ use Rattle.paper.proofs.Tests.{no-way, and-both, or-right}
 use Rattle.orders.proofs.Lists.{All, all-map, all-take, every-true, front-length, join-front, last-of-front}
 use Rattle.orders.proofs.Sorted.{Rising, rising-take, rising-test, IsOf, listed-are, listed-rising, listed-grown, rest-start, rest-next}
 use Rattle.orders.proofs.Page.{last-all, last-more}
-use Rattle.orders.proofs.Taking.{present-start, present-after, Fits}
-use Rattle.orders.specs.LawfulLines.{QueryOk}
+use Rattle.orders.proofs.Taking.{present-start, present-after, FitsList}
+use Rattle.orders.specs.LawfulLines.{QueryInRange}
 use Rattle.journey.specs.Promise.{allOf}
 use Rattle.paper.specs.Limits.{mostClaims}
 
-pub record Kept (t : Table) (L : Listing) : Type 0 where
-  pub query : QueryOk (L .query)
+pub record ListTrue (t : Table) (L : Listing) : Type 0 where
+  pub query : QueryInRange (L .query)
   pub unstarted : L .started ≡ false → L ≡ fresh (L .query)
   pub ours : L .started ≡ true → matches t (L .query) ≡ true
   pub held : L .snapshot ≤ count t
@@ -44,7 +44,7 @@ pub record Vouched (t : Table) (y : Answer) : Type 0 where
   pub flag : y .last ≡ lastOf size (after t (y .query) (y .place) (y .snapshot))
 
 -- a list that was just opened
-pub kept-fresh : (t : Table) (q : Query) → QueryOk q → Kept t (fresh q)
+pub kept-fresh : (t : Table) (q : Query) → QueryInRange q → ListTrue t (fresh q)
 kept-fresh t q ok =
     record {
       query = ok;
@@ -57,17 +57,17 @@ kept-fresh t q ok =
     }
 
 -- a table that only grew
-pub record Grown (t u : Table) : Type 0 where
+pub record TableGrown (t u : Table) : Type 0 where
   pub more : List Claim
   pub claims : u .claims ≡ t .claims ++ more
   pub number : u .number ≡ t .number
   pub measure : u .measure ≡ t .measure
   pub d : u .d ≡ t .d
 
-pub grown-same : (t : Table) → Grown t t
+pub grown-same : (t : Table) → TableGrown t t
 grown-same t = record { more = []; claims = sym (append-nil (t .claims)); number = refl; measure = refl; d = refl }
 
-pub grown-trans : (t u v : Table) → Grown t u → Grown u v → Grown t v
+pub grown-trans : (t u v : Table) → TableGrown t u → TableGrown u v → TableGrown t v
 grown-trans t u v g h =
     record {
       more = g .more ++ h .more;
@@ -77,7 +77,7 @@ grown-trans t u v g h =
       d = h .d ∙ g .d;
     }
 
-module _ (t u : Table) (g : Grown t u) where
+module _ (t u : Table) (g : TableGrown t u) where
   grown-count : count t ≤ count u
   grown-count = omega (arith, ap length (g .claims), length-append (t .claims) (g .more))
 
@@ -88,7 +88,7 @@ module _ (t u : Table) (g : Grown t u) where
   pub grown-listed : (q : Query) (s : ℕ) → s ≤ count t → listed q (u .claims) s ≡ listed q (t .claims) s
   grown-listed q s p = rw (g .claims) (listed-grown q (t .claims) (g .more) s p)
 
-  pub kept-grown : (L : Listing) → Kept t L → Kept u L
+  pub kept-grown : (L : Listing) → ListTrue t L → ListTrue u L
   kept-grown L k =
       let e : allOf u L ≡ allOf t L = grown-listed (L .query) (L .snapshot) (k .held) in
       record {
@@ -119,7 +119,7 @@ pub record Continues (t : Table) (L : Listing) (s : ℕ) : Type 0 where
   pub had : L .items ≡ take (length (L .items)) (listed (L .query) (t .claims) s)
   pub lacks : after t (L .query) (presentPlace L) s ≡ drop (length (L .items)) (listed (L .query) (t .claims) s)
 
-pub continues : (t : Table) (L : Listing) (s : ℕ) → Kept t L → L .complete ≡ false → (L .started ≡ true → s ≡ L .snapshot) → Continues t L s
+pub continues : (t : Table) (L : Listing) (s : ℕ) → ListTrue t L → L .complete ≡ false → (L .started ≡ true → s ≡ L .snapshot) → Continues t L s
 continues t L s k c same = go (L .started) refl (length (L .items)) refl
   where
     go : (b : Bool) → L .started ≡ b → (n : ℕ) → length (L .items) ≡ n → Continues t L s
@@ -153,7 +153,7 @@ longer t L s n c one =
       some = λ q. omega (arith, last-more n f q, length-take n f, length-append (L .items) (take n f));
     }
 
-pub kept-joined : (t : Table) (L : Listing) (y : Answer) → Kept t L → Vouched t y → L .complete ≡ false → Fits L y → Kept t (joinedTo L y)
+pub kept-joined : (t : Table) (L : Listing) (y : Answer) → ListTrue t L → Vouched t y → L .complete ≡ false → FitsList L y → ListTrue t (joinedTo L y)
 unfolding joinedTo
 kept-joined t L y k v c f =
     let pg : y .items ≡ take (v .size) (after t (L .query) (presentPlace L) (y .snapshot)) = rw (f .place, f .query) (v .page) in
@@ -170,7 +170,7 @@ kept-joined t L y k v c f =
     }
 
 -- the items of a list
-module _ (t : Table) (L : Listing) (k : Kept t L) where
+module _ (t : Table) (L : Listing) (k : ListTrue t L) where
   pub kept-are : All (IsOf (L .query) (t .claims) (L .snapshot)) (L .items)
   kept-are = rw (k .front) (all-take _ (length (L .items)) _ (listed-are (L .query) (t .claims) (L .snapshot)))
 
@@ -180,7 +180,7 @@ module _ (t : Table) (L : Listing) (k : Kept t L) where
 pub is-fitting : (q : Query) (cs : List Claim) (s : ℕ) (x : Item) → IsOf q cs s x → fitting (q .reach) s x ≡ true
 is-fitting q cs s x p = and-both _ _ (le-leb (x .distance) (q .reach) (p .within)) (lt-ltb (x .number) s (p .below))
 
-started-well : (t : Table) (L : Listing) → Kept t L → startedWell L ≡ true
+started-well : (t : Table) (L : Listing) → ListTrue t L → startedWell L ≡ true
 unfolding startedWell
 started-well t L k = go (L .started) (L .complete) refl refl
   where
@@ -194,7 +194,7 @@ started-well t L k = go (L .started) (L .complete) refl refl
         let e : f ≡ false = sym q ∙ ap (λ (X : Listing). X .complete) (k .unstarted p) in
         rw (a, b, e)
 
-pub kept-sound : (t : Table) (L : Listing) (room : ℕ) → Kept t L → count t ≤ mostClaims → length (L .items) ≤ room → soundIn room L ≡ true
+pub kept-sound : (t : Table) (L : Listing) (room : ℕ) → ListTrue t L → count t ≤ mostClaims → length (L .items) ≤ room → soundIn room L ≡ true
 unfolding soundIn
 kept-sound t L room k small r =
     and-both _ _ (k .query .range)

@@ -44,7 +44,7 @@ theList w i = getD (w .lists) i noListing
 -- [9.6] [3.15] all claims of a run, or none, by 5 and 3: what 1, 2 and 4 are about is memory, which a world has none of
 unfoldable pub runEntering : Table → List Claim → Outcome Table
 runEntering t run =
-    must (every (λ k. eqb (length (k .place)) (t .d)) run) 5
+    must (every (λ k. eqb (length (k .point)) (t .d)) run) 5
     (must (leb (count t + length run) (t .capacity)) 3
     (gives (record { number = t .number; measure = t .measure; d = t .d; capacity = t .capacity; claims = t .claims ++ run })))
 
@@ -61,16 +61,16 @@ abbrev pub sent : World → Outcome (List ℕ) → World
 sent w (refused n) = w
 sent w (gives s) = record { table = w .table; air = s ∷ w .air; lists = w .lists }
 
-abbrev pub moved : World → ℕ → Outcome Listing → World
-moved w i (refused n) = w
-moved w i (gives L) = record { table = w .table; air = w .air; lists = set (w .lists) i L }
+abbrev pub listChanged : World → ℕ → Outcome Listing → World
+listChanged w i (refused n) = w
+listChanged w i (gives L) = record { table = w .table; air = w .air; lists = set (w .lists) i L }
 
 unfoldable pub next : Codec → World → Event → World
 next c w (enters run) = tableChanged w (runEntering (w .table) run)
 next c w (opens q) = listAdded w (opening q)
 next c w (asks i size room out) = sent w (asking c room size out (theList w i))
 next c w (receives s out) = sent w (office c (w .table) out s)
-next c w (takes i room s) = moved w i (taking c room (theList w i) s)
+next c w (takes i room s) = listChanged w i (taking c room (theList w i) s)
 next c w (strays s) = sent w (gives s)
 
 -- [7.14] the premises: arguments are of their types, an order that is opened has its kinds of line, and what arrives was written by one of

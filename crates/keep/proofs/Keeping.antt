@@ -12,7 +12,7 @@ use native.Mathlib.Nat.{le-refl, eq-or-lt-of-le}
 use borrow.Author.Tests.{ltb-true, ltb-false, eqb-true, eqb-false}
 use Rattle.paper.proofs.Tests.{no-way}
 use Rattle.keep.specs.Page.{ahead, sooner, insertBy, sortedOf, firstSorted}
-use Rattle.keep.specs.Kept.{key, Rising, none, more, Covered, full, there, past, Kept}
+use Rattle.keep.specs.Kept.{key, RisingClaims, none, more, Covered, full, there, past, Kept}
 
 -- the order as a key
 pub sooner-true : (rank : ℕ → ℕ) (j k : ℕ) → j < 2 ^ 64 → k < 2 ^ 64 → sooner rank j k ≡ true → key rank j < key rank k
@@ -75,34 +75,34 @@ module _ (rank : ℕ → ℕ) where
   moved k x j (suc s) l h (past g c) = let f : key rank k < key rank j = omega arith in past f (past g (covered-less j s l c))
 
 module _ (rank : ℕ → ℕ) (ok : ℕ → Bool) (n : ℕ) where
-  pub rising-more : (s lo : ℕ) (l : List ℕ) → Rising rank ok n s lo l → Rising rank ok n (suc s) lo l
+  pub rising-more : (s lo : ℕ) (l : List ℕ) → RisingClaims rank ok n s lo l → RisingClaims rank ok n (suc s) lo l
   rising-more s lo [] none = none
   rising-more (suc s) lo (k ∷ l) (more a b c d) = more a b c (rising-more s (key rank k + 1) l d)
 
-  pub rising-take : (s t lo : ℕ) (l : List ℕ) → Rising rank ok n t lo l → Rising rank ok n s lo (take s l)
+  pub rising-take : (s t lo : ℕ) (l : List ℕ) → RisingClaims rank ok n t lo l → RisingClaims rank ok n s lo (take s l)
   rising-take zero t lo l r = none
   rising-take (suc s) t lo [] none = none
   rising-take (suc s) (suc t) lo (k ∷ l) (more a b c d) = more a b c (rising-take s t (key rank k + 1) l d)
 
-  pub rising-few : (s lo : ℕ) (l : List ℕ) → Rising rank ok n s lo l → length l ≤ s
+  pub rising-few : (s lo : ℕ) (l : List ℕ) → RisingClaims rank ok n s lo l → length l ≤ s
   rising-few s lo [] none = omega arith
   rising-few (suc s) lo (k ∷ l) (more a b c d) = let h = rising-few s (key rank k + 1) l d in omega arith
 
   -- the item at i
-  pub rising-at : (s lo : ℕ) (l : List ℕ) (i : ℕ) → Rising rank ok n s lo l → i < length l → (lo ≤ key rank (getD l i 0)) × (getD l i 0 < n)
+  pub rising-at : (s lo : ℕ) (l : List ℕ) (i : ℕ) → RisingClaims rank ok n s lo l → i < length l → (lo ≤ key rank (getD l i 0)) × (getD l i 0 < n)
   rising-at s lo [] i none h = absurd (omega arith)
   rising-at (suc s) lo (k ∷ l) zero (more a b c d) h = (a, b)
   rising-at (suc s) lo (k ∷ l) (suc i) (more a b c d) h =
       let p = rising-at s (key rank k + 1) l i d (omega arith) in (omega (arith, p .0), p .1)
 
   -- s claims that all come before j
-  pub rising-past : (s lo j : ℕ) (l : List ℕ) → Rising rank ok n s lo l → length l ≡ s → ((i : ℕ) → i < s → key rank (getD l i 0) < key rank j) → Covered rank j s l
+  pub rising-past : (s lo j : ℕ) (l : List ℕ) → RisingClaims rank ok n s lo l → length l ≡ s → ((i : ℕ) → i < s → key rank (getD l i 0) < key rank j) → Covered rank j s l
   rising-past zero lo j [] none h all = full
   rising-past (suc s) lo j [] none h all = absurd (omega arith)
   rising-past (suc s) lo j (k ∷ l) (more a b c d) h all = past (all 0 (omega arith)) (rising-past s (key rank k + 1) j l d (omega arith) (λ i hi. all (suc i) (omega arith)))
 
   -- the last is the greatest
-  pub rising-last : (s lo : ℕ) (l : List ℕ) (i m : ℕ) → Rising rank ok n s lo l → i ≤ m → m < length l → key rank (getD l i 0) ≤ key rank (getD l m 0)
+  pub rising-last : (s lo : ℕ) (l : List ℕ) (i m : ℕ) → RisingClaims rank ok n s lo l → i ≤ m → m < length l → key rank (getD l i 0) ≤ key rank (getD l m 0)
   rising-last s lo [] i m none hi h = absurd (omega arith)
   rising-last (suc s) lo (k ∷ l) zero zero (more a b c d) hi h = le-refl _
   rising-last (suc s) lo (k ∷ l) (suc i) zero (more a b c d) hi h = absurd (omega arith)
@@ -110,14 +110,14 @@ module _ (rank : ℕ → ℕ) (ok : ℕ → Bool) (n : ℕ) where
   rising-last (suc s) lo (k ∷ l) (suc i) (suc m) (more a b c d) hi h = rising-last s (key rank k + 1) l i m d (omega arith) (omega arith)
 
   module _ (k : ℕ) (hn : n < 2 ^ 64) (hk : k < n) where
-    pub insert-rising : (t lo : ℕ) (l : List ℕ) → lo ≤ key rank k → ok k ≡ true → Rising rank ok n t lo l → Rising rank ok n (suc t) lo (insertBy rank k l)
+    pub insert-rising : (t lo : ℕ) (l : List ℕ) → lo ≤ key rank k → ok k ≡ true → RisingClaims rank ok n t lo l → RisingClaims rank ok n (suc t) lo (insertBy rank k l)
     unfolding insertBy
     insert-rising t lo [] hlo hok none = more hlo hk hok none
     insert-rising (suc t) lo (x ∷ l) hlo hok (more a b c d) =
         go (sooner rank x k) (eqb x k) refl refl (λ h. insert-rising t (key rank x + 1) l h hok d)
       where
-        go : (u v : Bool) → sooner rank x k ≡ u → eqb x k ≡ v → (key rank x + 1 ≤ key rank k → Rising rank ok n (suc t) (key rank x + 1) (insertBy rank k l))
-            → Rising rank ok n (suc (suc t)) lo (cond u (x ∷ insertBy rank k l) (cond v (x ∷ l) (k ∷ x ∷ l)))
+        go : (u v : Bool) → sooner rank x k ≡ u → eqb x k ≡ v → (key rank x + 1 ≤ key rank k → RisingClaims rank ok n (suc t) (key rank x + 1) (insertBy rank k l))
+            → RisingClaims rank ok n (suc (suc t)) lo (cond u (x ∷ insertBy rank k l) (cond v (x ∷ l) (k ∷ x ∷ l)))
         go true v p q rec = more a b c (rec (omega (arith, sooner-true rank x k (omega arith) (omega arith) p)))
         go false true p q rec = more a b c (rising-more t (key rank x + 1) l d)
         go false false p q rec =
@@ -125,7 +125,7 @@ module _ (rank : ℕ → ℕ) (ok : ℕ → Bool) (n : ℕ) where
             more hlo hk hok (more f b c d)
 
     -- the claim that was put is there, or everything kept comes before it
-    pub insert-there : (s t lo : ℕ) (l : List ℕ) → Rising rank ok n t lo l → Covered rank k s (take s (insertBy rank k l))
+    pub insert-there : (s t lo : ℕ) (l : List ℕ) → RisingClaims rank ok n t lo l → Covered rank k s (take s (insertBy rank k l))
     unfolding insertBy
     insert-there zero t lo l r = full
     insert-there (suc s) t lo [] none = there
@@ -138,7 +138,7 @@ module _ (rank : ℕ → ℕ) (ok : ℕ → Bool) (n : ℕ) where
         go false false p q rec = there
 
     -- what was covered stays so
-    pub insert-keeps : (j s t lo : ℕ) (l : List ℕ) → Rising rank ok n t lo l → Covered rank j s (take s l) → Covered rank j s (take s (insertBy rank k l))
+    pub insert-keeps : (j s t lo : ℕ) (l : List ℕ) → RisingClaims rank ok n t lo l → Covered rank j s (take s l) → Covered rank j s (take s (insertBy rank k l))
     unfolding insertBy
     insert-keeps j zero t lo l r c = full
     insert-keeps j (suc s) t lo [] none c = absurd (let z = covered-some rank j (suc s) [] c (omega arith) in omega arith)
@@ -150,11 +150,11 @@ module _ (rank : ℕ → ℕ) (ok : ℕ → Bool) (n : ℕ) where
         go false true p q h rec = h
         go false false p q h rec = moved rank k x j s l (omega (arith, sooner-false rank x k (omega arith) (omega arith) p, key-differs rank x k (omega arith) (omega arith) (eqb-false x k q))) h
 
-  pub still : (size : ℕ) (C : ℕ → Type 0) (l : List ℕ) → Rising rank ok n size zero l → ((j : ℕ) → C j → ok j ≡ true → Covered rank j size l) → Kept rank ok n size C l l
+  pub still : (size : ℕ) (C : ℕ → Type 0) (l : List ℕ) → RisingClaims rank ok n size zero l → ((j : ℕ) → C j → ok j ≡ true → Covered rank j size l) → Kept rank ok n size C l l
   still size C l r h = record { rising = r; keeps = λ j c. c; all = h }
 
   -- the step of claim k
-  pub one : (size k : ℕ) (l : List ℕ) → n < 2 ^ 64 → k < n → ok k ≡ true → Rising rank ok n size zero l → Kept rank ok n size (λ j. j ≡ k) l (take size (insertBy rank k l))
+  pub one : (size k : ℕ) (l : List ℕ) → n < 2 ^ 64 → k < n → ok k ≡ true → RisingClaims rank ok n size zero l → Kept rank ok n size (λ j. j ≡ k) l (take size (insertBy rank k l))
   one size k l hn hk hok r =
       record {
         rising = rising-take size (suc size) zero (insertBy rank k l) (insert-rising k hn hk size zero l (omega arith) hok r);
@@ -177,26 +177,26 @@ module _ (rank : ℕ → ℕ) (ok : ℕ → Bool) (n : ℕ) where
   fewer size C D l r h s = record { rising = s .rising; keeps = s .keeps; all = λ j c. s .all j (h j c) }
 
   -- two lists that cover all claims from key lo on are the same
-  pub same : (s lo : ℕ) (l r : List ℕ) → Rising rank ok n s lo l → Rising rank ok n s lo r
+  pub same : (s lo : ℕ) (l r : List ℕ) → RisingClaims rank ok n s lo l → RisingClaims rank ok n s lo r
       → ((j : ℕ) → j < n → ok j ≡ true → lo ≤ key rank j → Covered rank j s l) → ((j : ℕ) → j < n → ok j ≡ true → lo ≤ key rank j → Covered rank j s r) → l ≡ r
   same s lo [] [] none none cl cr = refl
   same (suc s) lo [] (y ∷ r) none (more a b c d) cl cr = absurd (let z = covered-some rank y (suc s) [] (cl y b c a) (omega arith) in omega arith)
   same (suc s) lo (x ∷ l) [] (more a b c d) none cl cr = absurd (let z = covered-some rank x (suc s) [] (cr x b c a) (omega arith) in omega arith)
   same (suc s) lo (x ∷ l) (y ∷ r) (more a b c d) (more a' b' c' d') cl cr =
       let e : x ≡ y = heads rank x y s l r (cr x b c a) (cl y b' c' a') in
-      let d'' : Rising rank ok n s (key rank x + 1) r = rw e d' in
+      let d'' : RisingClaims rank ok n s (key rank x + 1) r = rw e d' in
       let tail : l ≡ r = same s (key rank x + 1) l r d d''
       (λ j hj hok lo'. tails rank x j s l (omega arith) (cl j hj hok (omega arith)))
       (λ j hj hok lo'. tails rank x j s r (omega arith) (rw e (cr j hj hok (omega arith)))) in
       cc
 
   -- the plain scan
-  pub scan-rising : (m : ℕ) → m ≤ n → n < 2 ^ 64 → Rising rank ok n m zero (sortedOf rank ok m)
+  pub scan-rising : (m : ℕ) → m ≤ n → n < 2 ^ 64 → RisingClaims rank ok n m zero (sortedOf rank ok m)
   unfolding sortedOf
   scan-rising zero h hn = none
   scan-rising (suc m) h hn = go (ok m) refl (scan-rising m (omega arith) hn)
     where
-      go : (u : Bool) → ok m ≡ u → Rising rank ok n m zero (sortedOf rank ok m) → Rising rank ok n (suc m) zero (cond u (insertBy rank m (sortedOf rank ok m)) (sortedOf rank ok m))
+      go : (u : Bool) → ok m ≡ u → RisingClaims rank ok n m zero (sortedOf rank ok m) → RisingClaims rank ok n (suc m) zero (cond u (insertBy rank m (sortedOf rank ok m)) (sortedOf rank ok m))
       go true p r = insert-rising m hn (omega arith) m zero _ (omega arith) p r
       go false p r = rising-more m zero _ r
 

@@ -13,21 +13,21 @@ use borrow.Author.Tests.{eq-eqb, ne-eqb, eqb-true, lt-ltb, ltb-true}
 use Rattle.paper.specs.declared.orders.Order.{Order}
 use Rattle.paper.specs.Orders.{rank, before}
 use Rattle.keep.specs.Page.{ranks, ahead, sooner, insertBy, items, filled}
-use Rattle.keep.specs.Kept.{key, Rising, none, more, Holding, Roomy, PlaceIs, shifted, heldAt, KeepIs}
+use Rattle.keep.specs.Kept.{key, RisingClaims, none, more, Holding, PageRoomy, PositionIs, shifted, heldAt, KeepIs}
 use Rattle.paper.proofs.Tests.{no-way}
 use Rattle.keep.proofs.Keeping.{sooner-true, key-sooner, rising-at, rising-few, rising-take, insert-rising}
 use Rattle.keep.proofs.Moving.{moved-in}
 
 -- the loop of `place`
-pub record Behind (order : Order) (o : List ℕ) (count x k i : ℕ) : Type 0 where
+pub record NoneBefore (order : Order) (o : List ℕ) (count x k i : ℕ) : Type 0 where
   pub few : i ≤ count
   pub behind : (j : ℕ) → i ≤ j → j < count → before order (getD o (j * 3 + 2) 0) (getD o (j * 3) 0) x k ≡ false
 
-pub behind-start : (order : Order) (o : List ℕ) (count x k : ℕ) → Behind order o count x k count
+pub behind-start : (order : Order) (o : List ℕ) (count x k : ℕ) → NoneBefore order o count x k count
 behind-start order o count x k = record { few = le-refl count; behind = λ j h g. absurd (omega arith) }
 
-pub behind-turn : (order : Order) (o : List ℕ) (count x k i : ℕ) (t : Bool) → Behind order o count x k i → 0 < i → t ≡ before order (getD o (i * 3 - 1) 0) (getD o (i * 3 - 3) 0) x k → t ≡ false
-    → Behind order o count x k (i - 1)
+pub behind-turn : (order : Order) (o : List ℕ) (count x k i : ℕ) (t : Bool) → NoneBefore order o count x k i → 0 < i → t ≡ before order (getD o (i * 3 - 1) 0) (getD o (i * 3 - 3) 0) x k → t ≡ false
+    → NoneBefore order o count x k (i - 1)
 behind-turn order o count x k i t g h is q =
     record {
       few = omega (arith, g .few);
@@ -36,11 +36,11 @@ behind-turn order o count x k i t g h is q =
           (λ l. g .behind j (omega arith) hc) (eq-or-lt-of-le hj);
     }
 
-pub place-found : (order : Order) (o : List ℕ) (count x k i : ℕ) (t : Bool) → Behind order o count x k i → t ≡ before order (getD o (i * 3 - 1) 0) (getD o (i * 3 - 3) 0) x k → t ≡ true → PlaceIs order o count x k i
-place-found order o count x k i t g is q = record { few = g .few; front = λ h. sym is ∙ q; behind = g .behind }
+pub position-found : (order : Order) (o : List ℕ) (count x k i : ℕ) (t : Bool) → NoneBefore order o count x k i → t ≡ before order (getD o (i * 3 - 1) 0) (getD o (i * 3 - 3) 0) x k → t ≡ true → PositionIs order o count x k i
+position-found order o count x k i t g is q = record { few = g .few; front = λ h. sym is ∙ q; behind = g .behind }
 
-pub place-none : (order : Order) (o : List ℕ) (count x k i : ℕ) → Behind order o count x k i → i ≤ 0 → PlaceIs order o count x k i
-place-none order o count x k i g h = record { few = g .few; front = λ z. absurd (omega arith); behind = g .behind }
+pub position-none : (order : Order) (o : List ℕ) (count x k i : ℕ) → NoneBefore order o count x k i → i ≤ 0 → PositionIs order o count x k i
+position-none order o count x k i g h = record { few = g .few; front = λ z. absurd (omega arith); behind = g .behind }
 
 module _ (ref dist : ℕ → ℕ) where
   pub items-append : (l m : List ℕ) → items ref dist (l ++ m) ≡ items ref dist l ++ items ref dist m
@@ -66,21 +66,21 @@ module _ (ref dist : ℕ → ℕ) where
       (rw x (p .0), rw y (p .1))
 
 -- the place of claim k in l
-pub record PlaceIn (rank : ℕ → ℕ) (l : List ℕ) (k p : ℕ) : Type 0 where
+pub record PositionIn (rank : ℕ → ℕ) (l : List ℕ) (k p : ℕ) : Type 0 where
   pub few : p ≤ length l
   pub front : (i : ℕ) → p ≡ suc i → sooner rank (getD l i 0) k ≡ true
   pub behind : p < length l → sooner rank (getD l p 0) k ≡ false
 
 module _ (rank : ℕ → ℕ) (ok : ℕ → Bool) (n k : ℕ) (hn : n < 2 ^ 64) (hk : k < n) where
   -- the head of a list, one behind which comes before k, comes before k
-  head-before : (x s p : ℕ) (l : List ℕ) → x < n → Rising rank ok n s (key rank x + 1) l → p < length l → sooner rank (getD l p 0) k ≡ true → sooner rank x k ≡ true
+  head-before : (x s p : ℕ) (l : List ℕ) → x < n → RisingClaims rank ok n s (key rank x + 1) l → p < length l → sooner rank (getD l p 0) k ≡ true → sooner rank x k ≡ true
   head-before x s p l hx r hp h =
       let a = rising-at rank ok n s (key rank x + 1) l p r hp in
       let b = sooner-true rank (getD l p 0) k (omega (arith, a .1)) (omega arith) h in
       key-sooner rank x k (omega arith) (omega arith) (omega (arith, a .0))
 
   -- in its place
-  pub insert-at : (s lo : ℕ) (l : List ℕ) (p : ℕ) → Rising rank ok n s lo l → PlaceIn rank l k p → (p < length l → getD l p 0 ≡ k → ⊥)
+  pub insert-at : (s lo : ℕ) (l : List ℕ) (p : ℕ) → RisingClaims rank ok n s lo l → PositionIn rank l k p → (p < length l → getD l p 0 ≡ k → ⊥)
       → insertBy rank k l ≡ take p l ++ (k ∷ drop p l)
   unfolding insertBy
   insert-at s lo [] zero none g ne = refl
@@ -94,7 +94,7 @@ module _ (rank : ℕ → ℕ) (ok : ℕ → Bool) (n k : ℕ) (hn : n < 2 ^ 64) 
       (record { few = omega (arith, g .few); front = λ i h. g .front (suc i) (ap suc h); behind = λ h. g .behind (omega arith) }) (λ h. ne (omega arith))))
 
   -- where it is already
-  pub insert-same : (s lo : ℕ) (l : List ℕ) (p : ℕ) → Rising rank ok n s lo l → p < length l → getD l p 0 ≡ k → insertBy rank k l ≡ l
+  pub insert-same : (s lo : ℕ) (l : List ℕ) (p : ℕ) → RisingClaims rank ok n s lo l → p < length l → getD l p 0 ≡ k → insertBy rank k l ≡ l
   unfolding insertBy
   insert-same s lo [] p none h e = absurd (omega arith)
   insert-same (suc s) lo (x ∷ l) zero (more a b c d) h e = rw (e, self, eq-eqb k k refl)
@@ -117,7 +117,7 @@ before-ranks order x k y j = refl
 
 -- the room's place is the list's
 place-in : (order : Order) (ref dist : ℕ → ℕ) (ok : ℕ → Bool) (n size : ℕ) (base o : List ℕ) (count : ℕ) (l : List ℕ) (k x p : ℕ) → x ≡ dist k
-    → Holding order ref dist ok n size base o count l → PlaceIs order o count x k p → PlaceIn (ranks order dist) l k p
+    → Holding order ref dist ok n size base o count l → PositionIs order o count x k p → PositionIn (ranks order dist) l k p
 place-in order ref dist ok n size base o count l k x p px h g =
     record {
       few = omega (arith, h .counts, g .few);
@@ -209,7 +209,7 @@ free ref dist l base q size hq room (inr e) =
     let len : length (items ref dist (drop q l)) ≡ 3 = items-length ref dist (drop q l) ∙ simp length-drop (omega (arith, e .0)) in
     (items ref dist (drop q l), len, ap (λ (u : ℕ). items ref dist (drop q l) ++ drop u base) w)
 
-module _ (order : Order) (size : ℕ) (o : List ℕ) (count k y x p : ℕ) (roomy : Roomy size o count) (at : PlaceIs order o count x k p) where
+module _ (order : Order) (size : ℕ) (o : List ℕ) (count k y x p : ℕ) (roomy : PageRoomy size o count) (at : PositionIs order o count x k p) where
   pub keep-full : p ≡ size → KeepIs order size o count k y x o count
   keep-full e =
       record {

@@ -14,9 +14,9 @@ abbrev pub key : (ℕ → ℕ) → ℕ → ℕ
 key rank k = rank k * 2 ^ 64 + k
 
 -- the claims of l rise from key lo on, are admitted, and are s at most
-pub data Rising (rank : ℕ → ℕ) (ok : ℕ → Bool) (n : ℕ) : ℕ → ℕ → List ℕ → Type 0 where
-  none : {s lo : ℕ} → Rising rank ok n s lo []
-  more : {s lo k : ℕ} {l : List ℕ} → lo ≤ key rank k → k < n → ok k ≡ true → Rising rank ok n s (key rank k + 1) l → Rising rank ok n (suc s) lo (k ∷ l)
+pub data RisingClaims (rank : ℕ → ℕ) (ok : ℕ → Bool) (n : ℕ) : ℕ → ℕ → List ℕ → Type 0 where
+  none : {s lo : ℕ} → RisingClaims rank ok n s lo []
+  more : {s lo k : ℕ} {l : List ℕ} → lo ≤ key rank k → k < n → ok k ≡ true → RisingClaims rank ok n s (key rank k + 1) l → RisingClaims rank ok n (suc s) lo (k ∷ l)
 
 -- claim j is in l, or l is s claims that all come before it
 pub data Covered (rank : ℕ → ℕ) (j : ℕ) : ℕ → List ℕ → Type 0 where
@@ -26,7 +26,7 @@ pub data Covered (rank : ℕ → ℕ) (j : ℕ) : ℕ → List ℕ → Type 0 wh
 
 -- from l, a walk over the claims of C keeps r
 pub record Kept (rank : ℕ → ℕ) (ok : ℕ → Bool) (n size : ℕ) (C : ℕ → Type 0) (l r : List ℕ) : Type 0 where
-  pub rising : Rising rank ok n size zero r
+  pub rising : RisingClaims rank ok n size zero r
   pub keeps : (j : ℕ) → Covered rank j size l → Covered rank j size r
   pub all : (j : ℕ) → C j → ok j ≡ true → Covered rank j size r
 
@@ -34,18 +34,18 @@ pub record Kept (rank : ℕ → ℕ) (ok : ℕ → Bool) (n size : ℕ) (C : ℕ
 pub record Holding (order : Order) (ref dist : ℕ → ℕ) (ok : ℕ → Bool) (n size : ℕ) (base room : List ℕ) (count : ℕ) (l : List ℕ) : Type 0 where
   pub front : room ≡ filled ref dist l base
   pub counts : count ≡ length l
-  pub rising : Rising (ranks order dist) ok n size zero l
+  pub rising : RisingClaims (ranks order dist) ok n size zero l
   pub long : size * 3 ≤ length base
   pub small : n < 2 ^ 64
 
 -- the room has place for `size` items
-pub record Roomy (size : ℕ) (room : List ℕ) (count : ℕ) : Type 0 where
+pub record PageRoomy (size : ℕ) (room : List ℕ) (count : ℕ) : Type 0 where
   pub some : 0 < size
   pub few : count ≤ size
   pub long : size * 3 ≤ length room
 
 -- a walk over the claims of C that had kept l left `count` items in the room
-pub record Took (order : Order) (ref dist : ℕ → ℕ) (ok : ℕ → Bool) (n size : ℕ) (C : ℕ → Type 0) (base l room : List ℕ) (count : ℕ) : Type 0 where
+pub record WalkLeft (order : Order) (ref dist : ℕ → ℕ) (ok : ℕ → Bool) (n size : ℕ) (C : ℕ → Type 0) (base l room : List ℕ) (count : ℕ) : Type 0 where
   pub kept : List ℕ
   pub holds : Holding order ref dist ok n size base room count kept
   pub is : Kept (ranks order dist) ok n size C l kept
@@ -53,10 +53,10 @@ pub record Took (order : Order) (ref dist : ℕ → ℕ) (ok : ℕ → Bool) (n 
 -- a walk over the claims of C took the room from o, with `count` items, to o', with r
 pub record Walked (order : Order) (ref dist : ℕ → ℕ) (ok : ℕ → Bool) (n size : ℕ) (C : ℕ → Type 0) (o : List ℕ) (count : ℕ) (o' : List ℕ) (r : ℕ) : Type 0 where
   pub few : r ≤ size
-  pub took : (base l : List ℕ) → Holding order ref dist ok n size base o count l → Took order ref dist ok n size C base l o' r
+  pub took : (base l : List ℕ) → Holding order ref dist ok n size base o count l → WalkLeft order ref dist ok n size C base l o' r
 
 -- the place of distance x and number k among the first `count` items: all from there on do not come before it, and the one in front does
-pub record PlaceIs (order : Order) (room : List ℕ) (count x k r : ℕ) : Type 0 where
+pub record PositionIs (order : Order) (room : List ℕ) (count x k r : ℕ) : Type 0 where
   pub few : r ≤ count
   pub front : 0 < r → before order (getD room (r * 3 - 1) 0) (getD room (r * 3 - 3) 0) x k ≡ true
   pub behind : (i : ℕ) → r ≤ i → i < count → before order (getD room (i * 3 + 2) 0) (getD room (i * 3) 0) x k ≡ false

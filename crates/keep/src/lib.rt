@@ -4,7 +4,7 @@ ghost use mathlib.Core.Path.{_≡_};
 ghost use Prim.Native.Nat.{_+_, _*_, _<_, _≤_};
 ghost use lib.ListN.{length};
 ghost use mathlib.Core.Bool.{cond};
-ghost use Rattle.keep.specs.Kept.{Roomy, PlaceIs, shifted, heldAt, KeepIs};
+ghost use Rattle.keep.specs.Kept.{PageRoomy, PositionIs, shifted, heldAt, KeepIs};
 ghost use Rattle.keep.specs.Skips.{admitted, boundOf, halfOf, beyondOf, passedOf};
 use paper::orders::Mark;
 use paper::orders::Order;
@@ -106,10 +106,10 @@ pub fn passed(ask: Asked, x: u64, far: u64) -> bool
     false
 }
 
-// The place of distance x and number k among the first `count` items.
-fn place(order: Order, room: &[u64], count: usize, x: u64, k: u64) -> usize
+// The position of distance x and number k among the first `count` items.
+fn position(order: Order, room: &[u64], count: usize, x: u64, k: u64) -> usize
     requires { ⌜ count * 3 ≤ length (now room) ⌝ }
-    ensures { λ r. ⌜ PlaceIs order (now (room .entry)) count x k r ⌝ }
+    ensures { λ r. ⌜ PositionIs order (now (room .entry)) count x k r ⌝ }
 {
     let mut i = count;
     while 0 < i {
@@ -155,10 +155,10 @@ pub fn keep(
     y: u64,
     x: u64,
 ) -> usize
-    requires { ⌜ Roomy size (now room) count ⌝ }
+    requires { ⌜ PageRoomy size (now room) count ⌝ }
     ensures { λ r. ⌜ KeepIs order size (now (room .entry)) count k y x (now (room .exit)) r ⌝ }
 {
-    let p = place(order, room, count, x, k);
+    let p = position(order, room, count, x, k);
     if p == size {
         return count;
     }
@@ -177,7 +177,7 @@ pub fn keep(
 
 // [4.12] The greatest rank still wanted.
 pub fn wanted(ask: Asked, room: &[u64], count: usize) -> u64
-    requires { ⌜ Roomy (ask .size) (now room) count ⌝ }
+    requires { ⌜ PageRoomy (ask .size) (now room) count ⌝ }
     ensures { λ r. ⌜ r ≡ boundOf ask (now (room .entry)) count ⌝ }
 {
     let size = ask.size;

@@ -10,7 +10,7 @@ use lib.Seq.{drop-drop, take-at}
 use borrow.Author.Tests.{eq-eqb}
 use Rattle.paper.specs.Frames.{be, num, lineOf, frameOf, isLine}
 use Rattle.paper.specs.Orders.{Query, queryIn}
-use Rattle.paper.specs.Fields.{front, inPlaces, scopeIn, itemBytes, itemNumbers, itemPlaces}
+use Rattle.paper.specs.Fields.{front, queryInSlots, scopeIn, itemBytes, itemNumbers, itemSlots}
 use Rattle.paper.specs.Lines.{answerKind, behind, queryAt, queryFits, answerFrame, answerFits, countIn, answerOk, answerAt, anAnswer, noAnswer, readAsAnswer}
 use Rattle.paper.specs.declared.lines.Scope.{Scope}
 use Rattle.paper.specs.declared.lines.Answer.{Answer}
@@ -64,11 +64,11 @@ module _ (q : Query) (p : Scope) (last n : ℕ) (ns : List ℕ) (fit : answerFit
       rw (head-rule k (q .measure) (q .d) frame (answer-some (q .order) (w .query .known)) (begins .kind) (begins .measure) (begins .dim) (w .query .test), begins .dim, l, count-read .0, eq-eqb (30 + 4 * q .d + 14 * n) (30 + 4 * q .d + 14 * n) refl, begins .scope, last-read .0, w .rest, count-read .1, items-in)
       (w .numbers)
 
-  frame-at : answerAt (q .order) frame ≡ record { query = inPlaces q; scope = p; last = last; count = n; items = itemPlaces n ns }
+  frame-at : answerAt (q .order) frame ≡ record { query = queryInSlots q; scope = p; last = last; count = n; items = itemSlots n ns }
   unfolding answerAt
   frame-at = rw (begins .query, begins .scope, last-read .0, count-read .0, count-read .1, items-in)
 
-  pub answer-reads-back : readAsAnswer (q .order) (lineOf frame) ≡ anAnswer (record { query = inPlaces q; scope = p; last = last; count = n; items = itemPlaces n ns })
+  pub answer-reads-back : readAsAnswer (q .order) (lineOf frame) ≡ anAnswer (record { query = queryInSlots q; scope = p; last = last; count = n; items = itemSlots n ns })
   unfolding readAsAnswer
   answer-reads-back =
       let w = answer-fits q p last n ns fit in
@@ -125,8 +125,8 @@ pub record AnswerBack (l : List ℕ) (a : Answer) : Type 0 where
   pub fits : answerFits (queryIn (a .query)) (a .scope) (a .last) (a .count) (take (3 * a .count) (a .items)) ≡ true
   pub line : lineOf (answerFrame (queryIn (a .query)) (a .scope) (a .last) (a .count) (take (3 * a .count) (a .items))) ≡ l
 
-take-items : (n : ℕ) (g : List ℕ) → take (3 * n) (itemPlaces n (itemNumbers n g)) ≡ itemNumbers n g
-unfolding itemPlaces
+take-items : (n : ℕ) (g : List ℕ) → take (3 * n) (itemSlots n (itemNumbers n g)) ≡ itemNumbers n g
+unfolding itemSlots
 take-items n g = take-at (itemNumbers n g) (replicate (itemRoom - 3 * n) 0) (3 * n) (length-itemsIn n g)
 
 answer-back : (o : Order) (l : List ℕ) → isLine l ≡ true → answerOk (answerKind o) (frameOf l) ≡ true → AnswerBack l (answerAt o (frameOf l))

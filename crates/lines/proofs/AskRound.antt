@@ -9,7 +9,7 @@ use lib.ListN.{length, drop, length-drop}
 use borrow.Author.Tests.{leb-true, le-leb, eq-eqb}
 use Rattle.paper.specs.Frames.{be, num, lineOf, frameOf, isLine}
 use Rattle.paper.specs.Orders.{Query, queryIn}
-use Rattle.paper.specs.Fields.{front, inPlaces, scopeIn}
+use Rattle.paper.specs.Fields.{front, queryInSlots, scopeIn}
 use Rattle.paper.specs.Lines.{askKind, askOrder, behind, queryAt, queryFits, askFrame, askFits, askOk, isAsk, askAt, anAsk, noAsk, readAsAsk}
 use Rattle.paper.specs.declared.lines.Scope.{Scope}
 use Rattle.paper.specs.declared.lines.Ask.{Ask}
@@ -53,11 +53,11 @@ module _ (q : Query) (p : Scope) (s : ℕ) (fit : askFits q p s ≡ true) (hq : 
   unfolding isAsk
   frame-is = ap (λ (o : Order). askOk (askKind o) (askFrame q p s)) order-read ∙ frame-ok
 
-  frame-at : askAt (askFrame q p s) ≡ record { query = inPlaces q; scope = p; size = s }
+  frame-at : askAt (askFrame q p s) ≡ record { query = queryInSlots q; scope = p; size = s }
   unfolding askAt
   frame-at = rw (order-read, begins .query, begins .scope, size-read)
 
-  pub ask-reads-back : readAsAsk (lineOf (askFrame q p s)) ≡ anAsk (record { query = inPlaces q; scope = p; size = s })
+  pub ask-reads-back : readAsAsk (lineOf (askFrame q p s)) ≡ anAsk (record { query = queryInSlots q; scope = p; size = s })
   unfolding readAsAsk
   ask-reads-back =
       let w = ask-fits q p s fit in

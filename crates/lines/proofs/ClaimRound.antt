@@ -10,19 +10,19 @@ use lib.IntN.{ℤ}
 use lib.Dec.{lit≤}
 use borrow.Author.Tests.{eq-eqb}
 use Rattle.paper.specs.Frames.{be, num, lineOf, frameOf, isLine}
-use Rattle.paper.specs.Fields.{head, coordBytes, coordsIn, places}
+use Rattle.paper.specs.Fields.{head, coordBytes, coordsIn, inSlots}
 use Rattle.paper.specs.Lines.{claimFrame, claimFits, claimOk, claimAt, aClaim, noClaim, readAsClaim}
 use Rattle.paper.specs.declared.lines.ClaimLine.{ClaimLine}
 use Rattle.paper.specs.declared.lines.ClaimRead.{ClaimRead}
 use Rattle.digits.proofs.NumbersAndFrames.{Bytes, bytes-drop, bytes-frame, field-read, field-back, frame-line, sound-line, line-of-sound}
 use Rattle.fields.proofs.PartLaws.{length-coordsIn, head-rule}
-use Rattle.fields.proofs.Round.{Fit, Heads, head-read, head-back, coords-read, coords-back, take-places}
+use Rattle.fields.proofs.Round.{Signed32, Heads, head-read, head-back, coords-read, coords-back, take-slots}
 use Rattle.lines.proofs.WritersReaders.{reads, accepted}
 use Rattle.lines.proofs.Tests.{length-claim, bytes-claim, claim-fits, is-claim}
 
 -- ---- what is written is read
 
-module _ (t m d r : ℕ) (cs : List ℤ) (fit : claimFits m d cs ≡ true) (ht : t < 2 ^ 32) (hr : r < 2 ^ 32) (hc : Fit cs) where
+module _ (t m d r : ℕ) (cs : List ℤ) (fit : claimFits m d cs ≡ true) (ht : t < 2 ^ 32) (hr : r < 2 ^ 32) (hc : Signed32 cs) where
   begins : Heads (claimFrame t m d r cs) 3 t m d (be 4 r ++ coordBytes cs)
   unfolding claimFrame
   begins =
@@ -39,14 +39,14 @@ module _ (t m d r : ℕ) (cs : List ℤ) (fit : claimFits m d cs ≡ true) (ht :
       rw (head-rule 3 m d (claimFrame t m d r cs) (lit≤ tt) (begins .kind) (begins .measure) (begins .dim) (q .test), begins .dim, length-claim t m d r cs, q .count)
       (eq-eqb (11 + 4 * d) (11 + 4 * d) refl)
 
-  frame-at : claimAt (claimFrame t m d r cs) ≡ record { table = t; measure = m; d = d; reference = r; coordinates = places d cs }
+  frame-at : claimAt (claimFrame t m d r cs) ≡ record { table = t; measure = m; d = d; reference = r; coordinates = inSlots d cs }
   unfolding claimAt
   frame-at =
       let q = claim-fits m d cs fit in
       let e : coordsIn d (coordBytes cs) ≡ cs = rw (← q .count) (ap (coordsIn (length cs)) (sym (append-nil (coordBytes cs))) ∙ coords-read cs [] hc) in
       rw (begins .table, begins .measure, begins .dim, reference .0, reference .1, e)
 
-  pub claim-reads-back : readAsClaim (lineOf (claimFrame t m d r cs)) ≡ aClaim (record { table = t; measure = m; d = d; reference = r; coordinates = places d cs })
+  pub claim-reads-back : readAsClaim (lineOf (claimFrame t m d r cs)) ≡ aClaim (record { table = t; measure = m; d = d; reference = r; coordinates = inSlots d cs })
   unfolding readAsClaim
   claim-reads-back =
       let q = claim-fits m d cs fit in
@@ -83,7 +83,7 @@ claim-back : (l : List ℕ) → isLine l ≡ true → claimOk (frameOf l) ≡ tr
 unfolding claimAt
 claim-back l s e =
     let f = frameOf l in
-    let q = take-places (num 1 (drop 6 f)) (drop 11 f) in
+    let q = take-slots (num 1 (drop 6 f)) (drop 11 f) in
     record { fits = rw q (fits-back f e); line = rw q (ap lineOf (frame-back f (bytes-frame l) e) ∙ line-of-sound l s) }
 
 pub claim-writes-back : (l : List ℕ) → readAsClaim l .refusal ≡ 0 → ClaimBack l (readAsClaim l .claim)

@@ -13,7 +13,7 @@ use Rattle.paper.specs.Frames.{be, num}
 use Rattle.paper.specs.Ends.{sizeHolds}
 use Rattle.paper.specs.Points.{inRange, InRange}
 use Rattle.paper.proofs.Ranges.{range-is}
-use Rattle.paper.specs.Fields.{head, front, coordBytes, scopeIn, scopeOk, itemBytes, itemNumbers, itemPlaces, numbersOk, referencesOk}
+use Rattle.paper.specs.Fields.{head, front, coordBytes, scopeIn, scopeOk, itemBytes, itemNumbers, itemSlots, numbersOk, referencesOk}
 use Rattle.paper.specs.Orders.{Query, queryIn}
 use Rattle.paper.specs.Lines.{askKind, answerKind, spoken, askOrder, headOk, behind, queryAt, queryFits, askFrame, askRanges, askFits, askOk, isAsk, askAt, answerFrame, answerRanges, answerFits, countIn, answerOk, answerAt, claimFrame, claimFits, claimOk}
 use Rattle.paper.specs.declared.lines.Scope.{Scope}
@@ -21,9 +21,9 @@ use Rattle.paper.specs.declared.orders.Order.{Order}
 use Rattle.paper.specs.declared.queries.Query as queries
 use Rattle.digits.proofs.NumbersAndFrames.{and-false, and-both, Bytes, bytes-append, bytes-be, length-be}
 use Rattle.fields.specs.Fronts.{Begun}
-use Rattle.fields.proofs.PartLaws.{Headed, is-head, length-front, bytes-front, length-head, bytes-head, length-coordBytes, bytes-coordBytes, length-coordsIn}
+use Rattle.fields.proofs.PartLaws.{HeadOk, is-head, length-front, bytes-front, length-head, bytes-head, length-coordBytes, bytes-coordBytes, length-coordsIn}
 use Rattle.fields.proofs.ItemLaws.{length-items, bytes-items}
-use Rattle.fields.proofs.Round.{behind-eq, take-places}
+use Rattle.fields.proofs.Round.{behind-eq, take-slots}
 use Rattle.paper.specs.Limits.{mostPage}
 
 and-true : (t : Bool) → t && true ≡ t
@@ -53,7 +53,7 @@ query-fits q e =
 -- a query that was read fits
 pub read-fits : (o : Order) (f : List ℕ) → spoken o ≡ true → inRange (num 1 (drop 5 f)) (num 1 (drop 6 f)) ≡ true → queryFits (queryIn (queryAt o f)) ≡ true
 unfolding queryFits queryAt
-read-fits o f s e = rw (s, e, take-places (num 1 (drop 6 f)) (drop 7 f), eq-eqb _ _ (length-coordsIn (num 1 (drop 6 f)) (drop 7 f)))
+read-fits o f s e = rw (s, e, take-slots (num 1 (drop 6 f)) (drop 7 f), eq-eqb _ _ (length-coordsIn (num 1 (drop 6 f)) (drop 7 f)))
 
 -- ---- ask
 
@@ -82,12 +82,12 @@ unfolding askFits
 ask-fits q p s e = let a = and-both (queryFits q) (askRanges p s) e in record { query = query-fits q (a .0); rest = a .1 }
 
 -- what the reader's test says
-pub record AskFrame (k : ℕ) (f : List ℕ) : Type 0 where
-  pub headed : Headed k f
+pub record AskOk (k : ℕ) (f : List ℕ) : Type 0 where
+  pub headed : HeadOk k f
   pub size : length f ≡ 29 + 4 * num 1 (drop 6 f)
   pub rest : askRanges (scopeIn (behind f)) (num 1 (drop 21 (behind f))) ≡ true
 
-pub is-ask : (k : ℕ) (f : List ℕ) → askOk k f ≡ true → AskFrame k f
+pub is-ask : (k : ℕ) (f : List ℕ) → askOk k f ≡ true → AskOk k f
 unfolding askOk
 is-ask k f e =
     let last = askRanges (scopeIn (behind f)) (num 1 (drop 21 (behind f))) in
@@ -96,11 +96,11 @@ is-ask k f e =
     let q = and-both size last (p .1) in
     record { headed = is-head k f (p .0); size = eqb-true (length f) (29 + 4 * num 1 (drop 6 f)) (q .0); rest = q .1 }
 
-pub any-ask : (f : List ℕ) → isAsk f ≡ true → AskFrame (askKind (askOrder (num 1 f))) f
+pub any-ask : (f : List ℕ) → isAsk f ≡ true → AskOk (askKind (askOrder (num 1 f))) f
 unfolding isAsk
 any-ask f e = is-ask (askKind (askOrder (num 1 f))) f e
 
-pub ask-begun : (k : ℕ) (f : List ℕ) → AskFrame k f → Begun f
+pub ask-begun : (k : ℕ) (f : List ℕ) → AskOk k f → Begun f
 ask-begun k f p = record { few = p .headed .range .narrow; long = omega arith }
 
 -- the ask that a frame holds, from its parts
@@ -188,14 +188,14 @@ answer-fits q p last n ns e =
     }
 
 -- what the reader's test says
-pub record AnswerFrame (k : ℕ) (f : List ℕ) : Type 0 where
-  pub headed : Headed k f
+pub record AnswerOk (k : ℕ) (f : List ℕ) : Type 0 where
+  pub headed : HeadOk k f
   pub size : length f ≡ 30 + 4 * num 1 (drop 6 f) + 14 * countIn f
   pub rest : answerRanges (scopeIn (behind f)) (num 1 (drop 21 (behind f))) (countIn f) ≡ true
   pub few : countIn f ≤ mostPage
   pub numbers : numbersOk (itemNumbers (countIn f) (drop 23 (behind f))) ≡ true
 
-pub is-answer : (k : ℕ) (f : List ℕ) → answerOk k f ≡ true → AnswerFrame k f
+pub is-answer : (k : ℕ) (f : List ℕ) → answerOk k f ≡ true → AnswerOk k f
 unfolding answerOk
 is-answer k f e =
     let numbers = numbersOk (itemNumbers (countIn f) (drop 23 (behind f))) in
@@ -228,7 +228,7 @@ unfolding behind
 items-from f at e = let q : at + 2 ≡ 7 + 4 * num 1 (drop 6 f) + 23 = omega arith in rw (drop-drop, q)
 
 -- the answer that a frame holds, from its parts
-pub answer-value : (o : Order) (f : List ℕ) (x : queries.Query) (p : Scope) (at last n : ℕ) (ns : List ℕ) → x ≡ queryAt o f → at ≡ 28 + 4 * x .d → p ≡ scopeIn (drop (at - 21) f) → last ≡ num 1 (drop at f) → n ≡ num 1 (drop (at + 1) f) → ns ≡ itemPlaces n (itemNumbers n (drop (at + 2) f))
+pub answer-value : (o : Order) (f : List ℕ) (x : queries.Query) (p : Scope) (at last n : ℕ) (ns : List ℕ) → x ≡ queryAt o f → at ≡ 28 + 4 * x .d → p ≡ scopeIn (drop (at - 21) f) → last ≡ num 1 (drop at f) → n ≡ num 1 (drop (at + 1) f) → ns ≡ itemSlots n (itemNumbers n (drop (at + 2) f))
     → record { query = x; scope = p; last = last; count = n; items = ns } ≡ answerAt o f
 unfolding answerAt
 answer-value o f x p at last n ns e q u v w z =
@@ -276,11 +276,11 @@ claim-fits m d cs e =
     record { test = a .0; range = range-is m d (a .0); count = eqb-true (length cs) d (a .1) }
 
 -- what the reader's test says
-pub record ClaimFrame (f : List ℕ) : Type 0 where
-  pub headed : Headed 3 f
+pub record ClaimOk (f : List ℕ) : Type 0 where
+  pub headed : HeadOk 3 f
   pub size : length f ≡ 11 + 4 * num 1 (drop 6 f)
 
-pub is-claim : (f : List ℕ) → claimOk f ≡ true → ClaimFrame f
+pub is-claim : (f : List ℕ) → claimOk f ≡ true → ClaimOk f
 unfolding claimOk
 is-claim f e =
     let p = and-both (headOk 3 f) (eqb (length f) (11 + 4 * num 1 (drop 6 f))) e in

@@ -10,7 +10,7 @@ ghost use Rattle.paper.specs.Orders.{queryIn};
 ghost use Rattle.paper.specs.Lines.{Writes, bareLine, answerFrame, answerRanges, answerFits, answerOk, answerAt, noAnswer, readAsAnswer};
 ghost use Rattle.digits.specs.Places.{frameIn, overlaid};
 ghost use Rattle.lines.specs.Kinds.{IsAnswer};
-ghost use Rattle.paper.specs.Limits.{longestAnswer, mostPage, mostPlaces};
+ghost use Rattle.paper.specs.Limits.{longestAnswer, mostPage, mostCoordinates};
 use checks::answer_kind;
 use paper::limits::ITEM_ROOM;
 use paper::limits::LONGEST_ANSWER;
@@ -60,7 +60,7 @@ fn put_tail(out: &mut [u8], at: usize, last: u8, count: u8, items: &[u64])
 
 // Writes the answer's line into a room that is large enough, and gives its length.
 fn fill_answer(q: Query, p: Scope, last: u8, count: u8, items: &[u64], out: &mut [u8]) -> usize
-    requires { ⌜ (q .d ≤ mostPlaces) × ((length (now items) ≡ 3 * count) × ((count ≤ mostPage) × (longestAnswer ≤ length (now out)))) ⌝ }
+    requires { ⌜ (q .d ≤ mostCoordinates) × ((length (now items) ≡ 3 * count) × ((count ≤ mostPage) × (longestAnswer ≤ length (now out)))) ⌝ }
     ensures { λ r. ⌜ (r ≡ length (lineOf (answerFrame (queryIn q) p last count (now (items .entry))))) × (now (out .exit) ≡ written (answerFrame (queryIn q) p last count (now (items .entry))) (now (out .entry))) ⌝ }
 {
     let d = q.d;

@@ -7,7 +7,7 @@ ghost use Rattle.paper.specs.Frames.{lineOf, written};
 ghost use Rattle.paper.specs.Lines.{Writes, bareLine, askFrame, askRanges, askFits, askOk, isAsk, askAt, noAsk, readAsAsk};
 ghost use Rattle.paper.specs.Orders.{queryIn};
 ghost use Rattle.digits.specs.Places.{frameIn};
-ghost use Rattle.paper.specs.Limits.{longestAsk, mostPlaces};
+ghost use Rattle.paper.specs.Limits.{longestAsk, mostCoordinates};
 use checks::ask_kind;
 use checks::ask_order;
 use checks::size_holds;
@@ -47,7 +47,7 @@ fn ask_fits(q: Query, p: Scope, size: u8) -> bool
 
 // Writes the ask's line into a room that is large enough, and gives its length.
 fn fill_ask(q: Query, p: Scope, size: u8, out: &mut [u8]) -> usize
-    requires { ⌜ (q .d ≤ mostPlaces) × (longestAsk ≤ length (now out)) ⌝ }
+    requires { ⌜ (q .d ≤ mostCoordinates) × (longestAsk ≤ length (now out)) ⌝ }
     ensures { λ r. ⌜ (r ≡ length (lineOf (askFrame (queryIn q) p size))) × (now (out .exit) ≡ written (askFrame (queryIn q) p size) (now (out .entry))) ⌝ }
 {
     let d = q.d;

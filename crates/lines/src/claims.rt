@@ -6,11 +6,11 @@ ghost use lib.ListN.{length};
 ghost use Rattle.paper.specs.Frames.{lineOf, written};
 ghost use Rattle.paper.specs.Lines.{Writes, bareLine, claimFrame, claimFits, claimOk, claimAt, noClaim, readAsClaim};
 ghost use Rattle.digits.specs.Places.{frameIn};
-ghost use Rattle.paper.specs.Limits.{longestClaim, mostPlaces};
+ghost use Rattle.paper.specs.Limits.{longestClaim, mostCoordinates};
 use checks::in_range;
 use paper::limits::LONGEST_CLAIM;
 use paper::limits::LONGEST_FRAME;
-use paper::limits::MOST_PLACES;
+use paper::limits::MOST_COORDINATES;
 use paper::lines::ClaimLine;
 use paper::lines::ClaimRead;
 use paper::lines::Wrote;
@@ -34,10 +34,10 @@ fn fill_claim(
     coords: &[i32],
     out: &mut [u8],
 ) -> usize
-    requires { ⌜ (length (now coords) ≤ mostPlaces) × (longestClaim ≤ length (now out)) ⌝ }
+    requires { ⌜ (length (now coords) ≤ mostCoordinates) × (longestClaim ≤ length (now out)) ⌝ }
     ensures { λ r. ⌜ (r ≡ length (lineOf (claimFrame table measure d reference (now (coords .entry))))) × (now (out .exit) ≡ written (claimFrame table measure d reference (now (coords .entry))) (now (out .entry))) ⌝ }
 {
-    fields::put_head(out, 3, table, measure, d);
+    fields::put_head(out, ClaimLine::KIND, table, measure, d);
     digits::put(out, 7, 4, reference as u64);
     fields::put_coords(out, 11, coords);
     let n = 22 + 8 * coords.len();
@@ -74,7 +74,7 @@ pub fn claim_ok(src: &[u8]) -> bool
     if n < 15 {
         return false;
     }
-    if fields::head_ok(src, 3) {
+    if fields::head_ok(src, ClaimLine::KIND) {
         return n as u64 == 11 + 4 * digits::number(src, 6, 1);
     }
     false
@@ -104,7 +104,7 @@ fn no_claim(n: u8) -> ClaimRead
         measure: 0,
         d: 0,
         reference: 0,
-        coordinates: [0i32; MOST_PLACES],
+        coordinates: [0i32; MOST_COORDINATES],
     };
     ClaimRead { refusal: n, claim }
 }

@@ -18,7 +18,7 @@ use Rattle.paper.specs.Orders.{Query, Found, foundShown, following, pageOf, sna
 use Rattle.paper.specs.Outcomes.{Outcome, gives, must, leaves}
 use Rattle.paper.specs.Tree.{Store, claimsIn, fits, sound}
 use Rattle.paper.specs.Ends.{sizeHolds}
-use Rattle.paper.specs.Calls.{tableQuery, aimed, PageOf, thePage, nearestCall, farthestCall, pageCall, pageShown, putPage}
+use Rattle.paper.specs.Calls.{tableQuery, aimed, ThePage, thePage, nearestCall, farthestCall, pageCall, pageShown, putPage}
 use Rattle.tree.proofs.Places.{before-next}
 use Rattle.orders.proofs.Rooms.{fronted-length}
 use Rattle.paper.proofs.Outcomes.{must-test, must-rest, must-go, same-given}
@@ -26,8 +26,8 @@ use Rattle.rows.specs.Answers.{foundRow, pageRow}
 use Rattle.rows.specs.Places.{placeAt}
 use Rattle.rows.proofs.AnswerRows.{found-wide, page-wide}
 use Rattle.many.specs.Rows.{row, each, putFound}
-use Rattle.many.specs.Many.{probeAt, nearestAt, farthestAt, firstsCall, nearestEach, farthestEach, AsAlone}
-use Rattle.many.specs.Pages.{pageAt, putOutcome, putPageItems, Rooms, bothRooms, pagesEach, PageAlone}
+use Rattle.many.specs.Many.{probeAt, nearestAt, farthestAt, firstsCall, nearestEach, farthestEach, RowAsAlone}
+use Rattle.many.specs.Pages.{pageAt, putOutcome, putPageItems, PageRooms, bothRooms, pagesEach, PageAlone}
 use Rattle.many.proofs.RowLaws.{OneRow, Rowed, each-rowed}
 
 -- ---- what is written to a row
@@ -40,7 +40,7 @@ set-rows w vs wide =
     }
 
 -- a page fits its row
-room-kept : (b : Bool) (n : ℕ) (x : Outcome PageOf) (l : List ℕ) → length (leaves putPage x l) ≡ length l → length (leaves putPage (must b n x) l) ≡ length l
+room-kept : (b : Bool) (n : ℕ) (x : Outcome ThePage) (l : List ℕ) → length (leaves putPage x l) ≡ length l → length (leaves putPage (must b n x) l) ≡ length l
 room-kept true n x l h = h
 room-kept false n x l h = refl
 
@@ -99,7 +99,7 @@ module _ (s : Store) (probes : List ℤ) (n : ℕ) (answer : ℕ → Found) (out
 
   pub firsts-alone : (single : List ℤ → Found → Outcome Found) (i : ℕ) → i < n
       → ((probe : List ℤ) (x : Found) → single probe x ≡ aimed s probe (gives x))
-      → AsAlone (single (probeAt s probes i) (answer i)) (row 4 i after)
+      → RowAsAlone (single (probeAt s probes i) (answer i)) (row 4 i after)
   unfolding firstsCall
   firsts-alone single i j e =
       record {
@@ -117,25 +117,25 @@ module _ (s : Store) (probes : List ℤ) (n : ℕ) (answer : ℕ → Found) (out
 
 -- row i is what the single call gives for question i
 pub nearest-as-alone : (s : Store) (probes : List ℤ) (reaches out after : List ℕ) → nearestEach s probes reaches out ≡ gives after
-    → (i : ℕ) → i < length reaches → AsAlone (nearestCall s (probeAt s probes i) (getD reaches i 0)) (row 4 i after)
+    → (i : ℕ) → i < length reaches → RowAsAlone (nearestCall s (probeAt s probes i) (getD reaches i 0)) (row 4 i after)
 unfolding nearestCall
 nearest-as-alone s probes reaches out after h i j =
     firsts-alone s probes (length reaches) (nearestAt s probes reaches) out after h (λ probe x. aimed s probe (gives x)) i j (λ probe x. refl)
 
 pub farthest-as-alone : (s : Store) (probes : List ℤ) (n : ℕ) (out after : List ℕ) → farthestEach s probes n out ≡ gives after
-    → (i : ℕ) → i < n → AsAlone (farthestCall s (probeAt s probes i)) (row 4 i after)
+    → (i : ℕ) → i < n → RowAsAlone (farthestCall s (probeAt s probes i)) (row 4 i after)
 unfolding farthestCall
 farthest-as-alone s probes n out after h i j =
     firsts-alone s probes n (farthestAt s probes) out after h (λ probe x. aimed s probe (gives x)) i j (λ probe x. refl)
 
 -- ---- pages
 
-module _ (s : Store) (probes : List ℤ) (reaches places : List ℕ) (size : ℕ) (before after : Rooms)
+module _ (s : Store) (probes : List ℤ) (reaches places : List ℕ) (size : ℕ) (before after : PageRooms)
     (h : pagesEach s probes reaches places size before ≡ gives after) where
   abbrev n : ℕ
   n = length reaches
 
-  abbrev page : ℕ → Outcome PageOf
+  abbrev page : ℕ → Outcome ThePage
   page = pageAt s probes reaches places size
 
   abbrev Told : List ℕ
@@ -180,13 +180,13 @@ module _ (s : Store) (probes : List ℤ) (reaches places : List ℕ) (size : ℕ
       (row 3 i (after .outcomes)) (row (size * 3) i (before .items)) (row (size * 3) i (after .items))
   page-as-alone i j =
       record {
-        outcome = ap (λ (x : Rooms). row 3 i (x .outcomes)) (sym both) ∙ told-rows .rows i j;
-        items = ap (λ (x : Rooms). row (size * 3) i (x .items)) (sym both) ∙ item-rows .rows i j;
+        outcome = ap (λ (x : PageRooms). row 3 i (x .outcomes)) (sym both) ∙ told-rows .rows i j;
+        items = ap (λ (x : PageRooms). row (size * 3) i (x .items)) (sym both) ∙ item-rows .rows i j;
       }
 
   pub pages-behind : (drop (length reaches * 3) (after .outcomes) ≡ drop (length reaches * 3) (before .outcomes))
       × (drop (length reaches * (size * 3)) (after .items) ≡ drop (length reaches * (size * 3)) (before .items))
   pages-behind = (
-    ap (λ (x : Rooms). drop (n * 3) (x .outcomes)) (sym both) ∙ told-rows .behind,
-    ap (λ (x : Rooms). drop (n * (size * 3)) (x .items)) (sym both) ∙ item-rows .behind,
+    ap (λ (x : PageRooms). drop (n * 3) (x .outcomes)) (sym both) ∙ told-rows .behind,
+    ap (λ (x : PageRooms). drop (n * (size * 3)) (x .items)) (sym both) ∙ item-rows .behind,
   )

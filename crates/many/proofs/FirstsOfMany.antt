@@ -19,7 +19,7 @@ use Rattle.tree.proofs.Places.{before-next}
 use Rattle.walk.specs.Asking.{Answerable}
 use Rattle.walk.proofs.Answers.{good-answerable}
 use Rattle.paper.specs.Calls.{tableRefusal}
-use Rattle.paper.proofs.Outcomes.{must-stop, must-go, number-0, behind, stops, promise-refused, promise-given}
+use Rattle.paper.proofs.Outcomes.{must-stop, must-go, number-0, must-behind, stops, promise-refused, promise-given}
 use Rattle.tested.proofs.TableLaws.{table-refused, table-good, table-goes}
 use Rattle.nearby.proofs.QuestionsAndLists.{found-shown}
 use Rattle.rows.specs.Answers.{foundRow}
@@ -73,23 +73,23 @@ row-found f x d i probes before after e w =
 
 -- ---- rows one after another
 
-pub record Going (f : ℕ → List ℕ → List ℕ) (n i : ℕ) (before now : List ℕ) : Type 0 where
+pub record RowsGoing (f : ℕ → List ℕ → List ℕ) (n i : ℕ) (before now : List ℕ) : Type 0 where
   pub low : i ≤ n
   pub same : now ≡ each f i before
   pub long : length now ≡ length before
 
-pub going-start : (f : ℕ → List ℕ → List ℕ) (n : ℕ) (before : List ℕ) → Going f n 0 before before
+pub going-start : (f : ℕ → List ℕ → List ℕ) (n : ℕ) (before : List ℕ) → RowsGoing f n 0 before before
 unfolding each
 going-start f n before = record { low = omega arith; same = refl; long = refl }
 
-pub going-on : (f : ℕ → List ℕ → List ℕ) (n i : ℕ) (before now after : List ℕ) → Going f n i before now → i < n
-    → after ≡ f i now → length after ≡ length now → Going f n (i + 1) before after
+pub going-on : (f : ℕ → List ℕ → List ℕ) (n i : ℕ) (before now after : List ℕ) → RowsGoing f n i before now → i < n
+    → after ≡ f i now → length after ≡ length now → RowsGoing f n (i + 1) before after
 unfolding each
 going-on f n i before now after g h e l =
     let p : i + 1 ≡ suc i = omega arith in
     record { low = omega arith; same = rw p (e ∙ ap (f i) (g .same)); long = l ∙ g .long }
 
-pub going-done : (f : ℕ → List ℕ → List ℕ) (n i : ℕ) (before now : List ℕ) → Going f n i before now → n ≤ i → now ≡ each f n before
+pub going-done : (f : ℕ → List ℕ → List ℕ) (n i : ℕ) (before now : List ℕ) → RowsGoing f n i before now → n ≤ i → now ≡ each f n before
 going-done f n i before now g h =
     let e : i ≡ n = omega (arith, g .low) in
     g .same ∙ ap (λ (k : ℕ). each f k before) e
@@ -112,7 +112,7 @@ tested-by s f e = rw (f, e)
 module _ (s : Store) (probes n why : ℕ) (we : why ≡ manyRefusal s probes n) where
   -- what any call does behind 1, 2, 5
   then-goes : {A : Type 0} (x : Outcome A) → onMany s probes n x ≡ onto (onMany s probes n (gives n)) (λ u. x)
-  then-goes x = behind (fits s) 1 _ x _ (behind (sound s) 2 _ x _ (behind (eqb probes (s .table .d * n)) 5 x x (gives n) refl))
+  then-goes x = must-behind (fits s) 1 _ x _ (must-behind (sound s) 2 _ x _ (must-behind (eqb probes (s .table .d * n)) 5 x x (gives n) refl))
 
   pub many-refused : {A : Type 0} (x : Outcome A) → (why ≡ 0 → ⊥) → onMany s probes n x ≡ refused why
   unfolding manyRefusal

@@ -16,16 +16,16 @@ use Rattle.paper.specs.Points.{point}
 use Rattle.paper.specs.Outcomes.{Outcome, refused, gives, must, onto, number, leaves, Promise}
 use Rattle.paper.specs.Tree.{Store, fits, sound}
 use Rattle.paper.specs.Ends.{sizeHolds}
-use Rattle.paper.specs.Calls.{PageOf, pageShown, putPage, tableRefusal}
+use Rattle.paper.specs.Calls.{ThePage, pageShown, putPage, tableRefusal}
 use Rattle.paper.proofs.Tests.{and-first, and-second}
 use Rattle.tree.proofs.Places.{before-next}
-use Rattle.paper.proofs.Outcomes.{must-stop, must-go, number-0, behind, stops, promise-refused, promise-given}
+use Rattle.paper.proofs.Outcomes.{must-stop, must-go, number-0, must-behind, stops, promise-refused, promise-given}
 use Rattle.tested.specs.Askable.{Askable}
 use Rattle.rows.specs.Answers.{pageRow}
 use Rattle.rows.specs.Places.{placeAt}
 use Rattle.many.specs.Rows.{row, each, instead}
 use Rattle.many.specs.Counts.{manyRefusal}
-use Rattle.many.specs.Pages.{pageAt, putOutcome, putPageItems, Rooms, bothRooms, onPages, pagesRefusal, pagesEach, OnePage, AllPages}
+use Rattle.many.specs.Pages.{pageAt, putOutcome, putPageItems, PageRooms, bothRooms, onPages, pagesRefusal, pagesEach, OnePage, AllPages}
 use Rattle.many.proofs.FirstsOfMany.{part-point, part-length, many-refused, many-goes}
 use Rattle.paper.specs.Limits.{mostPage}
 
@@ -98,12 +98,12 @@ pub row-askable : (s : Store) (probes : List ℤ) (i size places outcomes items 
 row-askable s probes i size places outcomes items h =
     record { tested = h .tested; aimed = part-length (s .table .d) i probes (h .aimed); size = h .size }
 
-module _ (f : List ℤ → Place → ℕ → Outcome PageOf) (d i w : ℕ) (probes : List ℤ) (places : List ℕ) (q : Place) (items outcomes : List ℕ)
+module _ (f : List ℤ → Place → ℕ → Outcome ThePage) (d i w : ℕ) (probes : List ℤ) (places : List ℕ) (q : Place) (items outcomes : List ℕ)
     (qe : q ≡ placeAt places i) (long : i * w + w ≤ length items) where
-  abbrev asked : Outcome PageOf
+  abbrev asked : Outcome ThePage
   asked = f (take (i * d + d - i * d) (drop (i * d) probes)) q (length (take (i * w + w - i * w) (drop (i * w) items)))
 
-  abbrev meant : Outcome PageOf
+  abbrev meant : Outcome ThePage
   meant = f (point d probes i) (placeAt places i) w
 
   asked-is : asked ≡ meant
@@ -145,25 +145,25 @@ one-page s probes n places size outcomes items i told rest m h te re =
 pub then-pages : {A : Type 0} (s : Store) (probes n places size outcomes items : ℕ) (x : Outcome A)
     → onPages s probes n places size outcomes items x ≡ onto (onPages s probes n places size outcomes items (gives n)) (λ u. x)
 then-pages s probes n places size outcomes items x =
-    behind (fits s) 1 _ x _
-    (behind (sound s) 2 _ x _
-    (behind (eqb probes (s .table .d * n)) 5 _ x _
-    (behind (eqb places (4 * n)) 5 _ x _
-    (behind (sizeHolds size) 6 _ x _
-    (behind (leb (n * 3) outcomes) 12 _ x _
-    (behind (leb (n * (size * 3)) items) 12 x x (gives n) refl))))))
+    must-behind (fits s) 1 _ x _
+    (must-behind (sound s) 2 _ x _
+    (must-behind (eqb probes (s .table .d * n)) 5 _ x _
+    (must-behind (eqb places (4 * n)) 5 _ x _
+    (must-behind (sizeHolds size) 6 _ x _
+    (must-behind (leb (n * 3) outcomes) 12 _ x _
+    (must-behind (leb (n * (size * 3)) items) 12 x x (gives n) refl))))))
 
-module _ (s : Store) (probes : List ℤ) (reaches places : List ℕ) (size : ℕ) (before : Rooms) (why : ℕ)
+module _ (s : Store) (probes : List ℤ) (reaches places : List ℕ) (size : ℕ) (before : PageRooms) (why : ℕ)
     (we : why ≡ pagesRefusal s (length probes) (length reaches) (length places) size (length (before .outcomes)) (length (before .items))) where
   abbrev n : ℕ
   n = length reaches
 
-  abbrev done : Rooms
+  abbrev done : PageRooms
   done =
       bothRooms (each (putOutcome (pageAt s probes reaches places size)) n (before .outcomes))
       (each (putPageItems (pageAt s probes reaches places size) (size * 3)) n (before .items))
 
-  abbrev call : Outcome Rooms
+  abbrev call : Outcome PageRooms
   call = pagesEach s probes reaches places size before
 
   stopped : (why ≡ 0 → ⊥) → call ≡ refused why

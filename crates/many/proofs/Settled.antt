@@ -11,7 +11,7 @@ use Rattle.paper.specs.Tree.{Store, fits, sound}
 use Rattle.paper.proofs.Outcomes.{must-go, number-0}
 use Rattle.many.specs.Rows.{each, instead, putFound}
 use Rattle.many.specs.Many.{firstsCall}
-use Rattle.many.specs.Pages.{Rooms, onPages, pagesRefusal, pagesEach}
+use Rattle.many.specs.Pages.{PageRooms, onPages, pagesRefusal, pagesEach}
 use Rattle.many.proofs.PagesOfMany.{then-pages, pages-gives}
 
 -- what a call gave stands in its rooms
@@ -34,7 +34,7 @@ number-onto : {A B : Type 0} (y : Outcome B) (x : A) → number (onto y (λ u. g
 number-onto (refused n) x = refl
 number-onto (gives b) x = refl
 
-module _ (s : Store) (probes : List ℤ) (reaches places : List ℕ) (size : ℕ) (before after : Rooms) (r : ℕ)
+module _ (s : Store) (probes : List ℤ) (reaches places : List ℕ) (size : ℕ) (before after : PageRooms) (r : ℕ)
     (p : Promise number instead (pagesEach s probes reaches places size before) before r after) (none : r ≡ 0) where
   told : 0 ≡ pagesRefusal s (length probes) (length reaches) (length places) size (length (before .outcomes)) (length (before .items))
   unfolding pagesEach pagesRefusal

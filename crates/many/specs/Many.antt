@@ -37,7 +37,7 @@ abbrev pub farthestEach : Store → List ℤ → ℕ → List ℕ → Outcome (L
 farthestEach s probes n out = firstsCall s (length probes) n (farthestAt s probes) out
 
 -- [4.16] a row beside the single call for its question: the call gives an answer, and the row tells it
-pub record AsAlone (single : Outcome Found) (r : List ℕ) : Type 0 where
+pub record RowAsAlone (single : Outcome Found) (r : List ℕ) : Type 0 where
   pub answer : Found
   pub given : single ≡ gives answer
   pub told : r ≡ foundRow (foundShown answer)

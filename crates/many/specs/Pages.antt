@@ -11,7 +11,7 @@ use Rattle.paper.specs.declared.orders.Order.the-variants.{Near}
 use Rattle.paper.specs.Outcomes.{Outcome, gives, must, number, leaves}
 use Rattle.paper.specs.Tree.{Store}
 use Rattle.paper.specs.Ends.{sizeHolds}
-use Rattle.paper.specs.Calls.{PageOf, pageCall, pageShown, putPage, tableRefusal}
+use Rattle.paper.specs.Calls.{ThePage, pageCall, pageShown, putPage, tableRefusal}
 use Rattle.rows.specs.Answers.{pageRow}
 use Rattle.rows.specs.Places.{placeAt}
 use Rattle.many.specs.Counts.{onMany}
@@ -19,24 +19,24 @@ use Rattle.many.specs.Rows.{row, each}
 use Rattle.many.specs.Many.{probeAt}
 
 -- [4.16] what the single call gives for question i, in a room for one page
-abbrev pub pageAt : Store → List ℤ → List ℕ → List ℕ → ℕ → ℕ → Outcome PageOf
+abbrev pub pageAt : Store → List ℤ → List ℕ → List ℕ → ℕ → ℕ → Outcome ThePage
 pageAt s probes reaches places size i =
     pageCall s Near (probeAt s probes i) (getD reaches i 0) (placeAt places i) size (size * 3)
 
 -- its outcome in row i
-abbrev pub putOutcome : (ℕ → Outcome PageOf) → ℕ → List ℕ → List ℕ
+abbrev pub putOutcome : (ℕ → Outcome ThePage) → ℕ → List ℕ → List ℕ
 putOutcome page i l = sets l (i * 3) (pageRow (pageShown (page i)))
 
 -- [4.19] its items at the front of row i, whose rest stays
-abbrev pub putPageItems : (ℕ → Outcome PageOf) → ℕ → ℕ → List ℕ → List ℕ
+abbrev pub putPageItems : (ℕ → Outcome ThePage) → ℕ → ℕ → List ℕ → List ℕ
 putPageItems page w i l = take (i * w) l ++ (leaves putPage (page i) (row w i l) ++ drop (i * w + w) l)
 
 -- the two rooms of the call
-pub record Rooms : Type 0 where
+pub record PageRooms : Type 0 where
   pub outcomes : List ℕ
   pub items : List ℕ
 
-abbrev pub bothRooms : List ℕ → List ℕ → Rooms
+abbrev pub bothRooms : List ℕ → List ℕ → PageRooms
 bothRooms outcomes items = record { outcomes = outcomes; items = items }
 
 -- [9.17] [8.5] [8.12] 5 where there are not d coordinates or not four numbers of a place for each question; 12 where there are under three
@@ -52,7 +52,7 @@ onPages s probes n places size outcomes items x =
 unfoldable pub pagesRefusal : Store → (probes n places size outcomes items : ℕ) → ℕ
 pagesRefusal s probes n places size outcomes items = number (onPages s probes n places size outcomes items (gives n))
 
-unfoldable pub pagesEach : Store → List ℤ → List ℕ → List ℕ → ℕ → Rooms → Outcome Rooms
+unfoldable pub pagesEach : Store → List ℤ → List ℕ → List ℕ → ℕ → PageRooms → Outcome PageRooms
 pagesEach s probes reaches places size before =
     onPages s (length probes) (length reaches) (length places) size (length (before .outcomes)) (length (before .items))
     (gives
@@ -61,7 +61,7 @@ pagesEach s probes reaches places size before =
     (each (putPageItems (pageAt s probes reaches places size) (size * 3)) (length reaches) (before .items))))
 
 -- [4.16] a row beside the single call for its question, in a room for one page: what it tells, and the row of items before and after
-pub record PageAlone (single : Outcome PageOf) (told before after : List ℕ) : Type 0 where
+pub record PageAlone (single : Outcome ThePage) (told before after : List ℕ) : Type 0 where
   pub outcome : told ≡ pageRow (pageShown single)
   pub items : after ≡ leaves putPage single before
 

@@ -5,7 +5,7 @@ ghost use lib.IntN.{_-ℤ_, natAbs};
 ghost use lib.ListN.{length, drop};
 ghost use Rattle.paper.specs.Points.{measureOf, weigh, joined};
 ghost use Rattle.paper.specs.Points.{distance as Points·distance};
-ghost use Rattle.paper.specs.Limits.{mostPlaces};
+ghost use Rattle.paper.specs.Limits.{mostCoordinates};
 use paper::points::Measure;
 
 // [1.5] |x - y|. At 32 bits the difference would overflow, so it is taken at 64.
@@ -34,7 +34,7 @@ fn with_one(m: Measure, sum: u64, x: i32, y: i32) -> u64
 // The distance of the points at `at` of a and at `bt` of b. The measure is the same from coordinate to coordinate, so the
 // compiler takes the choice out of the loop.
 fn measured(m: Measure, d: usize, a: &[i32], at: usize, b: &[i32], bt: usize) -> u64
-    requires { ⌜ (d ≤ mostPlaces) × ((at + d ≤ length (now a)) × (bt + d ≤ length (now b))) ⌝ }
+    requires { ⌜ (d ≤ mostCoordinates) × ((at + d ≤ length (now a)) × (bt + d ≤ length (now b))) ⌝ }
     ensures { λ r. ⌜ r ≡ Points·distance m d (drop at (now (a .entry))) (drop bt (now (b .entry))) ⌝ }
 {
     let mut sum: u64 = 0;
@@ -48,7 +48,7 @@ fn measured(m: Measure, d: usize, a: &[i32], at: usize, b: &[i32], bt: usize) ->
 
 // The same, by the number that tables and lines name a measure by.
 pub fn distance(measure: u8, d: usize, a: &[i32], at: usize, b: &[i32], bt: usize) -> u64
-    requires { ⌜ (d ≤ mostPlaces) × ((at + d ≤ length (now a)) × (bt + d ≤ length (now b))) ⌝ }
+    requires { ⌜ (d ≤ mostCoordinates) × ((at + d ≤ length (now a)) × (bt + d ≤ length (now b))) ⌝ }
     ensures { λ r. ⌜ r ≡ Points·distance (measureOf measure) d (drop at (now (a .entry))) (drop bt (now (b .entry))) ⌝ }
 {
     measured(Measure::numbered(measure), d, a, at, b, bt)

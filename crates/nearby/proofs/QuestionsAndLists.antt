@@ -14,7 +14,7 @@ use Rattle.paper.specs.declared.orders.Nearest as Answers
 use Rattle.paper.specs.Orders.{Found, told, foundShown}
 use Rattle.paper.specs.Outcomes.{Outcome, refused, gives, must}
 use Rattle.paper.specs.Tree.{Store}
-use Rattle.paper.specs.Ends.{tableOf, served, soundIn, asking, taking}
+use Rattle.paper.specs.Ends.{tableOf, lineAnswered, soundIn, asking, taking}
 use Rattle.paper.specs.Lists.{Takes, Held, listing, roomFor, heldWell, soundHeld, askingHeld, takingHeld}
 use Rattle.paper.specs.Codec.{lines}
 use Rattle.paper.specs.Calls.{tableRefusal, aimed, nearestShown, officeCall}
@@ -63,10 +63,10 @@ module _ (s : Store) (out line : List ℕ) where
     pub office-open : n ≡ 0 → Open s (length out)
     office-open ok = record { good = table-good s n we ok; room = long }
 
-    pub office-answers : n ≡ 0 → (r : Wrote) (after : List ℕ) → Writes (served lines (tableOf s) line) out r after → Writes (officeCall s (length out) line) out r after
+    pub office-answers : n ≡ 0 → (r : Wrote) (after : List ℕ) → Writes (lineAnswered lines (tableOf s) line) out r after → Writes (officeCall s (length out) line) out r after
     unfolding officeCall
     office-answers ok r after w =
-        let e : officeCall s (length out) line ≡ served lines (tableOf s) line =
+        let e : officeCall s (length out) line ≡ lineAnswered lines (tableOf s) line =
         must-go (leb longestAnswer (length out)) 12 _ (le-leb longestAnswer (length out) long) ∙ table-goes s n we ok _ in
         rw e w
 

@@ -34,19 +34,19 @@ module _ (s : Store) (a : Bool) (ae : a ≡ fits s) where
 
 -- ---- [9.6] entering
 
-module _ (s : Store) (given : List ℕ) (places : List ℤ) where
+module _ (s : Store) (given : List ℕ) (points : List ℤ) where
   abbrev call : Outcome Store
-  call = enterCall s given places
+  call = enterCall s given points
 
   -- the call from each of its tests on
   abbrev from-4 : Outcome Store
-  from-4 = must (leb (s .table .used + length given) (s .table .capacity)) 4 (gives (addedRun given places (length given) s))
+  from-4 = must (leb (s .table .used + length given) (s .table .capacity)) 4 (gives (addedRun given points (length given) s))
 
   abbrev from-3 : Outcome Store
   from-3 = must (leb (s .table .count + length given) (s .table .capacity)) 3 from-4
 
   abbrev from-5 : Outcome Store
-  from-5 = must (eqb (length places) (s .table .d * length given)) 5 from-3
+  from-5 = must (eqb (length points) (s .table .d * length given)) 5 from-3
 
   module _ (n : ℕ) (we : n ≡ tableRefusal s) where
     pub run-refused : (n ≡ 0 → ⊥) → n ≡ number call
@@ -66,17 +66,17 @@ module _ (s : Store) (given : List ℕ) (places : List ℤ) where
       pub run-used : s .table .used ≤ s .table .capacity
       run-used = omega (arith, good .count, good-used s good)
 
-      module _ (w : Bool) (we' : w ≡ eqb (length places) (s .table .d * length given)) where
+      module _ (w : Bool) (we' : w ≡ eqb (length points) (s .table .d * length given)) where
         past-2 : call ≡ from-5
         unfolding enterCall
         past-2 = table-goes s n we ok from-5
 
         pub run-5 : not w ≡ true → 5 ≡ number call
-        run-5 h = sym (ap number (past-2 ∙ must-stop (eqb (length places) (s .table .d * length given)) 5 from-3 (sym we' ∙ not-true w h)))
+        run-5 h = sym (ap number (past-2 ∙ must-stop (eqb (length points) (s .table .d * length given)) 5 from-3 (sym we' ∙ not-true w h)))
 
         module _ (hw : not w ≡ false) where
           past-5 : call ≡ from-3
-          past-5 = past-2 ∙ must-go (eqb (length places) (s .table .d * length given)) 5 from-3 (sym we' ∙ not-false w hw)
+          past-5 = past-2 ∙ must-go (eqb (length points) (s .table .d * length given)) 5 from-3 (sym we' ∙ not-false w hw)
 
           pub run-3 : s .table .capacity - s .table .count < length given → 3 ≡ number call
           run-3 h =
@@ -105,11 +105,11 @@ module _ (s : Store) (given : List ℕ) (places : List ℤ) where
         → Promise enteredShown putStore call (memory (s .references) (s .coordinates) (s .nodes)) (Entered.Refused why) (memory (s .references) (s .coordinates) (s .nodes))
     enter-refused h = promise-refused enteredShown putStore call _ why (Entered.Refused why) (number-is call why we h) refl
 
-    pub enter-done : why ≡ 0 → (t : Table) (r : List ℕ) (l : List ℤ) (m : List ℕ) → store t r l m ≡ addedRun given places (length given) s
+    pub enter-done : why ≡ 0 → (t : Table) (r : List ℕ) (l : List ℤ) (m : List ℕ) → store t r l m ≡ addedRun given points (length given) s
         → Promise enteredShown putStore call (memory (s .references) (s .coordinates) (s .nodes)) (Entered.Table t) (memory r l m)
     enter-done z t r l m e =
-        let x = zero-enters s given places (sym we ∙ z) in
-        promise-given enteredShown putStore call _ (addedRun given places (length given) s) (Entered.Table t) (memory r l m)
-        (enters-gives s given places (x .good) (x .whole) (x .free))
+        let x = zero-enters s given points (sym we ∙ z) in
+        promise-given enteredShown putStore call _ (addedRun given points (length given) s) (Entered.Table t) (memory r l m)
+        (enters-gives s given points (x .good) (x .whole) (x .free))
         (ap (λ (y : Store). Entered.Table (y .table)) e)
         (ap (λ (y : Store). memory (y .references) (y .coordinates) (y .nodes)) e)

@@ -1,4 +1,4 @@
-// The bare writers and readers of the three kinds of line. Of a query's probe the first d places are written.
+// The bare writers and readers of the three kinds of line. Of a query's probe the first d slots are written.
 ghost use mathlib.Core.Path.{_≡_};
 ghost use lib.ListN.{length};
 ghost use Rattle.paper.specs.declared.orders.Order.the-variants.{Near};

@@ -2,7 +2,7 @@
 ghost use mathlib.Core.Path.{_≡_};
 ghost use lib.ListN.{length};
 ghost use Rattle.paper.specs.declared.orders.Order.the-variants.{Near};
-ghost use Rattle.paper.specs.Lists.{Takes, held, openingHeld, openedTold, askingHeld, takingHeld};
+ghost use Rattle.paper.specs.Lists.{Takes, held, openingHeld, openedShown, askingHeld, takingHeld};
 ghost use Rattle.paper.specs.Codec.{lines};
 ghost use Rattle.paper.specs.Lines.{Writes};
 use paper::lines::Wrote;
@@ -13,7 +13,7 @@ use paper::orders::Order;
 
 // [9.11] Refusals 1, 5.
 pub fn open_list(table: u32, measure: u8, d: usize, probe: &[i32], reach: u64) -> Opened
-    ensures { λ r. ⌜ r ≡ openedTold (openingHeld (record { order = Near; table = table; measure = measure; d = d; probe = now (probe .entry); reach = reach })) ⌝ }
+    ensures { λ r. ⌜ r ≡ openedShown (openingHeld (record { order = Near; table = table; measure = measure; d = d; probe = now (probe .entry); reach = reach })) ⌝ }
 {
     let near = Order::Near;
     tablet::open_list(near, table, measure, d, probe, reach)

@@ -58,15 +58,15 @@ fn run_refusal(
     coordinates: &[i32],
     nodes: &[u64],
     given: &[u32],
-    places: &[i32],
+    points: &[i32],
 ) -> u8
-    ensures { λ r. ⌜ r ≡ Outcomes·number (enterCall (lent t (references .entry) (coordinates .entry) (nodes .entry)) (now (given .entry)) (now (places .entry))) ⌝ }
+    ensures { λ r. ⌜ r ≡ Outcomes·number (enterCall (lent t (references .entry) (coordinates .entry) (nodes .entry)) (now (given .entry)) (now (points .entry))) ⌝ }
 {
     let why = table_refusal(t, references, coordinates, nodes);
     if why != 0 {
         return why;
     }
-    if !is_whole(t.d, given.len(), places.len()) {
+    if !is_whole(t.d, given.len(), points.len()) {
         return 5;
     }
     if t.capacity - t.count < given.len() {
@@ -85,16 +85,16 @@ pub fn enter(
     coordinates: &mut [i32],
     nodes: &mut [u64],
     given: &[u32],
-    places: &[i32],
+    points: &[i32],
 ) -> Entered
     ensures { λ r. ⌜ Promise enteredShown putStore
-        (enterCall (lent t (references .entry) (coordinates .entry) (nodes .entry)) (now (given .entry)) (now (places .entry)))
+        (enterCall (lent t (references .entry) (coordinates .entry) (nodes .entry)) (now (given .entry)) (now (points .entry)))
         (lentMemory (references .entry) (coordinates .entry) (nodes .entry)) r (lentMemory (references .exit) (coordinates .exit) (nodes .exit)) ⌝ }
 {
-    let why = run_refusal(t, references, coordinates, nodes, given, places);
+    let why = run_refusal(t, references, coordinates, nodes, given, points);
     if why != 0 {
         return Entered::Refused(why);
     }
-    let after = add_run(t, references, coordinates, nodes, given, places);
+    let after = add_run(t, references, coordinates, nodes, given, points);
     Entered::Table(after)
 }

@@ -13,17 +13,17 @@ use Rattle.paper.specs.declared.queries.Query as queries
 use Rattle.paper.specs.declared.lists.List as lists
 use Rattle.paper.specs.declared.lists.Taken.{Taken}
 use Rattle.paper.specs.Outcomes.{Outcome, Promise}
-use Rattle.paper.specs.Lists.{Takes, takenAs, putItems}
+use Rattle.paper.specs.Lists.{Takes, takenShown, putItems}
 use Rattle.paper.specs.Ends as Ends
 use Rattle.c_lists.specs.declared.Listed.{Listed}
 use Rattle.c_values.specs.declared.Written.{Written}
 use Rattle.c_lists.specs.Values.{takenOut, TakesOut}
 use Rattle.c_values.specs.Values.{writtenOf, WritesOut}
 use Rattle.paper.specs.Orders.{Query, queryIn}
-use Rattle.paper.specs.Fields.{inPlaces}
+use Rattle.paper.specs.Fields.{queryInSlots}
 use Rattle.paper.specs.Frames.{frameOf, isLine}
 use Rattle.paper.specs.Lines.{Writes, wroteOf, putLine, reading, queryAt, answerKind, askFits, isAsk, askAt, anAsk, noAsk, readAsAsk, answerFits, answerOk, answerAt, anAnswer, noAnswer, readAsAnswer}
-use Rattle.paper.specs.Limits.{mostPlaces}
+use Rattle.paper.specs.Limits.{mostCoordinates}
 use Rattle.paper.proofs.Tests.{and-first, and-second, and-both, refuted, never}
 use Rattle.lines.proofs.Tests.{QueryFits, ask-fits, any-ask, answer-fits, is-answer}
 use Rattle.orders.proofs.Rooms.{query-placed}
@@ -42,7 +42,7 @@ shown-from {I = I} f shown put call before after r x q p e w h =
 pub taken-from : (call : lists.List → Outcome Ends.Listing) (l x : lists.List) (t : Taken) (r : Listed) (before after : List ℕ)
     → x ≡ l → Takes x (call x) before t after → r ≡ takenOut t → TakesOut l (call l) before r after
 taken-from call l x t r before after e w h =
-    subst (λ (y : lists.List). TakesOut y (call y) before r after) e (shown-as takenOut (takenAs x) putItems (call x) before after t r w h)
+    subst (λ (y : lists.List). TakesOut y (call y) before r after) e (shown-as takenOut (takenShown x) putItems (call x) before after t r w h)
 
 -- ---- lines
 
@@ -53,11 +53,11 @@ line-from call q x p y before after w r e f h k =
     shown-as writtenOf wroteOf putLine (call q p) before after w r
     (subst (λ (u : Scope). Writes (call q u) before w after) f (subst (λ (u : Query). Writes (call u y) before w after) e h)) k
 
--- a probe that has no places is refused by whoever writes
-module _ (q : Query) (p : Scope) (b : Bool) (be : b ≡ eqb (length (q .probe)) (q .d) && leb (q .d) mostPlaces) where
+-- a probe that has no slots is refused by whoever writes
+module _ (q : Query) (p : Scope) (b : Bool) (be : b ≡ eqb (length (q .probe)) (q .d) && leb (q .d) mostCoordinates) where
   module _ (h : not b ≡ true) where
     misplaced : QueryFits q → ⊥
-    misplaced w = never b (be ∙ and-both _ _ (eq-eqb _ _ (w .count)) (le-leb (q .d) mostPlaces (w .range .narrow))) (not-true b h)
+    misplaced w = never b (be ∙ and-both _ _ (eq-eqb _ _ (w .count)) (le-leb (q .d) mostCoordinates (w .range .narrow))) (not-true b h)
 
     pub ask-misplaced : (s : ℕ) → askFits q p s ≡ false
     ask-misplaced s = refuted (askFits q p s) (λ e. misplaced (ask-fits q p s e .query))
@@ -66,31 +66,31 @@ module _ (q : Query) (p : Scope) (b : Bool) (be : b ≡ eqb (length (q .probe)) 
     answer-misplaced last n ns = refuted (answerFits q p last n ns) (λ e. misplaced (answer-fits q p last n ns e .query))
 
   module _ (h : not b ≡ false) where
-    both : (eqb (length (q .probe)) (q .d) && leb (q .d) mostPlaces) ≡ true
+    both : (eqb (length (q .probe)) (q .d) && leb (q .d) mostCoordinates) ≡ true
     both = sym be ∙ not-false b h
 
-    pub placed : (length (q .probe) ≡ q .d) × (q .d ≤ mostPlaces)
+    pub placed : (length (q .probe) ≡ q .d) × (q .d ≤ mostCoordinates)
     placed = (eqb-true _ _ (and-first _ _ both), leb-true _ _ (and-second (eqb (length (q .probe)) (q .d)) _ both))
 
-    pub placed-query : (x : queries.Query) → x ≡ inPlaces q → queryIn x ≡ q
+    pub placed-query : (x : queries.Query) → x ≡ queryInSlots q → queryIn x ≡ q
     placed-query x e = ap queryIn e ∙ query-placed q (placed .0)
 
 -- what a reader gives has at most eight coordinates
-pub ask-narrow : (l : List ℕ) → readAsAsk l .ask .query .d ≤ mostPlaces
+pub ask-narrow : (l : List ℕ) → readAsAsk l .ask .query .d ≤ mostCoordinates
 unfolding readAsAsk reading
 ask-narrow l = go (isLine l) (isAsk (frameOf l)) refl
   where
-    go : (a b : Bool) → isAsk (frameOf l) ≡ b → cond a (cond b (anAsk (askAt (frameOf l))) (noAsk 10)) (noAsk 9) .ask .query .d ≤ mostPlaces
+    go : (a b : Bool) → isAsk (frameOf l) ≡ b → cond a (cond b (anAsk (askAt (frameOf l))) (noAsk 10)) (noAsk 9) .ask .query .d ≤ mostCoordinates
     go true true e = unfold anAsk in unfold askAt in unfold queryAt in any-ask (frameOf l) e .headed .range .narrow
     go true false e = unfold noAsk in lit≤ tt
     go false b e = unfold noAsk in lit≤ tt
 
-pub answer-narrow : (o : Order) (l : List ℕ) → readAsAnswer o l .answer .query .d ≤ mostPlaces
+pub answer-narrow : (o : Order) (l : List ℕ) → readAsAnswer o l .answer .query .d ≤ mostCoordinates
 unfolding readAsAnswer reading
 answer-narrow o l = go (isLine l) (answerOk (answerKind o) (frameOf l)) refl
   where
     go : (a b : Bool) → answerOk (answerKind o) (frameOf l) ≡ b
-        → cond a (cond b (anAnswer (answerAt o (frameOf l))) (noAnswer 10)) (noAnswer 9) .answer .query .d ≤ mostPlaces
+        → cond a (cond b (anAnswer (answerAt o (frameOf l))) (noAnswer 10)) (noAnswer 9) .answer .query .d ≤ mostCoordinates
     go true true e = unfold anAnswer in unfold answerAt in unfold queryAt in is-answer (answerKind o) (frameOf l) e .headed .range .narrow
     go true false e = unfold noAnswer in lit≤ tt
     go false b e = unfold noAnswer in lit≤ tt

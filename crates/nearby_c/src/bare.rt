@@ -7,7 +7,7 @@ ghost use Rattle.paper.specs.Lines.{bareLine, askFits, askFrame, readAsAsk, ans
 ghost use Rattle.paper.specs.declared.orders.Order.the-variants.{Near};
 ghost use Rattle.c_lists.specs.Values.{nearQuery, scopeFrom, askOut, answerOut};
 ghost use Rattle.c_values.specs.Values.{WritesOut};
-ghost use Rattle.paper.specs.Limits.{longestAnswer, longestAsk, longestClaim, mostPlaces};
+ghost use Rattle.paper.specs.Limits.{longestAnswer, longestAsk, longestClaim, mostCoordinates};
 use c_lists::AnswerShown;
 use c_lists::AskShown;
 use c_lists::Extent;
@@ -16,17 +16,17 @@ use c_lists::ask_out;
 use c_lists::scope_in;
 use c_values::Written;
 use c_values::line_of;
-use paper::limits::MOST_PLACES;
+use paper::limits::MOST_COORDINATES;
 use paper::lines::ClaimRead;
 use paper::lines::Wrote;
 use paper::orders::Order;
 
 // Whether a probe of so many coordinates is d of them, and has a place for each.
 fn placeable(length: usize, d: usize) -> bool
-    ensures { λ r. ⌜ r ≡ eqb length d && leb d mostPlaces ⌝ }
+    ensures { λ r. ⌜ r ≡ eqb length d && leb d mostCoordinates ⌝ }
 {
     if length == d {
-        return d <= MOST_PLACES;
+        return d <= MOST_COORDINATES;
     }
     false
 }

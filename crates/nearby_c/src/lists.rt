@@ -1,7 +1,7 @@
 // A tablet's list: opened, asking, taking.
 ghost use mathlib.Core.Path.{_≡_};
 ghost use lib.ListN.{length};
-ghost use Rattle.paper.specs.Lists.{held, openingHeld, openedTold, askingHeld, takingHeld};
+ghost use Rattle.paper.specs.Lists.{held, openingHeld, openedShown, askingHeld, takingHeld};
 ghost use Rattle.paper.specs.Codec.{lines};
 ghost use Rattle.c_lists.specs.Values.{nearQuery, listIn, openedOut, TakesOut};
 ghost use Rattle.c_values.specs.Values.{WritesOut};
@@ -22,7 +22,7 @@ pub extern "C" fn nearby_open_list(
     probe: &[i32],
     reach: u64,
 ) -> Listed
-    ensures { λ r. ⌜ r ≡ openedOut (openedTold (openingHeld (nearQuery table measure d (now (probe .entry)) reach))) ⌝ }
+    ensures { λ r. ⌜ r ≡ openedOut (openedShown (openingHeld (nearQuery table measure d (now (probe .entry)) reach))) ⌝ }
 {
     let opened = nearby::open_list(table, measure, d, probe, reach);
     list_opened(opened)

@@ -47,12 +47,12 @@ pub extern "C" fn nearby_enter(
     coordinates: &mut [i32],
     nodes: &mut [u64],
     given: &[u32],
-    places: &[i32],
+    points: &[i32],
 ) -> Tabled
     ensures { λ r. ⌜ Promise (λ o. enteredOut (enteredShown o)) putStore
-        (enterCall (lent t (references .entry) (coordinates .entry) (nodes .entry)) (now (given .entry)) (now (places .entry)))
+        (enterCall (lent t (references .entry) (coordinates .entry) (nodes .entry)) (now (given .entry)) (now (points .entry)))
         (lentMemory (references .entry) (coordinates .entry) (nodes .entry)) r (lentMemory (references .exit) (coordinates .exit) (nodes .exit)) ⌝ }
 {
-    let e = nearby::enter(t, references, coordinates, nodes, given, places);
+    let e = nearby::enter(t, references, coordinates, nodes, given, points);
     table_entered(e)
 }

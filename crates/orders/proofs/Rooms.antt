@@ -8,7 +8,7 @@ use lib.IntN.{pos}
 use lib.ListN.{length, take, drop, replicate, length-append, length-drop}
 use lib.Seq.{take-at, drop-at}
 use Rattle.paper.specs.Orders.{Item, Query, queryIn, flat, fronted}
-use Rattle.paper.specs.Fields.{places, inPlaces}
+use Rattle.paper.specs.Fields.{inSlots, queryInSlots}
 use Rattle.paper.specs.Lines.{spoken}
 use Rattle.paper.specs.Outcomes.{gives}
 use Rattle.paper.specs.Ends.{Codec, Listing, fresh, every, sameZ, soundIn, taking}
@@ -97,9 +97,9 @@ module _ (c : Codec) (s : Held) (line : List ℕ) (L : Listing) (e : takingHeld 
       let f : length (fronted (L .items) (s .room)) ≡ length (s .room) = fronted-length (L .items) (s .room) (omega (arith, soundness (roomFor s) L h .roomy)) in
       and-both _ _ (must-test (heldWell (s .list .query)) 2 _ _ e) (rw (moves, f) h)
 
--- a query in its places says what it said
-pub query-placed : (q : Query) → length (q .probe) ≡ q .d → queryIn (inPlaces q) ≡ q
-unfolding inPlaces places
+-- a query in its slots says what it said
+pub query-placed : (q : Query) → length (q .probe) ≡ q .d → queryIn (queryInSlots q) ≡ q
+unfolding queryInSlots inSlots
 query-placed q long =
     let e : take (q .d) (q .probe ++ replicate (8 - q .d) (pos 0)) ≡ q .probe = take-at (q .probe) _ (q .d) long in
     λ i. record { order = q .order; table = q .table; measure = q .measure; d = q .d; probe = e i; reach = q .reach }
@@ -116,5 +116,5 @@ zeros (suc n) = zeros n
 
 -- stands as soundness asks, if its order has lines
 pub opened-well : (q : Query) → spoken (q .order) ≡ true → length (q .probe) ≡ q .d → heldWell (openedAs q .query) ≡ true
-unfolding heldWell unusedZero openedAs inPlaces places
+unfolding heldWell unusedZero openedAs queryInSlots inSlots
 opened-well q s long = and-both _ _ s (rw (drop-at (q .probe) (replicate (8 - q .d) (pos 0)) (q .d) long) (zeros (8 - q .d)))

@@ -16,8 +16,8 @@ use Rattle.paper.specs.Ends.{Answer, Codec, Listing, lastItem, markOf, leads, r
 use Rattle.paper.proofs.Tests.{and-first, and-second, and-both, or-left, or-right}
 use Rattle.paper.proofs.Outcomes.{must-test, must-rest, through}
 use Rattle.orders.proofs.Lists.{All, all-append, every-all, every-true}
-use Rattle.orders.specs.LawfulLines.{AnswerOk, Lawful}
-use Rattle.orders.proofs.Taking.{Took, took, Fits, fits-present, present-after}
+use Rattle.orders.specs.LawfulLines.{AnswerInRange, Lawful}
+use Rattle.orders.proofs.Taking.{Took, took, FitsList, fits-present, present-after}
 use Rattle.paper.specs.Limits.{mostClaims}
 
 last-cons : (x y : Item) (l : List Item) → lastItem (x ∷ y ∷ l) ≡ lastItem (y ∷ l)
@@ -123,7 +123,7 @@ record Joins (L : Listing) (y : Answer) : Type 0 where
   rises : rising (L .query .order) (L .items ++ y .items) ≡ true
   fit : All (λ x. fitting (L .query .reach) (y .snapshot) x ≡ true) (L .items ++ y .items)
 
-joins : (room : ℕ) (L : Listing) (y : Answer) → Soundness room L → Fits L y → Passes y → Joins L y
+joins : (room : ℕ) (L : Listing) (y : Answer) → Soundness room L → FitsList L y → Passes y → Joins L y
 joins room L y s f p = go (L .started) refl
   where
     rises : rising (L .query .order) (y .items) ≡ true
@@ -141,7 +141,7 @@ joins room L y s f p = go (L .started) refl
           fit = all-append _ (L .items) (y .items) (rw (f .snapshot q) (s .fit)) fit;
         }
 
-pub sound-joined : (room : ℕ) (L : Listing) (y : Answer) (K : Listing) → AnswerOk y → y .query .order ≡ L .query .order → soundIn room L ≡ true
+pub sound-joined : (room : ℕ) (L : Listing) (y : Answer) (K : Listing) → AnswerInRange y → y .query .order ≡ L .query .order → soundIn room L ≡ true
     → Took room L y K → soundIn room (joinedTo L y) ≡ true
 unfolding joinedTo startedWell
 sound-joined room L y K ok o e k =

@@ -18,7 +18,7 @@ use Rattle.paper.specs.declared.orders.Place.the-variants.{Start, After}
 use Rattle.paper.specs.Orders.{Query, snapshotOf}
 use Rattle.paper.specs.Outcomes.{gives}
 use Rattle.paper.specs.Ends.{Answer, Listing, lastItem, markOf, presentPlace, sameZ, sameProbe, sameQuery, samePlace, toPresent, pageHolds, joinedTo, taken}
-use Rattle.orders.specs.LawfulLines.{AnswerOk}
+use Rattle.orders.specs.LawfulLines.{AnswerInRange}
 use Rattle.paper.proofs.Tests.{no-way, and-first, and-second, and-both}
 use Rattle.paper.proofs.Outcomes.{must-test, must-rest, same-given}
 
@@ -42,13 +42,13 @@ z-same : (x : ℤ) → sameZ x x ≡ true
 z-same (pos a) = eq-eqb a a refl
 z-same (negsuc a) = eq-eqb a a refl
 
-same-places : (d : ℕ) (p q : List ℤ) → sameProbe d p q ≡ true → (i : ℕ) → i < d → getD p i (pos 0) ≡ getD q i (pos 0)
+same-slots : (d : ℕ) (p q : List ℤ) → sameProbe d p q ≡ true → (i : ℕ) → i < d → getD p i (pos 0) ≡ getD q i (pos 0)
 unfolding sameProbe
-same-places zero p q e i h = absurd (omega arith)
-same-places (suc d) p q e i h =
+same-slots zero p q e i h = absurd (omega arith)
+same-slots (suc d) p q e i h =
     ⊎-elim
     (λ s. rw s (same-z _ _ (and-second (sameProbe d p q) _ e)))
-    (λ s. same-places d p q (and-first (sameProbe d p q) _ e) i s)
+    (λ s. same-slots d p q (and-first (sameProbe d p q) _ e) i s)
     (eq-or-lt-of-le (le-of-suc-le-suc h))
 
 probe-same : (d : ℕ) (p : List ℤ) → sameProbe d p p ≡ true
@@ -69,7 +69,7 @@ same-query q r o lq lr e =
     let e3 = and-second (eqb (q .d) (r .d)) _ e2 in
     let d : q .d ≡ r .d = eqb-true _ _ (and-first _ _ e2) in
     let p : q .probe ≡ r .probe =
-    ext-getD (pos 0) (q .probe) (r .probe) (omega arith) (λ i h. same-places (q .d) (q .probe) (r .probe) (and-first _ _ e3) i (omega arith)) in
+    ext-getD (pos 0) (q .probe) (r .probe) (omega arith) (λ i h. same-slots (q .d) (q .probe) (r .probe) (and-first _ _ e3) i (omega arith)) in
     query-of _ _ _ _ _ _ _ _ _ _ _ _ o (eqb-true _ _ (and-first _ _ e)) (eqb-true _ _ (and-first _ _ e1)) d p
     (eqb-true _ _ (and-second (sameProbe (q .d) (q .probe) (r .probe)) _ e3))
 
@@ -99,7 +99,7 @@ place-same Start = refl
 place-same (After n m) = and-both _ _ (eq-eqb n n refl) (and-both _ _ (eq-eqb (m .distance) (m .distance) refl) (eq-eqb (m .number) (m .number) refl))
 
 -- an answer that 13 lets pass, read under the list's order
-pub record Fits (L : Listing) (y : Answer) : Type 0 where
+pub record FitsList (L : Listing) (y : Answer) : Type 0 where
   pub query : L .query ≡ y .query
   pub place : presentPlace L ≡ y .place
   pub snapshot : L .started ≡ true → y .snapshot ≡ L .snapshot
@@ -107,7 +107,7 @@ pub record Fits (L : Listing) (y : Answer) : Type 0 where
 used-snapshot : (p : Place) (s n : ℕ) (m : Mark) → snapshotOf p s ≡ s → p ≡ After n m → s ≡ n
 used-snapshot p s n m e q = sym e ∙ ap (λ (r : Place). snapshotOf r s) q
 
-pub fits-present : (L : Listing) (y : Answer) → length (L .query .probe) ≡ L .query .d → AnswerOk y → y .query .order ≡ L .query .order → toPresent L y ≡ true → Fits L y
+pub fits-present : (L : Listing) (y : Answer) → length (L .query .probe) ≡ L .query .d → AnswerInRange y → y .query .order ≡ L .query .order → toPresent L y ≡ true → FitsList L y
 unfolding toPresent
 fits-present L y long ok o e =
     let p : presentPlace L ≡ y .place = same-place _ _ (and-second (sameQuery (L .query) (y .query)) _ e) in

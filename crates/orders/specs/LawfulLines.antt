@@ -23,52 +23,52 @@ pub record Typed (q : Query) : Type 0 where
   pub probe : (x : ℤ) → List·Memᴰ x (q .probe) → mag x < 2 ^ 31
 
 -- [1.3] [1.5] a query in range
-pub record QueryOk (q : Query) : Type 0 where
+pub record QueryInRange (q : Query) : Type 0 where
   pub range : inRange (q .measure) (q .d) ≡ true
   pub long : length (q .probe) ≡ q .d
   pub typed : Typed q
 
 -- [5.9] a snapshot and a mark in range
-pub record MarkOk (n : ℕ) (m : Mark) : Type 0 where
+pub record MarkInRange (n : ℕ) (m : Mark) : Type 0 where
   pub snapshot : n ≤ mostClaims
   pub distance : m .distance < 2 ^ 64
   pub number : m .number < mostClaims
 
-abbrev pub PlaceOk : Place → Type 0
-PlaceOk Start = Unit {0}
-PlaceOk (After n m) = MarkOk n m
+abbrev pub PlaceInRange : Place → Type 0
+PlaceInRange Start = Unit {0}
+PlaceInRange (After n m) = MarkInRange n m
 
 -- [4.3] an ask in range
-pub record AskOk (a : Ask) : Type 0 where
-  pub query : QueryOk (a .query)
-  pub place : PlaceOk (a .place)
+pub record AskInRange (a : Ask) : Type 0 where
+  pub query : QueryInRange (a .query)
+  pub place : PlaceInRange (a .place)
   pub one : 1 ≤ a .size
   pub most : a .size ≤ mostPage
 
 -- [1.2] [5.9] an item in range
-pub record ItemOk (x : Item) : Type 0 where
+pub record ItemInRange (x : Item) : Type 0 where
   pub number : x .number < mostClaims
   pub reference : x .reference < 2 ^ 32
   pub distance : x .distance < 2 ^ 64
 
 -- [5.9] [6.4] an answer in range; after the start its snapshot is the place's
-pub record AnswerOk (y : Answer) : Type 0 where
-  pub query : QueryOk (y .query)
-  pub place : PlaceOk (y .place)
+pub record AnswerInRange (y : Answer) : Type 0 where
+  pub query : QueryInRange (y .query)
+  pub place : PlaceInRange (y .place)
   pub snapshot : y .snapshot ≤ mostClaims
   pub used : snapshotOf (y .place) (y .snapshot) ≡ y .snapshot
   pub few : length (y .items) ≤ mostPage
-  pub items : (x : Item) → List·Memᴰ x (y .items) → ItemOk x
+  pub items : (x : Item) → List·Memᴰ x (y .items) → ItemInRange x
 
 -- [5.13] of a codec, for the orders that it has kinds for
 pub record Lawful (c : Codec) : Type 0 where
   -- what was written reads back
-  pub ask-back : (a : Ask) → AskOk a → c .speaks (a .query .order) ≡ true → c .readAsk (c .askLine a) ≡ gives a
-  pub answer-back : (y : Answer) → AnswerOk y → c .speaks (y .query .order) ≡ true → c .readAnswer (y .query .order) (c .answerLine y) ≡ gives y
+  pub ask-back : (a : Ask) → AskInRange a → c .speaks (a .query .order) ≡ true → c .readAsk (c .askLine a) ≡ gives a
+  pub answer-back : (y : Answer) → AnswerInRange y → c .speaks (y .query .order) ≡ true → c .readAnswer (y .query .order) (c .answerLine y) ≡ gives y
   -- what reads is in range, and of an order that has its kinds; an answer, of the order it was read under
-  pub ask-ok : (s : List ℕ) (a : Ask) → c .readAsk s ≡ gives a → AskOk a × (c .speaks (a .query .order) ≡ true)
-  pub answer-ok : (o : Order) (s : List ℕ) (y : Answer) → c .readAnswer o s ≡ gives y → AnswerOk y × (y .query .order ≡ o)
+  pub ask-ok : (s : List ℕ) (a : Ask) → c .readAsk s ≡ gives a → AskInRange a × (c .speaks (a .query .order) ≡ true)
+  pub answer-ok : (o : Order) (s : List ℕ) (y : Answer) → c .readAnswer o s ≡ gives y → AnswerInRange y × (y .query .order ≡ o)
   -- a line reads only as its own kind
-  pub answer-kind : (o : Order) (y z : Answer) → AnswerOk y → c .speaks (y .query .order) ≡ true → c .readAnswer o (c .answerLine y) ≡ gives z
+  pub answer-kind : (o : Order) (y z : Answer) → AnswerInRange y → c .speaks (y .query .order) ≡ true → c .readAnswer o (c .answerLine y) ≡ gives z
       → o ≡ y .query .order
-  pub ask-kind : (o : Order) (a : Ask) (z : Answer) → AskOk a → c .readAnswer o (c .askLine a) ≡ gives z → ⊥
+  pub ask-kind : (o : Order) (a : Ask) (z : Answer) → AskInRange a → c .readAnswer o (c .askLine a) ≡ gives z → ⊥

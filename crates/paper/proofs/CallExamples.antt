@@ -2,19 +2,19 @@
 use mathlib.Core.Path.{refl}
 use Rattle.paper.specs.Points.{measureOf, weigh, joined, distance, greatestOf, inRange, point}
 use Rattle.paper.specs.Orders.{rank, before, insert, itemOf, listed, follows, rest, following, pageOf, lastOf, firstOf, nearestOf, farthestOf, snapshotHolds, markHolds, flat}
-use Rattle.paper.specs.Tree.{cleared, newNode, nearSide, raise, placed, entered, built, apart, claimsFrom, fits, sameFront, afresh, sound}
+use Rattle.paper.specs.Tree.{cleared, newNode, nearSide, raise, enteredFrom, entered, built, apart, claimsFrom, fits, sameFront, afresh, sound}
 use Rattle.paper.specs.Runs.{makeCall, added, addedRun, enterCall}
 use Rattle.paper.specs.Frames.{be, num, glyph, digit, hexes, lineOf, frameOf, pairsEnded}
 use Rattle.paper.specs.Frames as Frames
-use Rattle.paper.specs.Fields.{head, front, coordBytes, coordsIn, places, scopeBytes, scopeIn, scopeOk, item, itemBytes}
+use Rattle.paper.specs.Fields.{head, front, coordBytes, coordsIn, inSlots, scopeBytes, scopeIn, scopeOk, itemFrame, itemBytes}
 use Rattle.paper.specs.Lines.{headOk, behind, queryAt, isAsk, askRanges, askOk, askAt, answerFrame}
 use Rattle.paper.specs.Codec.{scopeOf, placeIn, answerLine, askMeant, readAsk}
-use Rattle.paper.specs.Ends.{matches, answerOf, answerTo, served}
+use Rattle.paper.specs.Ends.{matches, answerOf, answerTo, lineAnswered}
 use Rattle.paper.specs.Calls.{nearestCall, farthestCall, thePage, pageCall, officeCall}
 use Rattle.paper.specs.CallExamples.{LimitsMarked, MakingMarked, EnteringMarked, AskingMarked, OfficeMarked}
 
 pub limits-marked : LimitsMarked
-limits-marked = record { places = refl; claims = refl; page = refl; frame = refl; answer = refl; ask = refl; claim = refl }
+limits-marked = record { coordinates = refl; claims = refl; page = refl; frame = refl; answer = refl; ask = refl; claim = refl }
 
 pub making-marked : MakingMarked
 unfolding makeCall fits inRange
@@ -34,7 +34,7 @@ making-marked =
     }
 
 pub entering-marked : EnteringMarked
-unfolding measureOf weigh joined distance inRange point cleared newNode nearSide raise placed entered built apart fits sameFront afresh sound
+unfolding measureOf weigh joined distance inRange point cleared newNode nearSide raise enteredFrom entered built apart fits sameFront afresh sound
     added addedRun enterCall
 entering-marked =
     record {
@@ -54,7 +54,7 @@ entering-marked =
     }
 
 pub asking-marked : AskingMarked
-unfolding measureOf weigh joined distance greatestOf inRange point cleared newNode nearSide raise placed entered built apart claimsFrom fits sameFront
+unfolding measureOf weigh joined distance greatestOf inRange point cleared newNode nearSide raise enteredFrom entered built apart claimsFrom fits sameFront
     afresh sound rank before insert itemOf listed follows rest following pageOf lastOf firstOf nearestOf farthestOf snapshotHolds markHolds
     nearestCall farthestCall thePage pageCall
 asking-marked =
@@ -89,10 +89,10 @@ asking-marked =
     }
 
 pub office-marked : OfficeMarked
-unfolding measureOf weigh joined distance inRange point cleared newNode nearSide raise placed entered built apart claimsFrom fits sameFront afresh sound
+unfolding measureOf weigh joined distance inRange point cleared newNode nearSide raise enteredFrom entered built apart claimsFrom fits sameFront afresh sound
     rank before insert itemOf listed follows rest following pageOf lastOf snapshotHolds markHolds flat
-    be num glyph digit hexes lineOf frameOf pairsEnded Frames.isLine head front coordBytes coordsIn places scopeBytes scopeIn scopeOk item itemBytes
-    headOk behind queryAt isAsk askRanges askOk askAt answerFrame scopeOf placeIn answerLine askMeant readAsk matches answerOf answerTo served officeCall
+    be num glyph digit hexes lineOf frameOf pairsEnded Frames.isLine head front coordBytes coordsIn inSlots scopeBytes scopeIn scopeOk itemFrame itemBytes
+    headOk behind queryAt isAsk askRanges askOk askAt answerFrame scopeOf placeIn answerLine askMeant readAsk matches answerOf answerTo lineAnswered officeCall
 office-marked =
     record {
       answered = refl;

@@ -2,13 +2,13 @@
 use mathlib.Core.Path.{refl}
 use Rattle.paper.specs.Points.{measureOf, weigh, joined, distance, greatestOf}
 use Rattle.paper.specs.Orders.{rank, before, insert, itemOf, listed, follows, rest, following, pageOf, lastOf, firstOf, nearestOf, farthestOf, snapshotHolds, markHolds}
-use Rattle.paper.specs.Tree.{cleared, newNode, nearSide, raise, placed, entered, built, apart, afresh}
+use Rattle.paper.specs.Tree.{cleared, newNode, nearSide, raise, enteredFrom, entered, built, apart, afresh}
 use Rattle.paper.specs.Ends.{matches, answerOf, answerTo}
-use Rattle.paper.specs.Examples.{coordinatesOf, answered, Marked, MarkedBesides}
+use Rattle.paper.specs.Examples.{coordinatesOf, officePage, Marked, MarkedBesides}
 
 pub marked : Marked
 unfolding measureOf weigh joined distance greatestOf rank before insert itemOf listed follows rest following pageOf lastOf firstOf nearestOf farthestOf
-    snapshotHolds markHolds cleared newNode nearSide raise placed entered built apart afresh matches answerOf answerTo coordinatesOf answered
+    snapshotHolds markHolds cleared newNode nearSide raise enteredFrom entered built apart afresh matches answerOf answerTo coordinatesOf officePage
 marked =
     record {
       a = refl;
@@ -25,5 +25,5 @@ marked =
 
 pub marked-besides : MarkedBesides
 unfolding measureOf weigh joined distance greatestOf rank before insert itemOf listed follows rest following pageOf lastOf snapshotHolds markHolds
-    cleared newNode nearSide raise placed entered built apart afresh matches answerOf answerTo coordinatesOf answered
+    cleared newNode nearSide raise enteredFrom entered built apart afresh matches answerOf answerTo coordinatesOf officePage
 marked-besides = record { tie = refl; ties = (refl, refl); maximum = refl; hamming = refl; widest = refl }

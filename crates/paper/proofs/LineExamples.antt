@@ -3,7 +3,7 @@ use mathlib.Core.Path.{refl}
 use Rattle.paper.specs.Points.{inRange}
 use Rattle.paper.specs.Orders.{rank, before, follows, flat, fronted}
 use Rattle.paper.specs.Frames.{be, num, glyph, digit, hexes, lineOf, frameOf, pairsEnded, isLine}
-use Rattle.paper.specs.Fields.{head, front, coordBytes, coordsIn, places, inPlaces, scopeBytes, scopeIn, scopeOk, item, itemBytes, itemPlaces, numbersOk, referencesOk}
+use Rattle.paper.specs.Fields.{head, front, coordBytes, coordsIn, inSlots, queryInSlots, scopeBytes, scopeIn, scopeOk, itemFrame, itemBytes, itemSlots, numbersOk, referencesOk}
 use Rattle.paper.specs.Fields as Fields
 use Rattle.paper.specs.Lines.{bareLine, reading, headOk, behind, queryAt, queryFits, isAsk, askFrame, askRanges, askFits, askOk, askAt, anAsk, noAsk, readAsAsk, answerFrame, answerRanges, answerFits, countIn, answerOk, answerAt, anAnswer, noAnswer, readAsAnswer, claimFrame, claimFits, claimOk, claimAt, aClaim, noClaim, readAsClaim}
 use Rattle.paper.specs.Codec.{scopeOf, placeIn, askLine, answerMeant, readAnswer}
@@ -13,7 +13,7 @@ use Rattle.paper.specs.LineExamples.{ListsMarked, TakingMarked, LinesMar
 use Rattle.paper.proofs.CallExamples.{limits-marked, making-marked, entering-marked, asking-marked, office-marked}
 
 pub lists-marked : ListsMarked
-unfolding openingHeld opening openedAs inPlaces places inRange unusedZero heldWell every itemsIn listing soundIn rising startedWell rank before presentPlace asking askingHeld
+unfolding openingHeld opening openedAs queryInSlots inSlots inRange unusedZero heldWell every itemsIn listing soundIn rising startedWell rank before presentPlace asking askingHeld
     be glyph hexes lineOf head front coordBytes scopeBytes askFrame scopeOf askLine
 lists-marked =
     record {
@@ -36,8 +36,8 @@ lists-marked =
 
 pub taking-marked : TakingMarked
 unfolding inRange unusedZero heldWell every itemsIn listing soundIn rising startedWell rank before presentPlace follows sameProbe sameQuery samePlace toPresent pageHolds
-    joinedTo taken taking takingHeld flat fronted heldAfter be num glyph digit hexes lineOf frameOf pairsEnded isLine coordsIn places scopeIn scopeOk
-    Fields.itemNumbers itemPlaces numbersOk headOk behind answerRanges queryAt countIn answerOk answerAt placeIn answerMeant readAnswer
+    joinedTo taken taking takingHeld flat fronted heldAfter be num glyph digit hexes lineOf frameOf pairsEnded isLine coordsIn inSlots scopeIn scopeOk
+    Fields.itemNumbers itemSlots numbersOk headOk behind answerRanges queryAt countIn answerOk answerAt placeIn answerMeant readAnswer
 taking-marked =
     record {
       first = refl;
@@ -64,8 +64,8 @@ taking-marked =
     }
 
 pub lines-marked : LinesMarked
-unfolding inRange be num glyph digit hexes lineOf frameOf pairsEnded isLine head front coordBytes coordsIn places scopeBytes scopeIn scopeOk item itemBytes
-    Fields.itemNumbers itemPlaces numbersOk referencesOk bareLine reading headOk behind queryAt queryFits isAsk askFrame askRanges askFits askOk askAt anAsk noAsk readAsAsk
+unfolding inRange be num glyph digit hexes lineOf frameOf pairsEnded isLine head front coordBytes coordsIn inSlots scopeBytes scopeIn scopeOk itemFrame itemBytes
+    Fields.itemNumbers itemSlots numbersOk referencesOk bareLine reading headOk behind queryAt queryFits isAsk askFrame askRanges askFits askOk askAt anAsk noAsk readAsAsk
     answerFrame answerRanges answerFits countIn answerOk answerAt anAnswer noAnswer readAsAnswer claimFrame claimFits claimOk claimAt aClaim noClaim readAsClaim
 lines-marked =
     record {

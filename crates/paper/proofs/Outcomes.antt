@@ -38,11 +38,11 @@ pub number-is : {A : Type 0} (x : Outcome A) (n : ℕ) → n ≡ number x → (n
 number-is (refused m) n e h = ap refused (sym e)
 number-is (gives a) n e h = absurd (h e)
 
--- Two calls that begin with the same tests: y ends behind them, and x goes on with z. One `behind` for each test gives the premise of
+-- Two calls that begin with the same tests: y ends behind them, and x goes on with z. One `must-behind` for each test gives the premise of
 -- `stops`: x is refused where y is.
-pub behind : {A B : Type 0} (b : Bool) (n : ℕ) (x z : Outcome A) (y : Outcome B) → x ≡ onto y (λ u. z) → must b n x ≡ onto (must b n y) (λ u. z)
-behind true n x z y p = p
-behind false n x z y p = refl
+pub must-behind : {A B : Type 0} (b : Bool) (n : ℕ) (x z : Outcome A) (y : Outcome B) → x ≡ onto y (λ u. z) → must b n x ≡ onto (must b n y) (λ u. z)
+must-behind true n x z y p = p
+must-behind false n x z y p = refl
 
 pub stops : {A B : Type 0} (x z : Outcome A) (y : Outcome B) → x ≡ onto y (λ u. z) → (n : ℕ) → n ≡ number y → (n ≡ 0 → ⊥) → x ≡ refused n
 stops x z y p n e h = p ∙ ap (λ v. onto v (λ u. z)) (number-is y n e h)

@@ -6,7 +6,7 @@ use Rattle.paper.specs.Points.{measureOf, weigh, joined, distance, inRan
 use Rattle.paper.specs.Orders.{rank, before, insert, itemOf, listed, follows, rest, snapshotHolds, following, pageOf, lastOf, markHolds, flat}
 use Rattle.paper.specs.Frames.{be, num, glyph, digit, hexes, lineOf, frameOf, isLine}
 use Rattle.paper.specs.Frames as Frames
-use Rattle.paper.specs.Fields.{head, coordBytes, coordsIn, places, scopeBytes, front, scopeIn, scopeOk, item, itemBytes}
+use Rattle.paper.specs.Fields.{head, coordBytes, coordsIn, inSlots, scopeBytes, front, scopeIn, scopeOk, itemFrame, itemBytes}
 use Rattle.paper.specs.Lines.{headOk, behind, queryAt, isAsk, askRanges, askOk, askAt, answerFrame, claimOk, claimAt}
 use Rattle.paper.specs.Ends.{matches, answerOf, answerTo}
 use Rattle.paper.specs.Codec.{placeIn, scopeOf, askMeant, answerLine}
@@ -52,5 +52,5 @@ answer =
     48 ∷ 48 ∷ 48 ∷ 48 ∷ 48 ∷ 48 ∷ 48 ∷ 48 ∷ 48 ∷ 48 ∷ 48 ∷ 48 ∷ 48 ∷ 48 ∷ 48 ∷ 49 ∷ 10 ∷ []
 
 pub example : program (claim2 ++ (claim3 ++ (claim9 ++ (claim6 ++ (claim5 ++ ask))))) ≡ answer
-unfolding program officeStart inputDone fed byte lineDone lineTurn frameTurn askTurn claimTurn reply replyTo claimEntering withClaim claimIn ours tableFor answerLine askMeant scopeOf placeIn answerTo answerOf matches claimAt claimOk answerFrame askAt askOk askRanges behind headOk queryAt isAsk itemBytes item scopeOk scopeIn front scopeBytes places coordsIn coordBytes inRange head isLine frameOf lineOf hexes digit glyph num be Frames.pairsEnded flat markHolds lastOf pageOf following snapshotHolds rest follows listed itemOf insert before rank distance joined weigh measureOf
+unfolding program officeStart inputDone fed byte lineDone lineTurn frameTurn askTurn claimTurn reply replyTo claimEntering withClaim claimIn ours tableFor answerLine askMeant scopeOf placeIn answerTo answerOf matches claimAt claimOk answerFrame askAt askOk askRanges behind headOk queryAt isAsk itemBytes itemFrame scopeOk scopeIn front scopeBytes inSlots coordsIn coordBytes inRange head isLine frameOf lineOf hexes digit glyph num be Frames.pairsEnded flat markHolds lastOf pageOf following snapshotHolds rest follows listed itemOf insert before rank distance joined weigh measureOf
 example = refl

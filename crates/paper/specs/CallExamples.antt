@@ -10,13 +10,13 @@ use Rattle.paper.specs.declared.orders.Order.the-variants.{Near, Far}
 use Rattle.paper.specs.declared.orders.Place.{Place}
 use Rattle.paper.specs.declared.orders.Place.the-variants.{Start}
 use Rattle.paper.specs.declared.tables.Table.{Table}
-use Rattle.paper.specs.Limits.{mostPlaces, mostClaims, mostPage, longestFrame, longestAnswer, longestAsk, longestClaim}
+use Rattle.paper.specs.Limits.{mostCoordinates, mostClaims, mostPage, longestFrame, longestAnswer, longestAsk, longestClaim}
 use Rattle.paper.specs.Orders.{nothing, found}
 use Rattle.paper.specs.Tree.{Store, store}
 use Rattle.paper.specs.Outcomes.{Outcome, refused, gives, number}
 use Rattle.paper.specs.Frames.{lineOf}
 use Rattle.paper.specs.Runs.{makeCall, enterCall}
-use Rattle.paper.specs.Calls.{onTable, nearestCall, farthestCall, PageOf, pageCall, officeCall}
+use Rattle.paper.specs.Calls.{onTable, nearestCall, farthestCall, ThePage, pageCall, officeCall}
 use Rattle.paper.specs.Examples.{item, after}
 use Rattle.paper.specs.EndExamples.{sampleAsk, sampleAnswer}
 
@@ -76,7 +76,7 @@ four = pos 4 ∷ []
 abbrev pub wide : List ℤ
 wide = pos 4 ∷ pos 4 ∷ []
 
-abbrev pub pageAt : Store → List ℤ → Place → ℕ → ℕ → Outcome PageOf
+abbrev pub pageAt : Store → List ℤ → Place → ℕ → ℕ → Outcome ThePage
 pageAt s probe place size room = pageCall s Near probe 5 place size room
 
 -- the bytes of an ask, by its kind, table, from, snapshot, mark distance, mark number and page size
@@ -85,8 +85,8 @@ askBytes kind table from snapshot distance number size =
     (kind ∷ 0 ∷ 0 ∷ 0 ∷ table ∷ 1 ∷ 1 ∷ 0 ∷ 0 ∷ 0 ∷ 4 ∷ 0 ∷ 0 ∷ 0 ∷ 0 ∷ 0 ∷ 0 ∷ 0 ∷ 5 ∷ from ∷ 0 ∷ snapshot ∷ [])
     ++ (0 ∷ 0 ∷ 0 ∷ 0 ∷ 0 ∷ 0 ∷ 0 ∷ distance ∷ 0 ∷ number ∷ size ∷ [])
 
-abbrev pub asks : ℕ → ℕ → ℕ → ℕ → ℕ → ℕ → ℕ → List ℕ
-asks kind table from snapshot distance number size = lineOf (askBytes kind table from snapshot distance number size)
+abbrev pub askWith : ℕ → ℕ → ℕ → ℕ → ℕ → ℕ → ℕ → List ℕ
+askWith kind table from snapshot distance number size = lineOf (askBytes kind table from snapshot distance number size)
 
 -- no even run of digits, and no end
 abbrev pub noLine : List ℕ
@@ -102,7 +102,7 @@ tooMany = mostPage + 1
 -- ---- [5.11] the limits, as numbers
 
 pub record LimitsMarked : Type 0 where
-  pub places : mostPlaces ≡ 8
+  pub coordinates : mostCoordinates ≡ 8
   pub claims : mostClaims ≡ 4096
   pub page : mostPage ≡ 16
   pub frame : longestFrame ≡ 286
@@ -193,15 +193,15 @@ pub record OfficeMarked : Type 0 where
   pub answered : officeAt five sampleAsk ≡ gives sampleAnswer
   pub room12 : officeCall five (longestAnswer - 1) sampleAsk ≡ refused 12
   pub line9 : officeAt five noLine ≡ refused 9
-  pub kind10 : officeAt five (asks 2 7 0 0 0 0 2) ≡ refused 10
-  pub table11 : officeAt five (asks 1 8 0 0 0 0 2) ≡ refused 11
-  pub snapshot7 : officeAt five (asks 1 7 1 6 1 4 2) ≡ refused 7
-  pub mark8 : officeAt five (asks 1 7 1 5 2 4 2) ≡ refused 8
+  pub kind10 : officeAt five (askWith 2 7 0 0 0 0 2) ≡ refused 10
+  pub table11 : officeAt five (askWith 1 8 0 0 0 0 2) ≡ refused 11
+  pub snapshot7 : officeAt five (askWith 1 7 1 6 1 4 2) ≡ refused 7
+  pub mark8 : officeAt five (askWith 1 7 1 5 2 4 2) ≡ refused 8
   -- of two the earlier
   pub first12 : officeCall short (longestAnswer - 1) sampleAsk ≡ refused 12
   pub first1 : officeAt short sampleAsk ≡ refused 1
   pub first2 : officeAt changed noLine ≡ refused 2
   pub first9 : officeAt five (askBytes 2 7 0 0 0 0 2) ≡ refused 9
-  pub first10 : officeAt five (asks 1 8 0 0 0 0 tooMany) ≡ refused 10
-  pub first11 : officeAt five (asks 1 8 1 6 1 4 2) ≡ refused 11
-  pub first7 : officeAt five (asks 1 7 1 6 2 4 2) ≡ refused 7
+  pub first10 : officeAt five (askWith 1 8 0 0 0 0 tooMany) ≡ refused 10
+  pub first11 : officeAt five (askWith 1 8 1 6 1 4 2) ≡ refused 11
+  pub first7 : officeAt five (askWith 1 7 1 6 2 4 2) ≡ refused 7

@@ -15,7 +15,7 @@ use Rattle.paper.specs.declared.tables.Table.{Table}
 use Rattle.paper.specs.Orders.{Item, Query, Found, foundShown, following, pageOf, lastOf, nearestOf, farthestOf, snapshotHolds, markHolds, fronted}
 use Rattle.paper.specs.Outcomes.{Outcome, refused, gives, must, number}
 use Rattle.paper.specs.Tree.{Store, claimsIn, fits, sound}
-use Rattle.paper.specs.Ends.{tableOf, served, answerRoom, sizeHolds}
+use Rattle.paper.specs.Ends.{tableOf, lineAnswered, answerRoom, sizeHolds}
 use Rattle.paper.specs.Codec.{lines}
 
 -- what is asked of a table: its own number, measure and d
@@ -49,16 +49,16 @@ nearestShown (refused n) = Answers.the-variants.Refused n
 nearestShown (gives f) = Answers.the-variants.Answer (foundShown f)
 
 -- [4.6] [4.7] a page: its items, and whether it is the last
-pub record PageOf : Type 0 where
+pub record ThePage : Type 0 where
   pub items : List Item
   pub last : Bool
 
-unfoldable pub thePage : Query → Store → Place → ℕ → PageOf
+unfoldable pub thePage : Query → Store → Place → ℕ → ThePage
 thePage q s place size =
     record { items = pageOf q (claimsIn s) place size; last = lastOf size (following q (claimsIn s) place) }
 
 -- [9.8] [8.12] a page, in a room of so many numbers: 12 where it is too short for a page of that size
-unfoldable pub pageCall : Store → Order → List ℤ → ℕ → Place → ℕ → ℕ → Outcome PageOf
+unfoldable pub pageCall : Store → Order → List ℤ → ℕ → Place → ℕ → ℕ → Outcome ThePage
 pageCall s order probe reach place size room =
     aimed s probe
     (must (sizeHolds size) 6
@@ -68,13 +68,13 @@ pageCall s order probe reach place size room =
     (gives (thePage (tableQuery (s .table) order probe reach) s place size))))))
 
 -- [4.8] how its outcome is shown, and what it makes of the room: the items stand at its front, and what lies behind them is kept
-abbrev pub pageShown : Outcome PageOf → Pages.Page
+abbrev pub pageShown : Outcome ThePage → Pages.Page
 pageShown (refused n) = Pages.the-variants.Refused n
 pageShown (gives p) = Pages.the-variants.Filled (record { count = length (p .items); last = p .last })
 
-abbrev pub putPage : PageOf → List ℕ → List ℕ
+abbrev pub putPage : ThePage → List ℕ → List ℕ
 putPage p room = fronted (p .items) room
 
 -- [9.10] the office's answer to a line, in an output room of so many characters: 12 comes before the tests of the table
 unfoldable pub officeCall : Store → ℕ → List ℕ → Outcome (List ℕ)
-officeCall s out line = must (answerRoom out) 12 (onTable s (served lines (tableOf s) line))
+officeCall s out line = must (answerRoom out) 12 (onTable s (lineAnswered lines (tableOf s) line))

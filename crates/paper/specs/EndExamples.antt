@@ -13,16 +13,16 @@ use Rattle.paper.specs.Limits.{longestAnswer}
 use Rattle.paper.specs.Examples.{claim, five, six, query, table, item}
 
 -- the answer to a list's present ask, taken into the list, in a room for so many items
-abbrev pub takes : ℕ → Listing → Outcome Answer → Outcome Listing
-takes room L (refused n) = refused n
-takes room L (gives y) = taken room L y
+abbrev pub takesReply : ℕ → Listing → Outcome Answer → Outcome Listing
+takesReply room L (refused n) = refused n
+takesReply room L (gives y) = taken room L y
 
 abbrev pub replies : List Claim → Listing → ℕ → Outcome Answer
 replies claims L size = answerTo (table claims) (presentAsk L size)
 
 -- the list after its first page of 2
-abbrev pub begun : Listing
-begun =
+abbrev pub listAfterFirst : Listing
+listAfterFirst =
     record {
       query = query 5;
       started = true;
@@ -32,8 +32,8 @@ begun =
     }
 
 -- and when all five are in it
-abbrev pub ended : Listing
-ended =
+abbrev pub listAfterAll : Listing
+listAfterAll =
     record {
       query = query 5;
       started = true;
@@ -52,14 +52,14 @@ sampleAnswer = lineOf (2 ∷ 0 ∷ 0 ∷ 0 ∷ 7 ∷ 1 ∷ 1 ∷ 0 ∷ 0 ∷ 0 �
 
 pub record EndsMarked : Type 0 where
   -- [7.7] [7.8] the first page is taken, and so is the next one
-  pub first : takes 5 (fresh (query 5)) (replies five (fresh (query 5)) 2) ≡ gives begun
-  pub then : takes 5 begun (replies five begun 4) ≡ gives ended
+  pub first : takesReply 5 (fresh (query 5)) (replies five (fresh (query 5)) 2) ≡ gives listAfterFirst
+  pub then : takesReply 5 listAfterFirst (replies five listAfterFirst 4) ≡ gives listAfterAll
   -- [4.5] a claim that was entered after the first page, at distance 2, is in none of the later ones
-  pub still : takes 5 begun (replies (five ++ (claim 106 6 ∷ [])) begun 4) ≡ gives ended
+  pub still : takesReply 5 listAfterFirst (replies (five ++ (claim 106 6 ∷ [])) listAfterFirst 4) ≡ gives listAfterAll
   -- [7.5] [8.13] an answer from the start that comes late, with another snapshot
-  pub late : takes 5 begun (replies six (fresh (query 5)) 2) ≡ refused 13
+  pub late : takesReply 5 listAfterFirst (replies six (fresh (query 5)) 2) ≡ refused 13
   -- [8.15] [8.16] a room that the page does not fit; a list that is complete, before anything else
-  pub small : takes 4 begun (replies five begun 4) ≡ refused 15
-  pub over : takes 9 ended (replies five (fresh (query 5)) 2) ≡ refused 16
+  pub small : takesReply 4 listAfterFirst (replies five listAfterFirst 4) ≡ refused 15
+  pub over : takesReply 9 listAfterAll (replies five (fresh (query 5)) 2) ≡ refused 16
   -- [6.1] the ask line is answered by the answer line
   pub sample : office lines (table five) longestAnswer sampleAsk ≡ gives sampleAnswer

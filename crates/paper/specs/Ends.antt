@@ -88,8 +88,8 @@ answerTo t a =
     (gives (answerOf t a))))
 
 -- [6.1] [9.10] the answer line to an ask line, by that line and the table alone
-unfoldable pub served : Codec → Table → List ℕ → Outcome (List ℕ)
-served c t line = onto (c .readAsk line) (λ a. onto (answerTo t a) (λ y. gives (c .answerLine y)))
+unfoldable pub lineAnswered : Codec → Table → List ℕ → Outcome (List ℕ)
+lineAnswered c t line = onto (c .readAsk line) (λ a. onto (answerTo t a) (λ y. gives (c .answerLine y)))
 
 -- [8.12] room for the longest answer. Between 12 and 9 a call on lent memory has its 1 and 2.
 abbrev pub answerRoom : ℕ → Bool
@@ -97,7 +97,7 @@ answerRoom out = leb longestAnswer out
 
 -- [9.10] the same in an output room of so many characters
 unfoldable pub office : Codec → Table → ℕ → List ℕ → Outcome (List ℕ)
-office c t out line = must (answerRoom out) 12 (served c t line)
+office c t out line = must (answerRoom out) 12 (lineAnswered c t line)
 
 -- ---- the tablet
 
@@ -157,7 +157,7 @@ startedWell L =
     (leb 1 (length (L .items)) || L .complete)
     (eqb (length (L .items)) 0 && (eqb (L .snapshot) 0 && not (L .complete)))
 
--- [7.9] [7.10] [7.11] [8.2] a sound list. Here `room` is in items, and the probe has its d places alone.
+-- [7.9] [7.10] [7.11] [8.2] a sound list. Here `room` is in items, and the probe has its d slots alone.
 unfoldable pub soundIn : ℕ → Listing → Bool
 soundIn room L =
     inRange (L .query .measure) (L .query .d)

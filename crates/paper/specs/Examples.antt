@@ -19,7 +19,7 @@ use Rattle.paper.specs.Limits.{officeClaims}
 
 -- five claims on a line, with references 101 to 105
 abbrev pub claim : ℕ → ℕ → Claim
-claim reference x = record { reference = reference; place = pos x ∷ [] }
+claim reference x = record { reference = reference; point = pos x ∷ [] }
 
 abbrev pub five : List Claim
 five = claim 101 2 ∷ claim 102 3 ∷ claim 103 9 ∷ claim 104 6 ∷ claim 105 5 ∷ []
@@ -42,7 +42,7 @@ item number reference distance = record { number = number; reference = reference
 -- how far two of some claims are apart, their coordinates standing one after another
 unfoldable pub coordinatesOf : List Claim → List ℤ
 coordinatesOf [] = []
-coordinatesOf (c ∷ l) = c .place ++ coordinatesOf l
+coordinatesOf (c ∷ l) = c .point ++ coordinatesOf l
 
 abbrev pub apartOf : List Claim → ℕ → ℕ → ℕ
 apartOf claims = apart 1 1 (coordinatesOf claims)
@@ -63,8 +63,8 @@ abbrev pub shown : Outcome Answer → Outcome Page
 shown (refused n) = refused n
 shown (gives y) = gives (page (map (λ x. x .number) (y .items)) (y .last))
 
-unfoldable pub answered : List Claim → Place → ℕ → Outcome Page
-answered claims place size = shown (answerTo (table claims) (record { query = query 5; place = place; size = size }))
+unfoldable pub officePage : List Claim → Place → ℕ → Outcome Page
+officePage claims place size = shown (answerTo (table claims) (record { query = query 5; place = place; size = size }))
 
 -- examples a to j
 pub record Marked : Type 0 where
@@ -83,19 +83,19 @@ pub record Marked : Type 0 where
   -- [2.4] [4.1] no claim is at the probe; one at the reach itself is found
   pub d : (nearestOf (query 0) five ≡ nothing) × (nearestOf (query 1) five ≡ found (item 1 102 1))
   -- [4.6] [4.7] three pages, of which the last has one item
-  pub e : (answered five Start 2 ≡ gives (page (1 ∷ 4 ∷ []) false))
-      × (answered five (after 5 1 4) 2 ≡ gives (page (0 ∷ 3 ∷ []) false))
-      × (answered five (after 5 2 3) 2 ≡ gives (page (2 ∷ []) true))
+  pub e : (officePage five Start 2 ≡ gives (page (1 ∷ 4 ∷ []) false))
+      × (officePage five (after 5 1 4) 2 ≡ gives (page (0 ∷ 3 ∷ []) false))
+      × (officePage five (after 5 2 3) 2 ≡ gives (page (2 ∷ []) true))
   -- [4.5] what is entered after the first page is on none of the others
-  pub f : (answered six (after 5 1 4) 2 ≡ gives (page (0 ∷ 3 ∷ []) false)) × (answered six (after 5 2 3) 2 ≡ gives (page (2 ∷ []) true))
+  pub f : (officePage six (after 5 1 4) 2 ≡ gives (page (0 ∷ 3 ∷ []) false)) × (officePage six (after 5 2 3) 2 ≡ gives (page (2 ∷ []) true))
   -- [8.8] claim 4 is not at distance 2
-  pub g : answered five (after 5 2 4) 2 ≡ refused 8
+  pub g : officePage five (after 5 2 4) 2 ≡ refused 8
   -- [8.7] the sixth claim is not there
-  pub h : answered five (after 6 1 4) 2 ≡ refused 7
+  pub h : officePage five (after 6 1 4) 2 ≡ refused 7
   -- [1.5] the least and the greatest coordinate
   pub i : distance CityBlock 1 (negsuc 2147483647 ∷ []) (pos 2147483647 ∷ []) ≡ 4294967295
   -- [4.7] a full page is not the last, even where nothing is left
-  pub j : (answered five Start 5 ≡ gives (page (1 ∷ 4 ∷ 0 ∷ 3 ∷ 2 ∷ []) false)) × (answered five (after 5 5 2) 5 ≡ gives (page [] true))
+  pub j : (officePage five Start 5 ≡ gives (page (1 ∷ 4 ∷ 0 ∷ 3 ∷ 2 ∷ []) false)) × (officePage five (after 5 5 2) 5 ≡ gives (page [] true))
 
 pub record MarkedBesides : Type 0 where
   -- [3.8] the left of two as near: a claim at 1 beside 0 and 2
@@ -106,7 +106,7 @@ pub record MarkedBesides : Type 0 where
       ++ replicate 6 0))
       2
   -- [2.7] e again, in pages of 1: its pages of 2 end where its ties end, so a mark of distance alone would pass there
-  pub ties : (answered five Start 1 ≡ gives (page (1 ∷ []) false)) × (answered five (after 5 1 1) 1 ≡ gives (page (4 ∷ []) false))
+  pub ties : (officePage five Start 1 ≡ gives (page (1 ∷ []) false)) × (officePage five (after 5 1 1) 1 ≡ gives (page (4 ∷ []) false))
   -- [1.7] [1.8] the first coordinate differs most; two are not the same
   pub maximum : distance Maximum 3 (pos 1 ∷ pos 2 ∷ pos 3 ∷ []) (pos 4 ∷ pos 4 ∷ pos 4 ∷ []) ≡ 3
   pub hamming : distance Hamming 3 (pos 1 ∷ pos 2 ∷ pos 3 ∷ []) (pos 1 ∷ pos 3 ∷ pos 2 ∷ []) ≡ 2

@@ -11,7 +11,7 @@ use Rattle.paper.specs.Frames.{be, num}
 use Rattle.paper.specs.declared.lines.Scope.{Scope}
 use Rattle.paper.specs.declared.queries.Query as queries
 use Rattle.paper.specs.Orders.{Query}
-use Rattle.paper.specs.Limits.{itemRoom, mostClaims, mostNumber, mostPlaces}
+use Rattle.paper.specs.Limits.{itemRoom, mostClaims, mostNumber, mostCoordinates}
 
 -- [5.4] the head of a frame: kind, table number, measure, d
 unfoldable pub head : ℕ → ℕ → ℕ → ℕ → List ℕ
@@ -27,19 +27,19 @@ unfoldable pub coordsIn : ℕ → List ℕ → List ℤ
 coordsIn zero f = []
 coordsIn (suc d) f = toZ w32 (num 4 f) ∷ coordsIn d (drop 4 f)
 
--- [5.14] [7.3] d coordinates in eight places, the unused ones 0
-unfoldable pub places : ℕ → List ℤ → List ℤ
-places d zs = zs ++ replicate (mostPlaces - d) (pos 0)
+-- [5.14] [7.3] d coordinates in eight slots, the unused ones 0
+unfoldable pub inSlots : ℕ → List ℤ → List ℤ
+inSlots d zs = zs ++ replicate (mostCoordinates - d) (pos 0)
 
--- [7.3] a query as code holds it, its probe's unused places 0
-unfoldable pub inPlaces : Query → queries.Query
-inPlaces q =
+-- [7.3] a query as code holds it, its probe's unused slots 0
+unfoldable pub queryInSlots : Query → queries.Query
+queryInSlots q =
     record {
       order = q .order;
       table = q .table;
       measure = q .measure;
       d = q .d;
-      probe = places (q .d) (q .probe);
+      probe = inSlots (q .d) (q .probe);
       reach = q .reach;
     }
 
@@ -67,15 +67,15 @@ abbrev pub flagOf : Bool → ℕ
 flagOf b = cond b 1 0
 
 -- [5.6] an item's number, reference and distance
-unfoldable pub item : ℕ → ℕ → ℕ → List ℕ
-item n r x = be 2 n ++ (be 4 r ++ be 8 x)
+unfoldable pub itemFrame : ℕ → ℕ → ℕ → List ℕ
+itemFrame n r x = be 2 n ++ (be 4 r ++ be 8 x)
 
 -- [5.6] [2.6] items, from three numbers for each
 unfoldable pub itemBytes : List ℕ → List ℕ
 itemBytes [] = []
 itemBytes (n ∷ []) = []
 itemBytes (n ∷ r ∷ []) = []
-itemBytes (n ∷ r ∷ x ∷ rest) = item n r x ++ itemBytes rest
+itemBytes (n ∷ r ∷ x ∷ rest) = itemFrame n r x ++ itemBytes rest
 
 -- [5.6] the k items at the front of a frame
 unfoldable pub itemNumbers : ℕ → List ℕ → List ℕ
@@ -83,8 +83,8 @@ itemNumbers zero f = []
 itemNumbers (suc k) f = num 2 f ∷ num 4 (drop 2 f) ∷ num 8 (drop 6 f) ∷ itemNumbers k (drop 14 f)
 
 -- [5.14] k items in room for sixteen, the unused ones 0
-unfoldable pub itemPlaces : ℕ → List ℕ → List ℕ
-itemPlaces k ns = ns ++ replicate (itemRoom - 3 * k) 0
+unfoldable pub itemSlots : ℕ → List ℕ → List ℕ
+itemSlots k ns = ns ++ replicate (itemRoom - 3 * k) 0
 
 -- [5.9] the numbers of items are in their range
 unfoldable pub numbersOk : List ℕ → Bool

@@ -3,8 +3,8 @@
 use Prim.Native.Nat.{ℕ, _+_, _-_, _*_}
 
 -- [1.3] coordinates of a point
-abbrev pub mostPlaces : ℕ
-mostPlaces = 8
+abbrev pub mostCoordinates : ℕ
+mostCoordinates = 8
 
 -- [3.1] [5.9] claims of a table; a snapshot counts no more
 abbrev pub mostClaims : ℕ
@@ -35,24 +35,24 @@ scratchNodes = 6 * mostClaims
 
 -- [5.6] [5.11] bytes of the longest frame, an answer's
 abbrev pub longestFrame : ℕ
-longestFrame = 30 + 4 * mostPlaces + 14 * mostPage
+longestFrame = 30 + 4 * mostCoordinates + 14 * mostPage
 
 -- [5.1] [5.11] characters of the longest line of each kind: two for each byte, and one for the line's end
 abbrev pub longestAnswer : ℕ
 longestAnswer = 2 * longestFrame + 1
 
 abbrev pub longestAsk : ℕ
-longestAsk = 2 * (29 + 4 * mostPlaces) + 1
+longestAsk = 2 * (29 + 4 * mostCoordinates) + 1
 
 abbrev pub longestClaim : ℕ
-longestClaim = 2 * (11 + 4 * mostPlaces) + 1
+longestClaim = 2 * (11 + 4 * mostCoordinates) + 1
 
 -- [10.1] the office program's table: claims, coordinates, numbers of nodes
 abbrev pub officeClaims : ℕ
 officeClaims = 1024
 
-abbrev pub officePlaces : ℕ
-officePlaces = mostPlaces * officeClaims
+abbrev pub officeCoordinates : ℕ
+officeCoordinates = mostCoordinates * officeClaims
 
 abbrev pub officeNodes : ℕ
 officeNodes = 6 * officeClaims

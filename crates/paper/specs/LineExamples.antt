@@ -23,7 +23,7 @@ use Rattle.paper.specs.Lines.{putLine, bareLine, askFits, askFrame, anAs
 use Rattle.paper.specs.Codec.{lines}
 use Rattle.paper.specs.Limits.{itemRoom, longestAsk, longestAnswer, longestClaim}
 use Rattle.paper.specs.EndExamples.{sampleAsk, sampleAnswer}
-use Rattle.paper.specs.CallExamples.{four, wide, noLine, askBytes, asks, tooMany, LimitsMarked, MakingMarked, EnteringMarked, AskingMarked, OfficeMarked}
+use Rattle.paper.specs.CallExamples.{four, wide, noLine, askBytes, askWith, tooMany, LimitsMarked, MakingMarked, EnteringMarked, AskingMarked, OfficeMarked}
 
 -- ---- lists
 
@@ -33,7 +33,7 @@ opensIn order measure d probe = record { order = order; table = 7; measure = mea
 abbrev pub opens : ℕ → ℕ → List ℤ → Query
 opens = opensIn Near
 
--- probe 4 in eight places, the next one as given
+-- probe 4 in eight slots, the next one as given
 abbrev pub probe : ℕ → List ℤ
 probe next = pos 4 ∷ pos next ∷ replicate 6 (pos 0)
 
@@ -62,8 +62,8 @@ abbrev pub openedIn : List ℕ → Held
 openedIn room = held (listOf 0 false 0 0 false) room
 
 -- after the first page of 2, and complete after it; room for four items
-abbrev pub begun : Held
-begun = held (listOf 0 true 5 2 false) (pageRoom 6)
+abbrev pub heldAfterFirst : Held
+heldAfterFirst = held (listOf 0 true 5 2 false) (pageRoom 6)
 
 abbrev pub whole : Held
 whole = held (listOf 0 true 5 2 true) (pageRoom 6)
@@ -83,12 +83,12 @@ far = held (listIn Far 0 false 0 0 false) []
 abbrev pub asked : Held → ℕ → ℕ → Outcome (List ℕ)
 asked s size out = askingHeld lines s size out
 
-abbrev pub took : Held → List ℕ → Outcome Listing
-took s line = takingHeld lines s line
+abbrev pub takenFrom : Held → List ℕ → Outcome Listing
+takenFrom s line = takingHeld lines s line
 
 -- the number that taking gives back, and what is held afterwards
-abbrev pub takes : Held → List ℕ → ℕ × Held
-takes s line = (number (took s line), heldAfter s (took s line))
+abbrev pub takesLine : Held → List ℕ → ℕ × Held
+takesLine s line = (number (takenFrom s line), heldAfter s (takenFrom s line))
 
 -- ---- lines
 
@@ -160,46 +160,46 @@ pub record ListsMarked : Type 0 where
   pub openFirst1 : openingHeld (opens 1 9 four) ≡ refused 1
   -- from the start, and then after the last item
   pub fresh : asked (openedIn []) 2 longestAsk ≡ gives sampleAsk
-  pub later : asked begun 2 longestAsk ≡ gives (asks 1 7 1 5 1 4 2)
+  pub later : asked heldAfterFirst 2 longestAsk ≡ gives (askWith 1 7 1 5 1 4 2)
   pub falling2 : asked falling 2 longestAsk ≡ refused 2
   pub far2 : asked far 2 longestAsk ≡ refused 2
   pub whole16 : asked whole 2 longestAsk ≡ refused 16
-  pub size0 : asked begun 0 longestAsk ≡ refused 6
-  pub sizeOver : asked begun tooMany longestAsk ≡ refused 6
-  pub room12 : asked begun 2 (longestAsk - 1) ≡ refused 12
+  pub size0 : asked heldAfterFirst 0 longestAsk ≡ refused 6
+  pub sizeOver : asked heldAfterFirst tooMany longestAsk ≡ refused 6
+  pub room12 : asked heldAfterFirst 2 (longestAsk - 1) ≡ refused 12
   -- of two the earlier
   pub first2 : asked spoiled 2 longestAsk ≡ refused 2
   pub first16 : asked whole 0 longestAsk ≡ refused 16
-  pub first6 : asked begun 0 (longestAsk - 1) ≡ refused 6
+  pub first6 : asked heldAfterFirst 0 (longestAsk - 1) ≡ refused 6
 
 -- ---- [9.13] taking
 
 pub record TakingMarked : Type 0 where
   -- the first page fixes the snapshot, a last one makes the list complete; what stands behind the items stays
-  pub first : takes (openedIn (replicate 12 9)) sampleAnswer ≡ (0, begun)
-  pub last : takes begun (answers 7 1 5 1 4 1 1 (itemAt 0 101 2)) ≡ (0, held (listOf 0 true 5 3 true) (pageRoom 0 ++ (0 ∷ 101 ∷ 2 ∷ 9 ∷ 9 ∷ 9 ∷ [])))
-  pub falling2 : took falling (answers 7 1 5 1 1 0 2 second) ≡ refused 2
-  pub line9 : took begun noLine ≡ refused 9
-  pub kind10 : took begun sampleAsk ≡ refused 10
-  pub whole16 : took whole (answers 7 1 5 1 4 0 2 second) ≡ refused 16
+  pub first : takesLine (openedIn (replicate 12 9)) sampleAnswer ≡ (0, heldAfterFirst)
+  pub last : takesLine heldAfterFirst (answers 7 1 5 1 4 1 1 (itemAt 0 101 2)) ≡ (0, held (listOf 0 true 5 3 true) (pageRoom 0 ++ (0 ∷ 101 ∷ 2 ∷ 9 ∷ 9 ∷ 9 ∷ [])))
+  pub falling2 : takenFrom falling (answers 7 1 5 1 1 0 2 second) ≡ refused 2
+  pub line9 : takenFrom heldAfterFirst noLine ≡ refused 9
+  pub kind10 : takenFrom heldAfterFirst sampleAsk ≡ refused 10
+  pub whole16 : takenFrom whole (answers 7 1 5 1 4 0 2 second) ≡ refused 16
   -- [7.5] another table; an answer from the start that comes late; another mark
-  pub table13 : took begun (answers 8 1 5 1 4 0 2 second) ≡ refused 13
-  pub late13 : took begun sampleAnswer ≡ refused 13
-  pub mark13 : took begun (answers 7 1 5 1 1 0 2 second) ≡ refused 13
+  pub table13 : takenFrom heldAfterFirst (answers 8 1 5 1 4 0 2 second) ≡ refused 13
+  pub late13 : takenFrom heldAfterFirst sampleAnswer ≡ refused 13
+  pub mark13 : takenFrom heldAfterFirst (answers 7 1 5 1 1 0 2 second) ≡ refused 13
   -- [7.6] out of order; before the mark; beyond the reach; a number as large as the snapshot; empty, and more to come
-  pub rising14 : took begun (answers 7 1 5 1 4 0 2 exchanged) ≡ refused 14
-  pub after14 : took begun (answers 7 1 5 1 4 0 1 (itemAt 3 104 1)) ≡ refused 14
-  pub reach14 : took begun (answers 7 1 5 1 4 0 1 (itemAt 2 103 6)) ≡ refused 14
-  pub number14 : took begun (answers 7 1 5 1 4 0 1 (itemAt 5 106 2)) ≡ refused 14
-  pub none14 : took begun (answers 7 1 5 1 4 0 0 []) ≡ refused 14
-  pub room15 : took (held (listOf 0 true 5 2 false) (pageRoom 3)) (answers 7 1 5 1 4 0 2 second) ≡ refused 15
+  pub rising14 : takenFrom heldAfterFirst (answers 7 1 5 1 4 0 2 exchanged) ≡ refused 14
+  pub after14 : takenFrom heldAfterFirst (answers 7 1 5 1 4 0 1 (itemAt 3 104 1)) ≡ refused 14
+  pub reach14 : takenFrom heldAfterFirst (answers 7 1 5 1 4 0 1 (itemAt 2 103 6)) ≡ refused 14
+  pub number14 : takenFrom heldAfterFirst (answers 7 1 5 1 4 0 1 (itemAt 5 106 2)) ≡ refused 14
+  pub none14 : takenFrom heldAfterFirst (answers 7 1 5 1 4 0 0 []) ≡ refused 14
+  pub room15 : takenFrom (held (listOf 0 true 5 2 false) (pageRoom 3)) (answers 7 1 5 1 4 0 2 second) ≡ refused 15
   -- of two the earlier; [9.2] a refusal leaves all as it was
-  pub first2 : took spoiled noLine ≡ refused 2
-  pub first9 : took begun (askBytes 1 7 0 0 0 0 2) ≡ refused 9
-  pub first10 : took whole sampleAsk ≡ refused 10
-  pub first16 : takes whole sampleAnswer ≡ (16, whole)
-  pub first13 : took begun (answers 8 1 5 1 4 0 2 exchanged) ≡ refused 13
-  pub first14 : took (held (listOf 0 true 5 2 false) (pageRoom 3)) (answers 7 1 5 1 4 0 2 exchanged) ≡ refused 14
+  pub first2 : takenFrom spoiled noLine ≡ refused 2
+  pub first9 : takenFrom heldAfterFirst (askBytes 1 7 0 0 0 0 2) ≡ refused 9
+  pub first10 : takenFrom whole sampleAsk ≡ refused 10
+  pub first16 : takesLine whole sampleAnswer ≡ (16, whole)
+  pub first13 : takenFrom heldAfterFirst (answers 8 1 5 1 4 0 2 exchanged) ≡ refused 13
+  pub first14 : takenFrom (held (listOf 0 true 5 2 false) (pageRoom 3)) (answers 7 1 5 1 4 0 2 exchanged) ≡ refused 14
 
 -- ---- [9.14] bare writers; [9.15] bare readers
 
@@ -221,9 +221,9 @@ pub record LinesMarked : Type 0 where
   pub claim10 : writesClaim wide (longestClaim - 1) ≡ refused 10
   pub askRead : readAsAsk sampleAsk ≡ anAsk askValue
   pub askNot9 : readAsAsk (askBytes 1 7 0 0 0 0 tooMany) ≡ noAsk 9
-  pub askNot10 : readAsAsk (asks 1 7 0 0 0 0 tooMany) ≡ noAsk 10
+  pub askNot10 : readAsAsk (askWith 1 7 0 0 0 0 tooMany) ≡ noAsk 10
   pub askKind10 : readAsAsk sampleAnswer ≡ noAsk 10
-  pub askKindNone10 : readAsAsk (asks 0 7 0 0 0 0 2) ≡ noAsk 10
+  pub askKindNone10 : readAsAsk (askWith 0 7 0 0 0 0 2) ≡ noAsk 10
   pub answerRead : readAsAnswer Near sampleAnswer ≡ anAnswer answerValue
   pub answerNot9 : readAsAnswer Near noLine ≡ noAnswer 9
   pub answerNot10 : readAsAnswer Near (answers 7 0 5 0 0 0 tooMany overfull) ≡ noAnswer 10

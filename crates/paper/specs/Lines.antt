@@ -17,7 +17,7 @@ use Rattle.paper.specs.Points.{inRange}
 use Rattle.paper.specs.Orders.{Query}
 use Rattle.paper.specs.Outcomes.{Outcome, refused, gives, must, Promise}
 use Rattle.paper.specs.Frames.{be, num, lineOf, frameOf, isLine}
-use Rattle.paper.specs.Fields.{head, coordBytes, coordsIn, places, front, scopeIn, scopeOk, itemBytes, itemNumbers, itemPlaces, numbersOk, referencesOk}
+use Rattle.paper.specs.Fields.{head, coordBytes, coordsIn, inSlots, front, scopeIn, scopeOk, itemBytes, itemNumbers, itemSlots, numbersOk, referencesOk}
 use Rattle.paper.specs.declared.orders.Order.{Order}
 use Rattle.paper.specs.declared.orders.Order.the-variants.{Near, Far}
 use Rattle.paper.specs.declared.queries.Query as queries
@@ -30,9 +30,9 @@ use Rattle.paper.specs.declared.lines.AnswerRead.{AnswerRead}
 use Rattle.paper.specs.declared.lines.ClaimRead.{ClaimRead}
 use Rattle.paper.specs.declared.lines.Wrote.{Wrote}
 use Rattle.paper.specs.declared.lines.Wrote.the-variants.{Line, Refused}
-use Rattle.paper.specs.Limits.{itemRoom, mostPage, mostPlaces}
+use Rattle.paper.specs.Limits.{itemRoom, mostPage, mostCoordinates}
 
--- ---- the kinds of ask and answer
+-- ---- the kinds of line
 
 -- [2.1] [5.5] the kind of an ask in an order; 0 is none, and lists in far order have no lines yet
 abbrev pub askKind : Order → ℕ
@@ -51,6 +51,10 @@ spoken o = leb 1 (askKind o)
 -- the order whose asks are of a kind, near where there is none
 abbrev pub askOrder : ℕ → Order
 askOrder k = cond (eqb k (askKind Far)) Far Near
+
+-- [5.7] the kind of a claim
+abbrev pub claimKind : ℕ
+claimKind = 3
 
 -- ---- writing and reading, whatever the kind
 
@@ -92,7 +96,7 @@ queryAt o f =
       table = num 4 (drop 1 f);
       measure = num 1 (drop 5 f);
       d = num 1 (drop 6 f);
-      probe = places (num 1 (drop 6 f)) (coordsIn (num 1 (drop 6 f)) (drop 7 f));
+      probe = inSlots (num 1 (drop 6 f)) (coordsIn (num 1 (drop 6 f)) (drop 7 f));
       reach = num 8 (behind f);
     }
 
@@ -102,7 +106,7 @@ queryFits q = spoken (q .order) && (inRange (q .measure) (q .d) && eqb (length (
 
 -- [5.14] the fields of a refused line
 abbrev pub noQuery : queries.Query
-noQuery = record { order = Near; table = 0; measure = 0; d = 0; probe = replicate mostPlaces (pos 0); reach = 0 }
+noQuery = record { order = Near; table = 0; measure = 0; d = 0; probe = replicate mostCoordinates (pos 0); reach = 0 }
 
 abbrev pub noScope : Scope
 noScope = record { from = 0; snapshot = 0; distance = 0; number = 0 }
@@ -179,7 +183,7 @@ answerAt o f =
       scope = scopeIn (behind f);
       last = num 1 (drop 21 (behind f));
       count = countIn f;
-      items = itemPlaces (countIn f) (itemNumbers (countIn f) (drop 23 (behind f)));
+      items = itemSlots (countIn f) (itemNumbers (countIn f) (drop 23 (behind f)));
     }
 
 unfoldable pub anAnswer : Answer → AnswerRead
@@ -198,7 +202,7 @@ readAsAnswer o l = reading (answerOk (answerKind o)) (λ f. anAnswer (answerAt o
 
 -- [5.7] the frame of a claim: head, reference, point
 unfoldable pub claimFrame : ℕ → ℕ → ℕ → ℕ → List ℤ → List ℕ
-claimFrame t m d r cs = head 3 t m d ++ (be 4 r ++ coordBytes cs)
+claimFrame t m d r cs = head claimKind t m d ++ (be 4 r ++ coordBytes cs)
 
 -- [8.10] fields that a claim can have, with a point of the length that d says
 unfoldable pub claimFits : ℕ → ℕ → List ℤ → Bool
@@ -206,7 +210,7 @@ claimFits m d cs = inRange m d && eqb (length cs) d
 
 -- [8.10] [5.7] a frame that is a claim: its length, and its head in range
 unfoldable pub claimOk : List ℕ → Bool
-claimOk f = headOk 3 f && eqb (length f) (11 + 4 * num 1 (drop 6 f))
+claimOk f = headOk claimKind f && eqb (length f) (11 + 4 * num 1 (drop 6 f))
 
 -- [5.7] the fields of a claim's frame
 unfoldable pub claimAt : List ℕ → ClaimLine
@@ -216,7 +220,7 @@ claimAt f =
       measure = num 1 (drop 5 f);
       d = num 1 (drop 6 f);
       reference = num 4 (drop 7 f);
-      coordinates = places (num 1 (drop 6 f)) (coordsIn (num 1 (drop 6 f)) (drop 11 f));
+      coordinates = inSlots (num 1 (drop 6 f)) (coordsIn (num 1 (drop 6 f)) (drop 11 f));
     }
 
 unfoldable pub aClaim : ClaimLine → ClaimRead
@@ -225,7 +229,7 @@ aClaim c = record { refusal = 0; claim = c }
 -- [5.14] beside a refusal all is 0
 unfoldable pub noClaim : ℕ → ClaimRead
 noClaim n =
-    record { refusal = n; claim = record { table = 0; measure = 0; d = 0; reference = 0; coordinates = replicate mostPlaces (pos 0) } }
+    record { refusal = n; claim = record { table = 0; measure = 0; d = 0; reference = 0; coordinates = replicate mostCoordinates (pos 0) } }
 
 -- [9.15] what reading a line as a claim gives
 unfoldable pub readAsClaim : List ℕ → ClaimRead

@@ -11,7 +11,7 @@ use Rattle.paper.specs.declared.queries.Query as queries
 use Rattle.paper.specs.Orders.{Item, Query, queryIn, fronted}
 use Rattle.paper.specs.Outcomes.{Outcome, refused, gives, must, onto, leaves, Promise}
 use Rattle.paper.specs.Ends.{Codec, Listing, opening, every, sameZ, soundIn, asking, taking}
-use Rattle.paper.specs.Fields.{inPlaces}
+use Rattle.paper.specs.Fields.{queryInSlots}
 use Rattle.paper.specs.Lines.{spoken, noQuery}
 
 -- [7.3] a list's fields, with the room that its items stand in
@@ -56,7 +56,7 @@ soundHeld s = heldWell (s .list .query) && soundIn (roomFor s) (listing s)
 
 -- [7.1] [7.2] the fields of a list that was just opened
 unfoldable pub openedAs : Query → lists.List
-openedAs q = record { query = inPlaces q; started = false; snapshot = 0; count = 0; complete = false }
+openedAs q = record { query = queryInSlots q; started = false; snapshot = 0; count = 0; complete = false }
 
 -- [9.11] opening a list
 unfoldable pub openingHeld : Query → Outcome lists.List
@@ -67,9 +67,9 @@ abbrev pub noList : lists.List
 noList = record { query = noQuery; started = false; snapshot = 0; count = 0; complete = false }
 
 -- what each case of opening gives
-unfoldable pub openedTold : Outcome lists.List → Opened
-openedTold (refused n) = record { refusal = n; list = noList }
-openedTold (gives l) = record { refusal = 0; list = l }
+unfoldable pub openedShown : Outcome lists.List → Opened
+openedShown (refused n) = record { refusal = n; list = noList }
+openedShown (gives l) = record { refusal = 0; list = l }
 
 -- [9.12] writing the present ask
 unfoldable pub askingHeld : Codec → Held → ℕ → ℕ → Outcome (List ℕ)
@@ -91,9 +91,9 @@ tookFields l L =
     }
 
 -- [9.13] how taking shows its outcome: 0 beside the list as it then stands, or the refusal's number beside the list as it came
-abbrev pub takenAs : lists.List → Outcome Listing → Taken
-takenAs l (refused n) = record { refusal = n; list = l }
-takenAs l (gives L) = record { refusal = 0; list = tookFields l L }
+abbrev pub takenShown : lists.List → Outcome Listing → Taken
+takenShown l (refused n) = record { refusal = n; list = l }
+takenShown l (gives L) = record { refusal = 0; list = tookFields l L }
 
 -- [7.7] the items stand at the front of the list's room, and what is behind them is kept
 abbrev pub putItems : Listing → List ℕ → List ℕ
@@ -101,8 +101,8 @@ putItems L room = fronted (L .items) room
 
 -- what taking promises of a list l and its room
 abbrev pub Takes : lists.List → Outcome Listing → List ℕ → Taken → List ℕ → Type 0
-Takes l o before r after = Promise (takenAs l) putItems o before r after
+Takes l o before r after = Promise (takenShown l) putItems o before r after
 
 -- what is held after a call
 unfoldable pub heldAfter : Held → Outcome Listing → Held
-heldAfter s o = held (takenAs (s .list) o .list) (leaves putItems o (s .room))
+heldAfter s o = held (takenShown (s .list) o .list) (leaves putItems o (s .room))

@@ -33,7 +33,7 @@ pub record Query : Type 0 where
   pub probe : List ℤ
   pub reach : ℕ
 
--- [7.3] a query as code holds it: of the eight places of its probe the first d count
+-- [7.3] a query as code holds it: of the eight slots of its probe the first d count
 abbrev pub queryIn : queries.Query → Query
 queryIn q =
     record {
@@ -68,7 +68,7 @@ itemOf q cs k =
     record {
       number = k;
       reference = getD cs k zeroClaim .reference;
-      distance = distance (measureOf (q .measure)) (q .d) (getD cs k zeroClaim .place) (q .probe);
+      distance = distance (measureOf (q .measure)) (q .d) (getD cs k zeroClaim .point) (q .probe);
     }
 
 -- [2.4] [2.5] each claim within reach whose number is below the snapshot, once, in order

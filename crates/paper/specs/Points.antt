@@ -7,7 +7,7 @@ use lib.IntN.{ℤ, pos, _-ℤ_, natAbs}
 use lib.ListN.{getD, take, drop}
 use Rattle.paper.specs.declared.points.Measure.{Measure}
 use Rattle.paper.specs.declared.points.Measure.the-variants.{CityBlock, Maximum, Hamming}
-use Rattle.paper.specs.Limits.{mostPlaces, firstMeasure, lastMeasure}
+use Rattle.paper.specs.Limits.{mostCoordinates, firstMeasure, lastMeasure}
 
 -- [1.5] the measure of a number: 1 is city block, 2 maximum, 3 Hamming
 unfoldable pub measureOf : ℕ → Measure
@@ -38,22 +38,22 @@ greatestOf Hamming d = d
 
 -- [1.3] [1.5] there are such a measure and such a d: in tables, lists and lines alike
 unfoldable pub inRange : ℕ → ℕ → Bool
-inRange measure d = (leb firstMeasure measure && leb measure lastMeasure) && (leb 1 d && leb d mostPlaces)
+inRange measure d = (leb firstMeasure measure && leb measure lastMeasure) && (leb 1 d && leb d mostCoordinates)
 
 -- the same as facts
 pub record InRange (measure d : ℕ) : Type 0 where
   pub first : firstMeasure ≤ measure
   pub last : measure ≤ lastMeasure
   pub wide : 1 ≤ d
-  pub narrow : d ≤ mostPlaces
+  pub narrow : d ≤ mostCoordinates
 
 -- [1.1] [1.2] a claim's reference and point; its number is its place in a list of claims
 pub record Claim : Type 0 where
   pub reference : ℕ
-  pub place : List ℤ
+  pub point : List ℤ
 
 abbrev pub zeroClaim : Claim
-zeroClaim = record { reference = 0; place = List.[] }
+zeroClaim = record { reference = 0; point = List.[] }
 
 -- [1.4] the point of claim k, where the claims' coordinates stand one after another
 unfoldable pub point : ℕ → List ℤ → ℕ → List ℤ

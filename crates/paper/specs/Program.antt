@@ -31,7 +31,7 @@ ours t c = eqb (c .table) (t .number) && (eqb (c .measure) (t .measure) && eqb (
 
 -- [5.7] the claim that a line tells
 unfoldable pub claimIn : ClaimLine → Claim
-claimIn c = record { reference = c .reference; place = take (c .d) (c .coordinates) }
+claimIn c = record { reference = c .reference; point = take (c .d) (c .coordinates) }
 
 -- [3.14] a claim behind those that the table has
 unfoldable pub withClaim : Table → Claim → Table
@@ -91,14 +91,14 @@ lineTurn b line = cond (isLine line) (frameTurn b (frameOf line)) (turn b (refus
 -- ---- the whole input
 
 -- The office at work: its table, the bytes of the line so far, how many lines it still reads, and what it has said.
-pub record Office : Type 0 where
+pub record OfficeState : Type 0 where
   pub books : Books
   pub held : List ℕ
   pub left : ℕ
   pub said : List ℕ
 
 -- a line is over
-unfoldable pub lineDone : Office → List ℕ → Office
+unfoldable pub lineDone : OfficeState → List ℕ → OfficeState
 lineDone o l =
     record {
       books = lineTurn (o .books) l .books;
@@ -107,29 +107,29 @@ lineDone o l =
       said = o .said ++ lineTurn (o .books) l .said;
     }
 
-abbrev pub holding : Office → List ℕ → Office
-holding o h = record { books = o .books; held = h; left = o .left; said = o .said }
+abbrev pub holdingLine : OfficeState → List ℕ → OfficeState
+holdingLine o h = record { books = o .books; held = h; left = o .left; said = o .said }
 
 -- [10.8] [10.10] a byte is read, where a line is left to read; a line reaches to its 0A
-unfoldable pub byte : Office → ℕ → Office
-byte o x = cond (eqb (o .left) 0) o (cond (eqb x 10) (lineDone o (o .held ++ (x ∷ []))) (holding o (o .held ++ (x ∷ []))))
+unfoldable pub byte : OfficeState → ℕ → OfficeState
+byte o x = cond (eqb (o .left) 0) o (cond (eqb x 10) (lineDone o (o .held ++ (x ∷ []))) (holdingLine o (o .held ++ (x ∷ []))))
 
 -- [10.11] bytes are read, however they come
-unfoldable pub fed : Office → List ℕ → Office
+unfoldable pub fed : OfficeState → List ℕ → OfficeState
 fed o [] = o
 fed o (x ∷ xs) = fed (byte o x) xs
 
-abbrev pub atEnd : ℕ → Office → List ℕ → Office
+abbrev pub atEnd : ℕ → OfficeState → List ℕ → OfficeState
 atEnd zero o h = o
 atEnd (suc n) o [] = o
 atEnd (suc n) o (x ∷ h) = lineDone o (x ∷ h)
 
 -- [10.9] the input is over: bytes behind the last 0A are a line too
-unfoldable pub inputDone : Office → Office
+unfoldable pub inputDone : OfficeState → OfficeState
 inputDone o = atEnd (o .left) o (o .held)
 
 -- [10.10] the office before its first byte, with all the lines that it may read
-unfoldable pub officeStart : Office
+unfoldable pub officeStart : OfficeState
 officeStart = record { books = closed; held = []; left = 4294967295; said = [] }
 
 -- what `office` writes, by what it reads

@@ -47,19 +47,19 @@ added s r p =
 
 -- [3.15] the first i claims of a run, one by one
 unfoldable pub addedRun : List ℕ → List ℤ → ℕ → Store → Store
-addedRun given places zero s = s
-addedRun given places (suc i) s = added (addedRun given places i s) (referenceAt given i) (point (s .table .d) places i)
+addedRun given points zero s = s
+addedRun given points (suc i) s = added (addedRun given points i s) (referenceAt given i) (point (s .table .d) points i)
 
 -- [9.6] [3.15] all claims of a run are entered, or none: 5 where there are not d coordinates for each [8.5], 3 where the capacity leaves
 -- too few claims free [8.3], 4 where it leaves too few nodes, one for each claim [8.4]
 unfoldable pub enterCall : Store → List ℕ → List ℤ → Outcome Store
-enterCall s given places =
+enterCall s given points =
     must (fits s) 1
     (must (sound s) 2
-    (must (eqb (length places) (s .table .d * length given)) 5
+    (must (eqb (length points) (s .table .d * length given)) 5
     (must (leb (s .table .count + length given) (s .table .capacity)) 3
     (must (leb (s .table .used + length given) (s .table .capacity)) 4
-    (gives (addedRun given places (length given) s))))))
+    (gives (addedRun given points (length given) s))))))
 
 -- how its outcome is shown, the header that comes back, and what it makes of lent memory
 abbrev pub enteredShown : Outcome Store → Entered

@@ -48,19 +48,19 @@ grown nodes used = record { nodes = nodes; used = used }
 
 -- [3.6] [3.7] [3.10] [3.11] claim k entered from node m, through so many nodes at most: on the right where no claim is, and otherwise from
 -- the node below the nearer side, or, where field 4 + s says that there is none, into the next node not in use
-unfoldable pub placed : ℕ → (ℕ → ℕ → ℕ) → ℕ → ℕ → ℕ → List ℕ → Grown
-placed zero e used k m nodes = grown nodes used
-placed (suc times) e used k m nodes =
+unfoldable pub enteredFrom : ℕ → (ℕ → ℕ → ℕ) → ℕ → ℕ → ℕ → List ℕ → Grown
+enteredFrom zero e used k m nodes = grown nodes used
+enteredFrom (suc times) e used k m nodes =
     cond (eqb (fieldAt nodes m 1) 0)
     (grown (putField nodes m 1 (k + 1)) used)
     (cond (eqb (fieldAt nodes m (4 + nearSide e nodes m k)) 0)
     (grown (newNode (putField (raise e nodes m (nearSide e nodes m k) k) m (4 + nearSide e nodes m k) (used + 1)) used k) (used + 1))
-    (placed times e used k (fieldAt nodes m (4 + nearSide e nodes m k) - 1) (raise e nodes m (nearSide e nodes m k) k)))
+    (enteredFrom times e used k (fieldAt nodes m (4 + nearSide e nodes m k) - 1) (raise e nodes m (nearSide e nodes m k) k)))
 
 -- [3.5] claim k entered from the root, which the first claim makes
 unfoldable pub entered : (ℕ → ℕ → ℕ) → ℕ → ℕ → List ℕ → Grown
 entered e zero k nodes = grown (newNode nodes 0 k) 1
-entered e (suc u) k nodes = placed (suc u) e (suc u) k 0 nodes
+entered e (suc u) k nodes = enteredFrom (suc u) e (suc u) k 0 nodes
 
 -- [3.12] claims 0 to n - 1 entered by rising number
 unfoldable pub built : (ℕ → ℕ → ℕ) → ℕ → List ℕ → Grown
@@ -112,7 +112,7 @@ unfoldable pub claimsFrom : ℕ → ℕ → List ℕ → List ℤ → List Claim
 claimsFrom d zero references coordinates = []
 claimsFrom d (suc n) references coordinates =
     claimsFrom d n references coordinates
-    ++ (record { reference = referenceAt references n; place = point d coordinates n } ∷ [])
+    ++ (record { reference = referenceAt references n; point = point d coordinates n } ∷ [])
 
 abbrev pub claimsIn : Store → List Claim
 claimsIn s = claimsFrom (s .table .d) (s .table .count) (s .references) (s .coordinates)

@@ -2,7 +2,7 @@
 // names, and contracts tie the two: code that tests one of these promises a definition that cites the other.
 
 // [1.3] [3.1] [4.3] Coordinates of a point, claims of a table, items of a page.
-pub const MOST_PLACES: usize = 8;
+pub const MOST_COORDINATES: usize = 8;
 
 pub const MOST_CLAIMS: usize = 4096;
 
@@ -18,17 +18,17 @@ pub const ITEM_ROOM: usize = 3 * MOST_PAGE;
 pub const SCRATCH_NODES: usize = 6 * MOST_CLAIMS;
 
 // [5.11] Bytes of the longest frame, an answer's; characters of the longest line of each kind, two for each byte and one for its end.
-pub const LONGEST_FRAME: usize = 30 + 4 * MOST_PLACES + 14 * MOST_PAGE;
+pub const LONGEST_FRAME: usize = 30 + 4 * MOST_COORDINATES + 14 * MOST_PAGE;
 
 pub const LONGEST_ANSWER: usize = 2 * LONGEST_FRAME + 1;
 
-pub const LONGEST_ASK: usize = 2 * (29 + 4 * MOST_PLACES) + 1;
+pub const LONGEST_ASK: usize = 2 * (29 + 4 * MOST_COORDINATES) + 1;
 
-pub const LONGEST_CLAIM: usize = 2 * (11 + 4 * MOST_PLACES) + 1;
+pub const LONGEST_CLAIM: usize = 2 * (11 + 4 * MOST_COORDINATES) + 1;
 
 // [10.1] The office program's table.
 pub const OFFICE_CLAIMS: usize = 1024;
 
-pub const OFFICE_PLACES: usize = MOST_PLACES * OFFICE_CLAIMS;
+pub const OFFICE_COORDINATES: usize = MOST_COORDINATES * OFFICE_CLAIMS;
 
 pub const OFFICE_NODES: usize = 6 * OFFICE_CLAIMS;

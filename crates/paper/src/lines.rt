@@ -1,7 +1,7 @@
 // The three kinds of line as values: what readers give, and what writers answer.
 use crate::limits::ITEM_ROOM;
 use crate::limits::MOST_CLAIMS;
-use crate::limits::MOST_PLACES;
+use crate::limits::MOST_COORDINATES;
 use crate::queries::Query;
 
 // [5.5] What an ask and an answer have behind the reach: distance and number are the mark.
@@ -34,7 +34,7 @@ pub struct Ask {
     pub size: u8,
 }
 
-// [5.6] [5.14] What an answer line says. The items are triples of number, reference and distance; places that are not in use hold 0, here
+// [5.6] [5.14] What an answer line says. The items are triples of number, reference and distance; slots that are not in use hold 0, here
 // as in a probe.
 pub struct Answer {
     pub query: Query,
@@ -50,7 +50,12 @@ pub struct ClaimLine {
     pub measure: u8,
     pub d: u8,
     pub reference: u32,
-    pub coordinates: [i32; MOST_PLACES],
+    pub coordinates: [i32; MOST_COORDINATES],
+}
+
+impl ClaimLine {
+    // [5.7] The kind of a claim line.
+    pub const KIND: u8 = 3;
 }
 
 // [5.14] [9.15] What a reader gives: refusal 0 beside the fields, or 9 or 10 beside zeros.

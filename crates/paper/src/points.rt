@@ -2,7 +2,7 @@
 ghost use mathlib.Core.Path.{_≡_};
 ghost use Prim.Native.Nat.{_≤_};
 ghost use Rattle.paper.specs.Points.{measureOf, greatestOf};
-ghost use Rattle.paper.specs.Limits.{mostPlaces};
+ghost use Rattle.paper.specs.Limits.{mostCoordinates};
 
 pub enum Measure {
     CityBlock,
@@ -34,7 +34,7 @@ impl Measure {
 
     // [1.9] The largest distance between two points of d coordinates.
     pub fn greatest(self, d: u64) -> u64
-        requires { ⌜ d ≤ mostPlaces ⌝ }
+        requires { ⌜ d ≤ mostCoordinates ⌝ }
         ensures { λ r. ⌜ r ≡ greatestOf self d ⌝ }
     {
         match self {

@@ -1,5 +1,5 @@
 // [7.1] What a list is opened for: its asks and their answers repeat it.
-use crate::limits::MOST_PLACES;
+use crate::limits::MOST_COORDINATES;
 use crate::orders::Order;
 
 pub struct Query {
@@ -7,8 +7,8 @@ pub struct Query {
     pub table: u32,
     pub measure: u8,
     pub d: usize,
-    // [7.9] Unused places are 0.
-    pub probe: [i32; MOST_PLACES],
+    // [7.9] Unused slots are 0.
+    pub probe: [i32; MOST_COORDINATES],
     pub reach: u64,
 }
 
@@ -19,7 +19,7 @@ impl Query {
         table: 0,
         measure: 0,
         d: 0,
-        probe: [0i32; MOST_PLACES],
+        probe: [0i32; MOST_COORDINATES],
         reach: 0,
     };
 }

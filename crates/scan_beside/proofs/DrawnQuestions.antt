@@ -10,7 +10,7 @@ use Rattle.paper.specs.declared.tables.Table.{Table}
 use Rattle.paper.specs.Orders.{snapshotOf}
 use Rattle.walk.specs.Asking.{Pageable}
 use Rattle.scan_beside.specs.declared.scan.Asking.{Asking}
-use Rattle.scan_beside.specs.Questions.{Small, Drawn}
+use Rattle.scan_beside.specs.Questions.{SmallTable, Drawn}
 
 -- what the scan asks for
 abbrev pub Scanned : Asking → Type 0
@@ -21,10 +21,10 @@ abbrev pub Made : Asking → ℕ → ℕ → ℕ → Type 0
 Made r snapshot d size = (r .snapshot ≡ snapshot) × ((r .d ≡ d) × (r .size ≡ size))
 
 module _ (t : Table) where
-  pub start-scanned : (r : Asking) (size : ℕ) → Small t → Made r (t .count) (t .d) size → Scanned r
+  pub start-scanned : (r : Asking) (size : ℕ) → SmallTable t → Made r (t .count) (t .d) size → Scanned r
   start-scanned r size s m = (omega (arith, s .few, m .0), omega (arith, s .narrow, m .1 .0))
 
-  pub start-drawn : (r : Asking) (k : ℕ) → Small t → Made r (t .count) (t .d) (1 + k) → k < 16 → Drawn t r
+  pub start-drawn : (r : Asking) (k : ℕ) → SmallTable t → Made r (t .count) (t .d) (1 + k) → k < 16 → Drawn t r
   start-drawn r k s m h =
       record { small = s; stored = omega (arith, m .0); narrow = omega (arith, s .narrow, m .1 .0); some = omega (arith, m .1 .1); most = omega (arith, m .1 .1) }
 

@@ -4,13 +4,13 @@ use Rattle.paper.specs.declared.tables.Table.{Table}
 use Rattle.scan_beside.specs.declared.scan.Asking.{Asking}
 
 -- a table of the program
-pub record Small (t : Table) : Type 0 where
+pub record SmallTable (t : Table) : Type 0 where
   pub few : t .count ≤ 48
   pub narrow : t .d ≤ 8
 
 -- a question to it for a page
 pub record Drawn (t : Table) (a : Asking) : Type 0 where
-  pub small : Small t
+  pub small : SmallTable t
   pub stored : a .snapshot ≤ t .count
   pub narrow : a .d ≤ 8
   pub some : 0 < a .size

@@ -10,7 +10,7 @@ ghost use Prim.Native.Nat.{ℕ, _<_, _≤_};
 ghost use Rattle.paper.specs.Orders.{snapshotOf};
 ghost use Rattle.paper.specs.Tree.{lent};
 ghost use Rattle.walk.specs.Asking.{Answerable};
-ghost use Rattle.scan_beside.specs.Questions.{Small, Drawn};
+ghost use Rattle.scan_beside.specs.Questions.{SmallTable, Drawn};
 use checked::closed;
 use paper::limits::ITEM_ROOM;
 use paper::orders::Found;
@@ -174,7 +174,7 @@ fn firsts_beside(
     reach: u64,
     tally: Tally,
 ) -> Tally
-    requires { ⌜ Answerable (lent t references coordinates nodes) (now probe) × Small t ⌝ }
+    requires { ⌜ Answerable (lent t references coordinates nodes) (now probe) × SmallTable t ⌝ }
 {
     let near = from_start(t, false, reach, 1);
     let far = from_start(t, true, 0xffff_ffff_ffff_ffff, 1);
@@ -243,7 +243,7 @@ fn from_mark(a: Asking, snapshot: usize, distance: u64, number: u64) -> Asking
 
 // A question for a page from the start or from a place in the middle, in either order, of each size.
 fn drawn(t: Table, points: &[u64; 384], codes: &[u64; 8], seed: u64) -> Asking
-    requires { ⌜ Small t ⌝ }
+    requires { ⌜ SmallTable t ⌝ }
     ensures { λ r. ⌜ Drawn t r ⌝ }
 {
     let far = pick(seed, 2) == 1;
@@ -277,7 +277,7 @@ fn ask(
     seed: u64,
     tally: Tally,
 ) -> Tally
-    requires { ⌜ Small t ⌝ }
+    requires { ⌜ SmallTable t ⌝ }
 {
     if closed(t, references, coordinates, nodes, probe) != 0 {
         return tally.page(true, 0, false, false);

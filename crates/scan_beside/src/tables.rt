@@ -94,35 +94,35 @@ fn aim(codes: &[u64; 8], probe: &mut [i32; 8]) {
 }
 
 // A probe, by its codes and its coordinates.
-pub fn probe(codes: &mut [u64; 8], places: &mut [i32; 8], seed: u64, spread: u64) -> u64
+pub fn probe(codes: &mut [u64; 8], laid: &mut [i32; 8], seed: u64, spread: u64) -> u64
     requires { ⌜ 0 < spread ⌝ }
 {
     let x = fill(codes, seed, spread);
-    aim(codes, places);
+    aim(codes, laid);
     x
 }
 
-// Lays the d coordinates of claim k behind the first w places.
-fn lay(points: &[u64; 384], k: usize, d: usize, places: &mut [i32; 384], w: usize) -> usize
+// Lays the d coordinates of claim k behind the first w laid.
+fn lay(points: &[u64; 384], k: usize, d: usize, laid: &mut [i32; 384], w: usize) -> usize
     requires { ⌜ (k < 48) × ((d ≤ 8) × (w ≤ k * 8)) ⌝ }
     ensures { λ r. ⌜ r ≤ w + 8 ⌝ }
 {
     let mut i: usize = 0;
     while i < d {
-        places[w + i] = value(points[k * 8 + i]);
+        laid[w + i] = value(points[k * 8 + i]);
         i += 1;
     }
     w + d
 }
 
 // Lays the coordinates of the first n claims one after another, and gives how many they are.
-fn lay_all(points: &[u64; 384], n: usize, d: usize, places: &mut [i32; 384]) -> usize
+fn lay_all(points: &[u64; 384], n: usize, d: usize, laid: &mut [i32; 384]) -> usize
     requires { ⌜ (n ≤ 48) × (d ≤ 8) ⌝ }
 {
     let mut w: usize = 0;
     let mut k: usize = 0;
     while k < n {
-        w = lay(points, k, d, places, w);
+        w = lay(points, k, d, laid, w);
         k += 1;
     }
     w
@@ -152,23 +152,16 @@ fn enter(
     nodes: &mut [u64],
     given: &[u32],
     n: usize,
-    places: &[i32],
+    laid: &[i32],
     w: usize,
 ) -> Table {
     if given.len() < n {
         return t;
     }
-    if places.len() < w {
+    if laid.len() < w {
         return t;
     }
-    let run = nearby::enter(
-        t,
-        references,
-        coordinates,
-        nodes,
-        &given[0..n],
-        &places[0..w],
-    );
+    let run = nearby::enter(t, references, coordinates, nodes, &given[0..n], &laid[0..w]);
     given_back(run, t)
 }
 
@@ -179,10 +172,10 @@ fn entered(
     nodes: &mut [u64; 288],
     given: &[u32; 48],
     n: usize,
-    places: &[i32; 384],
+    laid: &[i32; 384],
     w: usize,
 ) -> Table {
-    enter(t, references, coordinates, nodes, given, n, places, w)
+    enter(t, references, coordinates, nodes, given, n, laid, w)
 }
 
 // A table of the first n claims.
@@ -206,8 +199,8 @@ pub fn table(
         used: 0,
     };
     let mut given = [0u32; 48];
-    let mut places = [0i32; 384];
+    let mut laid = [0i32; 384];
     name_all(&mut given);
-    let w = lay_all(points, n, d, &mut places);
-    entered(empty, references, coordinates, nodes, &given, n, &places, w)
+    let w = lay_all(points, n, d, &mut laid);
+    entered(empty, references, coordinates, nodes, &given, n, &laid, w)
 }

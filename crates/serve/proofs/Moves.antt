@@ -11,8 +11,8 @@ use lib.ListN.{length, drop, length-append}
 use borrow.Author.Tests.{eq-eqb, ne-eqb}
 use lib.IntN.{ℤ}
 use Rattle.paper.specs.Tree.{Store, store}
-use Rattle.paper.specs.Program.{lineTurn, Office, lineDone, holding, byte, fed, atEnd, inputDone}
-use Rattle.cut.specs.Cut.{Taken, takenWith, cutOf, lineIn, restIn, hasEnd, Kept}
+use Rattle.paper.specs.Program.{lineTurn, OfficeState, lineDone, holdingLine, byte, fed, atEnd, inputDone}
+use Rattle.cut.specs.Cut.{CutLine, cutWith, cutOf, lineIn, restIn, hasEnd, LineHeld}
 use Rattle.cut.specs.declared.Piece.{Piece}
 use Rattle.cut.proofs.Laws.{Meant, cut-means, kept-none, cut-on}
 use Rattle.serve.specs.declared.feeding.Sitting.{Sitting}
@@ -23,18 +23,18 @@ use Rattle.paper.specs.Limits.{longestAnswer}
 
 -- ---- reading on
 
-fed-line : (xs : List ℕ) (o : Office) → 0 < o .left
-    → fed o xs ≡ cond (hasEnd xs) (fed (lineDone o (o .held ++ lineIn xs)) (restIn xs)) (holding o (o .held ++ lineIn xs))
+fed-line : (xs : List ℕ) (o : OfficeState) → 0 < o .left
+    → fed o xs ≡ cond (hasEnd xs) (fed (lineDone o (o .held ++ lineIn xs)) (restIn xs)) (holdingLine o (o .held ++ lineIn xs))
 unfolding fed byte hasEnd lineIn restIn lineDone
 fed-line [] o h = rw append-nil
-fed-line (x ∷ xs) o h = go (ℕ-discrete x 10) (fed-line xs (holding o (o .held ++ (x ∷ []))) h)
+fed-line (x ∷ xs) o h = go (ℕ-discrete x 10) (fed-line xs (holdingLine o (o .held ++ (x ∷ []))) h)
   where
     no0 : eqb (o .left) 0 ≡ false
     no0 = ne-eqb (o .left) 0 (λ q. omega arith)
 
     go : Dec (x ≡ 10)
-        → fed (holding o (o .held ++ (x ∷ []))) xs ≡ cond (hasEnd xs) (fed (lineDone o ((o .held ++ (x ∷ [])) ++ lineIn xs)) (restIn xs)) (holding o ((o .held ++ (x ∷ [])) ++ lineIn xs))
-        → fed o (x ∷ xs) ≡ cond (hasEnd (x ∷ xs)) (fed (lineDone o (o .held ++ lineIn (x ∷ xs))) (restIn (x ∷ xs))) (holding o (o .held ++ lineIn (x ∷ xs)))
+        → fed (holdingLine o (o .held ++ (x ∷ []))) xs ≡ cond (hasEnd xs) (fed (lineDone o ((o .held ++ (x ∷ [])) ++ lineIn xs)) (restIn xs)) (holdingLine o ((o .held ++ (x ∷ [])) ++ lineIn xs))
+        → fed o (x ∷ xs) ≡ cond (hasEnd (x ∷ xs)) (fed (lineDone o (o .held ++ lineIn (x ∷ xs))) (restIn (x ∷ xs))) (holdingLine o (o .held ++ lineIn (x ∷ xs)))
     go (yes e) deep = rw (no0, eq-eqb x 10 e)
     go (no ne) deep = rw (no0, ne-eqb x 10 ne) (rw append-assoc at deep)
 
@@ -49,16 +49,16 @@ rest-none (x ∷ xs) h = go (eqb x 10) (rest-none xs) h
 
 -- what the cut left, where it was asked at the sitting d
 module _ (d : Sitting) (s : Store) (l l' chunk : List ℕ) (p : Piece) (len : length l ≡ longestAnswer)
-    (ens : takenWith l' p ≡ cutOf (length l) l (d .size) (d .at) (drop (d .at) chunk)) where
-  meant : (h : List ℕ) → Kept longestAnswer l (d .size) h → Meant longestAnswer chunk h (d .at) (drop (d .at) chunk) (takenWith l' p)
+    (ens : cutWith l' p ≡ cutOf (length l) l (d .size) (d .at) (drop (d .at) chunk)) where
+  meant : (h : List ℕ) → LineHeld longestAnswer l (d .size) h → Meant longestAnswer chunk h (d .at) (drop (d .at) chunk) (cutWith l' p)
   meant h k = rw (ens, len) (cut-means longestAnswer chunk (drop (d .at) chunk) l (d .size) (d .at) h refl k)
 
   pub turn-on : d .at < length chunk → d .at < p .at
   turn-on h =
-      let q : p .at ≡ cutOf (length l) l (d .size) (d .at) (drop (d .at) chunk) .piece .at = ap (λ (x : Taken). x .piece .at) ens in
+      let q : p .at ≡ cutOf (length l) l (d .size) (d .at) (drop (d .at) chunk) .piece .at = ap (λ (x : CutLine). x .piece .at) ens in
       omega (arith, cut-on (length l) l chunk (d .size) (d .at) h)
 
-  pub moved-part : (o : Office) → 0 < d .left → p .whole ≡ false → (out : List ℕ) → Stands s l d o
+  pub moved-part : (o : OfficeState) → 0 < d .left → p .whole ≡ false → (out : List ℕ) → Stands s l d o
       → Moved o chunk d out s l' (record { table = s .table; size = p .size; left = d .left; at = p .at; written = d .written }) out
   unfolding fed
   moved-part o h w out st =
@@ -67,7 +67,7 @@ module _ (d : Sitting) (s : Store) (l l' chunk : List ℕ) (p : Piece) (len : le
       let unended : hasEnd xs ≡ false = sym (m .whole) ∙ w in
       let f = fed-line xs o (omega (arith, st .left)) in
       record {
-        after = holding o (o .held ++ lineIn xs);
+        after = holdingLine o (o .held ++ lineIn xs);
         stands = record { books = st .books; line = m .kept; left = st .left };
         same = rw (m .rest, rest-none xs unended) (sym (rw unended at f));
         more = [];
@@ -76,8 +76,8 @@ module _ (d : Sitting) (s : Store) (l l' chunk : List ℕ) (p : Piece) (len : le
         written = omega arith;
       }
 
-  pub moved-line : (o : Office) → 0 < d .left → p .whole ≡ true → (out out' : List ℕ) (s' : Store) (e : ℕ)
-      → ((h : List ℕ) → Kept longestAnswer l' (p .size) h → Served (lineTurn (booksOf s) h) s' out (d .written) out' e) → length l' ≡ longestAnswer → Stands s l d o
+  pub moved-line : (o : OfficeState) → 0 < d .left → p .whole ≡ true → (out out' : List ℕ) (s' : Store) (e : ℕ)
+      → ((h : List ℕ) → LineHeld longestAnswer l' (p .size) h → Served (lineTurn (booksOf s) h) s' out (d .written) out' e) → length l' ≡ longestAnswer → Stands s l d o
       → Moved o chunk d out s' l' (record { table = s' .table; size = 0; left = d .left - 1; at = p .at; written = e }) out'
   unfolding lineDone
   moved-line o h w out out' s' e serves len' st =
@@ -98,12 +98,12 @@ module _ (d : Sitting) (s : Store) (l l' chunk : List ℕ) (p : Piece) (len : le
 
 -- ---- turns add up
 
-pub moved-none : (o : Office) (chunk : List ℕ) (d : Sitting) (out : List ℕ) (s : Store) (l : List ℕ) → Stands s l d o → Moved o chunk d out s l d out
+pub moved-none : (o : OfficeState) (chunk : List ℕ) (d : Sitting) (out : List ℕ) (s : Store) (l : List ℕ) → Stands s l d o → Moved o chunk d out s l d out
 moved-none o chunk d out s l st =
     record { after = o; stands = st; same = refl; more = []; said = sym (append-nil (o .said)); out = sym (wrote-none out (d .written)); written = omega arith }
 
-pub moved-more : (o : Office) (chunk : List ℕ) (d₀ d₁ d₂ : Sitting) (out₀ out₁ out₂ : List ℕ) (s₁ s₂ : Store) (l₁ l₂ : List ℕ)
-    → Moved o chunk d₀ out₀ s₁ l₁ d₁ out₁ → ((x : Office) → Stands s₁ l₁ d₁ x → Moved x chunk d₁ out₁ s₂ l₂ d₂ out₂) → Moved o chunk d₀ out₀ s₂ l₂ d₂ out₂
+pub moved-more : (o : OfficeState) (chunk : List ℕ) (d₀ d₁ d₂ : Sitting) (out₀ out₁ out₂ : List ℕ) (s₁ s₂ : Store) (l₁ l₂ : List ℕ)
+    → Moved o chunk d₀ out₀ s₁ l₁ d₁ out₁ → ((x : OfficeState) → Stands s₁ l₁ d₁ x → Moved x chunk d₁ out₁ s₂ l₂ d₂ out₂) → Moved o chunk d₀ out₀ s₂ l₂ d₂ out₂
 moved-more o chunk d₀ d₁ d₂ out₀ out₁ out₂ s₁ s₂ l₁ l₂ m f =
     let n = f (m .after) (m .stands) in
     let len = length-append (m .more) (n .more) in
@@ -121,8 +121,8 @@ pub never : (X : Type 0) → _≡_ {A = Bool} false true → X
 never X e = absurd (let z : _≡_ {A = ℕ} 0 1 = cc in omega arith)
 
 -- what holds at each turn of `feed`
-pub record Going (chunk rf₀ : List ℕ) (ps₀ : List ℤ) (rs₀ l₀ out₀ : List ℕ) (d₀ : Sitting) (rf : List ℕ) (ps : List ℤ) (rs l b : List ℕ) (d : Sitting) : Type 0 where
-  pub moved : (o : Office) → Stands (store (d₀ .table) rf₀ ps₀ rs₀) l₀ d₀ o → Moved o chunk d₀ out₀ (store (d .table) rf ps rs) l d b
+pub record FeedGoing (chunk rf₀ : List ℕ) (ps₀ : List ℤ) (rs₀ l₀ out₀ : List ℕ) (d₀ : Sitting) (rf : List ℕ) (ps : List ℤ) (rs l b : List ℕ) (d : Sitting) : Type 0 where
+  pub moved : (o : OfficeState) → Stands (store (d₀ .table) rf₀ ps₀ rs₀) l₀ d₀ o → Moved o chunk d₀ out₀ (store (d .table) rf ps rs) l d b
   pub ready : Set (store (d .table) rf ps rs) l
   pub went : (d ≡ d₀) ⊎ (d₀ .at < d .at)
   pub short : d .written ≤ length out₀
@@ -133,7 +133,7 @@ pub record Going (chunk rf₀ : List ℕ) (ps₀ : List ℤ) (rs₀ l₀ out₀ 
   pub out : length b ≡ length out₀
 
 pub going-start : (chunk rf : List ℕ) (ps : List ℤ) (rs l out : List ℕ) (d : Sitting) → Set (store (d .table) rf ps rs) l → d .written ≤ length out
-    → Going chunk rf ps rs l out d rf ps rs l out d
+    → FeedGoing chunk rf ps rs l out d rf ps rs l out d
 going-start chunk rf ps rs l out d r h =
     record {
       moved = λ o st. moved-none o chunk d out (store (d .table) rf ps rs) l st;
@@ -151,16 +151,16 @@ going-start chunk rf ps rs l out d r h =
 pub going-on : (chunk out : ℕ) (d₀ d : Sitting) → (d ≡ d₀) ⊎ (d₀ .at < d .at) → (Turning d chunk out → ⊥) → Turning d₀ chunk out → d₀ .at < d .at
 going-on chunk out d₀ d w stop t = ⊎-elim (λ e. absurd (stop (rw e t))) (λ h. h) w
 
-pub later : (d₀ d : Sitting) (at : ℕ) → (d ≡ d₀) ⊎ (d₀ .at < d .at) → d .at < at → d₀ .at < at
-later d₀ d at w h = ⊎-elim (λ e. rw (← e) h) (λ g. omega arith) w
+pub still-later : (d₀ d : Sitting) (at : ℕ) → (d ≡ d₀) ⊎ (d₀ .at < d .at) → d .at < at → d₀ .at < at
+still-later d₀ d at w h = ⊎-elim (λ e. rw (← e) h) (λ g. omega arith) w
 
 -- ---- the end of the input
 
-over-stop : (o : Office) → o .left ≡ 0 → inputDone o ≡ o
+over-stop : (o : OfficeState) → o .left ≡ 0 → inputDone o ≡ o
 unfolding inputDone
 over-stop o h = rw h
 
-over-none : (o : Office) → o .held ≡ [] → inputDone o ≡ o
+over-none : (o : OfficeState) → o .held ≡ [] → inputDone o ≡ o
 unfolding inputDone
 over-none o h = ap (λ (l : List ℕ). atEnd (o .left) o l) h ∙ go (o .left)
   where
@@ -168,7 +168,7 @@ over-none o h = ap (λ (l : List ℕ). atEnd (o .left) o l) h ∙ go (o .left)
     go zero = refl
     go (suc n) = refl
 
-over-some : (o : Office) → 0 < o .left → 0 < length (o .held) → inputDone o ≡ lineDone o (o .held)
+over-some : (o : OfficeState) → 0 < o .left → 0 < length (o .held) → inputDone o ≡ lineDone o (o .held)
 unfolding inputDone
 over-some o h k = go (o .left) (o .held) h k
   where
@@ -181,11 +181,11 @@ no-bytes : (l : List ℕ) → length l ≡ 0 → l ≡ []
 no-bytes [] h = refl
 no-bytes (x ∷ l) h = absurd (omega arith)
 
-ended-none : (o : Office) (out : List ℕ) (w : ℕ) → inputDone o ≡ o → Ended o out w out w
+ended-none : (o : OfficeState) (out : List ℕ) (w : ℕ) → inputDone o ≡ o → Ended o out w out w
 ended-none o out w e =
     record { more = []; said = rw e (sym (append-nil (o .said))); out = sym (wrote-none out w); written = omega arith }
 
-module _ (s : Store) (l : List ℕ) (d : Sitting) (o : Office) (st : Stands s l d o) (out : List ℕ) where
+module _ (s : Store) (l : List ℕ) (d : Sitting) (o : OfficeState) (st : Stands s l d o) (out : List ℕ) where
   pub ended-left : d .left < 1 → Ended o out (d .written) out (d .written)
   ended-left h = ended-none o out (d .written) (over-stop o (omega (arith, st .left)))
 
@@ -193,22 +193,22 @@ module _ (s : Store) (l : List ℕ) (d : Sitting) (o : Office) (st : Stands s l 
   ended-size h = ended-none o out (d .written) (over-none o (no-bytes (o .held) (omega (arith, st .line .size))))
 
   pub ended-line : 1 ≤ d .left → 1 ≤ d .size → (s' : Store) (out' : List ℕ) (e : ℕ)
-      → ((h : List ℕ) → Kept longestAnswer l (d .size) h → Served (lineTurn (booksOf s) h) s' out (d .written) out' e) → Ended o out (d .written) out' e
+      → ((h : List ℕ) → LineHeld longestAnswer l (d .size) h → Served (lineTurn (booksOf s) h) s' out (d .written) out' e) → Ended o out (d .written) out' e
   unfolding lineDone
   ended-line hl hs s' out' e serves =
       let v : Served (lineTurn (o .books) (o .held)) s' out (d .written) out' e = rw (st .books) at (serves (o .held) (st .line)) in
       let ov = over-some o (omega (arith, st .left)) (omega (arith, st .line .size)) in
-      record { more = lineTurn (o .books) (o .held) .said; said = ap (λ (x : Office). x .said) ov; out = v .said .out; written = v .said .end }
+      record { more = lineTurn (o .books) (o .held) .said; said = ap (λ (x : OfficeState). x .said) ov; out = v .said .out; written = v .said .end }
 
 -- ---- chunks add up
 
-pub fed-more : (xs ys : List ℕ) (o : Office) → fed o (xs ++ ys) ≡ fed (fed o xs) ys
+pub fed-more : (xs ys : List ℕ) (o : OfficeState) → fed o (xs ++ ys) ≡ fed (fed o xs) ys
 unfolding fed
 fed-more [] ys o = refl
 fed-more (x ∷ xs) ys o = fed-more xs ys (byte o x)
 
 -- once no line is left nothing is read
-pub fed-stop : (xs : List ℕ) (o : Office) → o .left ≡ 0 → fed o xs ≡ o
+pub fed-stop : (xs : List ℕ) (o : OfficeState) → o .left ≡ 0 → fed o xs ≡ o
 unfolding fed byte
 fed-stop [] o h = refl
 fed-stop (x ∷ xs) o h = rw (eq-eqb (o .left) 0 h) (fed-stop xs o h)

@@ -142,30 +142,30 @@ pub header-some : (t : Table) (c : ClaimLine) → (t .count ≡ 0 → ⊥) → t
 unfolding headerFor
 header-some t c e = rw (ne-eqb (t .count) 0 e)
 
-abbrev pub headed : Store → Table → Store
-headed s h = store h (s .references) (s .coordinates) (s .nodes)
+abbrev pub withHeader : Store → Table → Store
+withHeader s h = store h (s .references) (s .coordinates) (s .nodes)
 
-header-table : (s : Store) (c : ClaimLine) → s .table .capacity ≡ officeClaims → tableFor (booksOf s) c ≡ tableOf (headed s (headerFor (s .table) c))
+header-table : (s : Store) (c : ClaimLine) → s .table .capacity ≡ officeClaims → tableFor (booksOf s) c ≡ tableOf (withHeader s (headerFor (s .table) c))
 unfolding tableFor booksOf headerFor claimsFrom
 header-table s c cap = go (eqb (s .table .count) 0)
   where
     go : (b : Bool)
         → tableFor (cond b closed (opened (tableOf s))) c
-        ≡ tableOf (headed s (cond b (record { number = c .table; measure = c .measure; d = c .d; capacity = s .table .capacity; count = 0; used = 0 }) (s .table)))
+        ≡ tableOf (withHeader s (cond b (record { number = c .table; measure = c .measure; d = c .d; capacity = s .table .capacity; count = 0; used = 0 }) (s .table)))
     go true = rw cap
     go false = refl
 
-header-ready : (s : Store) (c : ClaimLine) → Ready s → InRange (c .measure) (c .d) → Ready (headed s (headerFor (s .table) c))
+header-ready : (s : Store) (c : ClaimLine) → Ready s → InRange (c .measure) (c .d) → Ready (withHeader s (headerFor (s .table) c))
 unfolding headerFor IsBuilt built
 header-ready s c r i = go (eqb (s .table .count) 0)
   where
     fresh : Table
     fresh = record { number = c .table; measure = c .measure; d = c .d; capacity = s .table .capacity; count = 0; used = 0 }
 
-    places : s .table .capacity * c .d ≤ length (s .coordinates)
-    places = let p = r .places in rw (r .capacity) (omega (arith, i .narrow))
+    wide : s .table .capacity * c .d ≤ length (s .coordinates)
+    wide = let p = r .wide in rw (r .capacity) (omega (arith, i .narrow))
 
-    go : (b : Bool) → Ready (headed s (cond b fresh (s .table)))
+    go : (b : Bool) → Ready (withHeader s (cond b fresh (s .table)))
     go true =
         let f = r .good .fit in
         record {
@@ -174,29 +174,29 @@ header-ready s c r i = go (eqb (s .table .count) 0)
               range = i;
               some = f .some;
               references = f .references;
-              lent = record { narrow = i .narrow; most = f .lent .most; coordinates = places; nodes = f .lent .nodes };
+              lent = record { narrow = i .narrow; most = f .lent .most; coordinates = wide; nodes = f .lent .nodes };
             };
             count = omega arith;
             built = refl;
           };
           capacity = r .capacity;
-          places = r .places;
+          wide = r .wide;
         }
     go false = r
 
 module _ (s : Store) (c : ClaimLine) (r : Ready s) (i : InRange (c .measure) (c .d)) (h : Table) (is : h ≡ headerFor (s .table) c)
     (b : Bool) (test : b ≡ (eqb (c .table) (h .number) && (eqb (c .measure) (h .measure) && eqb (c .d) (h .d)))) (out : List ℕ) (at : ℕ) where
-  pub head-ready : Ready (headed s h)
+  pub head-ready : Ready (withHeader s h)
   head-ready = rw is (header-ready s c r i)
 
-  table-is : tableFor (booksOf s) c ≡ tableOf (headed s h)
+  table-is : tableFor (booksOf s) c ≡ tableOf (withHeader s h)
   table-is = rw is (header-table s c (r .capacity))
 
   ours-is : ours (tableFor (booksOf s) c) c ≡ b
   unfolding ours
   ours-is = rw table-is (sym test)
 
-  count-is : length (claimsIn (headed s h)) ≡ h .count
+  count-is : length (claimsIn (withHeader s h)) ≡ h .count
   count-is = claims-length (h .d) (h .count) (s .references) (s .coordinates)
 
   claim-refused : (n : ℕ) (l : List ℕ) (e : ℕ) → claimEntering (tableFor (booksOf s) c) c ≡ refused n → Put (refusal n) out at l e
@@ -214,11 +214,11 @@ module _ (s : Store) (c : ClaimLine) (r : Ready s) (i : InRange (c .measure) (c 
         → Served (claimTurn (booksOf s) (claimEntering (tableFor (booksOf s) c) c)) s out at l e
     unfolding claimEntering
     claim-3 full l e p =
-        let z : leb (length (claimsIn (headed s h)) + 1) (h .capacity) ≡ false = lt-leb (length (claimsIn (headed s h)) + 1) (h .capacity) (omega (arith, count-is)) in
+        let z : leb (length (claimsIn (withHeader s h)) + 1) (h .capacity) ≡ false = lt-leb (length (claimsIn (withHeader s h)) + 1) (h .capacity) (omega (arith, count-is)) in
         claim-refused 3 l e (rw (ours-is, not-false b t, table-is, z)) p
 
     module _ (more : h .count < h .capacity) (eight : 7 < length (c .coordinates)) where
-      pub add-ready : Roomy (headed s h) 1 × (0 * h .d + h .d ≤ length (c .coordinates))
+      pub add-ready : Roomy (withHeader s h) 1 × (0 * h .d + h .d ≤ length (c .coordinates))
       add-ready =
           (record { good = head-ready .good; free = omega arith }, omega (arith, head-ready .good .fit .range .narrow))
 
@@ -238,37 +238,37 @@ module _ (s : Store) (c : ClaimLine) (r : Ready s) (i : InRange (c .measure) (c 
           let z : 0 * h .d ≡ 0 = omega arith in
           rw z (take-take (h .d) (h .d) (c .coordinates) (omega arith) ∙ ap (λ (n : ℕ). take n (c .coordinates)) same-d)
 
-      entered-is : tableOf (added (headed s h) (c .reference) Point) ≡ withClaim (tableOf (headed s h)) (claimIn c)
+      entered-is : tableOf (added (withHeader s h) (c .reference) Point) ≡ withClaim (tableOf (withHeader s h)) (claimIn c)
       unfolding withClaim claimIn
       entered-is =
-          let x = added-claims (headed s h) (head-ready .good) more (c .reference) Point whole in
-          let k = added-kept (headed s h) (c .reference) Point in
-          let y = x ∙ ap (λ (l : List ℤ). claimsIn (headed s h) ++ (record { reference = c .reference; place = l } ∷ [])) place-is in
+          let x = added-claims (withHeader s h) (head-ready .good) more (c .reference) Point whole in
+          let k = added-kept (withHeader s h) (c .reference) Point in
+          let y = x ∙ ap (λ (l : List ℤ). claimsIn (withHeader s h) ++ (record { reference = c .reference; point = l } ∷ [])) place-is in
           λ j. record { number = k .number j; measure = k .measure j; d = k .d j; capacity = k .capacity j; claims = y j }
 
-      entering-gives : claimEntering (tableFor (booksOf s) c) c ≡ gives (withClaim (tableOf (headed s h)) (claimIn c))
+      entering-gives : claimEntering (tableFor (booksOf s) c) c ≡ gives (withClaim (tableOf (withHeader s h)) (claimIn c))
       unfolding claimEntering
       entering-gives =
-          let z : leb (length (claimsIn (headed s h)) + 1) (h .capacity) ≡ true = le-leb (length (claimsIn (headed s h)) + 1) (h .capacity) (omega (arith, count-is)) in
+          let z : leb (length (claimsIn (withHeader s h)) + 1) (h .capacity) ≡ true = le-leb (length (claimsIn (withHeader s h)) + 1) (h .capacity) (omega (arith, count-is)) in
           rw (ours-is, not-false b t, table-is, z)
 
-      added-ready : Ready (added (headed s h) (c .reference) Point)
+      added-ready : Ready (added (withHeader s h) (c .reference) Point)
       unfolding added
       added-ready =
           record {
-            good = added-good (headed s h) (head-ready .good) more (c .reference) Point whole;
+            good = added-good (withHeader s h) (head-ready .good) more (c .reference) Point whole;
             capacity = head-ready .capacity;
-            places = rw (length-paste (s .coordinates) (h .count * h .d) Point (h .d) (good-end (headed s h) (head-ready .good) more) whole) (r .places);
+            wide = rw (length-paste (s .coordinates) (h .count * h .d) Point (h .d) (good-end (withHeader s h) (head-ready .good) more) whole) (r .wide);
           }
 
-      pub claim-in : (x : Store) → x ≡ added (headed s h) (c .reference) Point → at ≤ length out
+      pub claim-in : (x : Store) → x ≡ added (withHeader s h) (c .reference) Point → at ≤ length out
           → Served (claimTurn (booksOf s) (claimEntering (tableFor (booksOf s) c) c)) x out at out at
       unfolding claimTurn
       claim-in x e inside =
-          let k : added (headed s h) (c .reference) Point .table .count ≡ h .count + 1 = added-kept (headed s h) (c .reference) Point .count in
+          let k : added (withHeader s h) (c .reference) Point .table .count ≡ h .count + 1 = added-kept (withHeader s h) (c .reference) Point .count in
           rw (entering-gives, e)
           (record {
-            books = books-some (added (headed s h) (c .reference) Point) (λ z. omega (arith, k)) ∙ ap opened entered-is;
+            books = books-some (added (withHeader s h) (c .reference) Point) (λ z. omega (arith, k)) ∙ ap opened entered-is;
             ready = added-ready;
             said = record { out = sym (wrote-none out at); end = omega arith; short = inside };
           })

@@ -14,9 +14,9 @@ use Rattle.paper.specs.Ends.{tableOf}
 use Rattle.paper.specs.Program.{Books, closed, opened, Turn, lineTurn}
 use Rattle.paper.specs.Points.{InRange}
 use Rattle.tree.specs.Soundness.{Good}
-use Rattle.cut.specs.Cut.{Kept}
+use Rattle.cut.specs.Cut.{LineHeld}
 use Rattle.desk.specs.Desk.{Given}
-use Rattle.paper.specs.Limits.{longestAnswer, officeClaims, officePlaces}
+use Rattle.paper.specs.Limits.{longestAnswer, officeClaims, officeCoordinates}
 
 -- the bytes bs written into out from i on
 unfoldable pub wrote : List ℕ → ℕ → List ℕ → List ℕ
@@ -43,7 +43,7 @@ headerFor t c =
 pub record Ready (s : Store) : Type 0 where
   pub good : Good s
   pub capacity : s .table .capacity ≡ officeClaims
-  pub places : officePlaces ≤ length (s .coordinates)
+  pub wide : officeCoordinates ≤ length (s .coordinates)
 
 -- with room in `out` for a line from `at` on
 pub record Serving (s : Store) (out at : ℕ) : Type 0 where
@@ -51,11 +51,11 @@ pub record Serving (s : Store) (out at : ℕ) : Type 0 where
   pub room : at + longestAnswer ≤ out
 
 -- a claim that a reader gives, and an ask
-pub record Claiming (s : Store) (c : ClaimLine) (out at : ℕ) : Type 0 where
+pub record ClaimServing (s : Store) (c : ClaimLine) (out at : ℕ) : Type 0 where
   pub serving : Serving s out at
   pub range : InRange (c .measure) (c .d)
 
-pub record Asking (s : Store) (a : Ask) (out at : ℕ) : Type 0 where
+pub record AskServing (s : Store) (a : Ask) (out at : ℕ) : Type 0 where
   pub serving : Serving s out at
   pub ask : Given a
 
@@ -67,6 +67,6 @@ pub record Served (a : Turn) (s : Store) (out₀ : List ℕ) (i : ℕ) (l : List
 
 -- [10.8] the same of the line that was cut into a room: a size over the room's length stands for any longer line
 pub record ServedCut (room : List ℕ) (size : ℕ) (b : Books) (s : Store) (out₀ : List ℕ) (i : ℕ) (l : List ℕ) (e : ℕ) : Type 0 where
-  pub served : (h : List ℕ) → Kept longestAnswer room size h → Served (lineTurn b h) s out₀ i l e
+  pub served : (h : List ℕ) → LineHeld longestAnswer room size h → Served (lineTurn b h) s out₀ i l e
   pub ready : Ready s
   pub short : e ≤ length out₀

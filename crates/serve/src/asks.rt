@@ -3,7 +3,7 @@ ghost use lib.ListN.{length};
 ghost use Rattle.paper.specs.Tree.{lent};
 ghost use Rattle.paper.specs.Codec.{askMeant};
 ghost use Rattle.paper.specs.Program.{reply, askTurn};
-ghost use Rattle.serve.specs.Serving.{Put, booksOf, Asking};
+ghost use Rattle.serve.specs.Serving.{Put, booksOf, AskServing};
 use super::refusing::refuse;
 use paper::lines::Ask;
 use paper::lines::Wrote;
@@ -18,7 +18,7 @@ pub fn take_ask(
     out: &mut [u8],
     at: usize,
 ) -> usize
-    requires { ⌜ Asking (lent t references coordinates nodes) ask (length (now out)) at ⌝ }
+    requires { ⌜ AskServing (lent t references coordinates nodes) ask (length (now out)) at ⌝ }
     ensures { λ r. ⌜ Put (askTurn (booksOf (lent t (references .entry) (coordinates .entry) (nodes .entry))) (reply (booksOf (lent t (references .entry) (coordinates .entry) (nodes .entry))) (askMeant ask)) .said) (now (out .entry)) at (now (out .exit)) r ⌝ }
 {
     if t.count == 0 {

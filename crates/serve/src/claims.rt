@@ -3,7 +3,7 @@ ghost use mathlib.Core.Path.{_≡_};
 ghost use lib.ListN.{length};
 ghost use Rattle.paper.specs.Tree.{lent};
 ghost use Rattle.paper.specs.Program.{tableFor, claimEntering, claimTurn};
-ghost use Rattle.serve.specs.Serving.{booksOf, headerFor, Claiming, Served};
+ghost use Rattle.serve.specs.Serving.{booksOf, headerFor, ClaimServing, Served};
 use super::refusing::refuse;
 use checks::is_ours;
 use paper::lines::ClaimLine;
@@ -41,7 +41,7 @@ pub fn take_claim(
     out: &mut [u8],
     at: usize,
 ) -> Step
-    requires { ⌜ Claiming (lent t references coordinates nodes) c (length (now out)) at ⌝ }
+    requires { ⌜ ClaimServing (lent t references coordinates nodes) c (length (now out)) at ⌝ }
     ensures { λ r. ⌜ Served (claimTurn (booksOf (lent t (references .entry) (coordinates .entry) (nodes .entry))) (claimEntering (tableFor (booksOf (lent t (references .entry) (coordinates .entry) (nodes .entry))) c) c)) (lent (r .table) (references .exit) (coordinates .exit) (nodes .exit)) (now (out .entry)) at (now (out .exit)) (r .at) ⌝ }
 {
     let header = header_for(t, c);
@@ -53,14 +53,14 @@ pub fn take_claim(
         let end = refuse(out, at, 3);
         return Step { table: t, at: end };
     }
-    let places = c.coordinates;
+    let points = c.coordinates;
     let after = tree::runs::add(
         header,
         references,
         coordinates,
         nodes,
         c.reference,
-        &places,
+        &points,
         0,
     );
     Step { table: after, at }

@@ -4,7 +4,7 @@ ghost use Prim.Native.Nat.{_+_, _<_, _≤_};
 ghost use mathlib.Core.Bool.{true};
 ghost use lib.ListN.{length};
 ghost use Rattle.paper.specs.Tree.{lent};
-ghost use Rattle.paper.specs.Program.{Office};
+ghost use Rattle.paper.specs.Program.{OfficeState};
 ghost use Rattle.serve.specs.Feeding.{Stands, Set, Turning, Moved, Ended};
 ghost use Rattle.paper.specs.Limits.{longestAnswer};
 use super::one_line::serve_cut;
@@ -32,7 +32,7 @@ fn turn(
     out: &mut [u8],
 ) -> Sitting
     requires { ⌜ Set (lent (d .table) references coordinates nodes) (now line) × Turning d (length (now chunk)) (length (now out)) ⌝ }
-    ensures moved { λ r. ⌜ ((o : Office) → Stands (lent (d .table) (references .entry) (coordinates .entry) (nodes .entry)) (now (line .entry)) d o → Moved o (now (chunk .entry)) d (now (out .entry)) (lent (r .table) (references .exit) (coordinates .exit) (nodes .exit)) (now (line .exit)) r (now (out .exit))) ⌝ }
+    ensures moved { λ r. ⌜ ((o : OfficeState) → Stands (lent (d .table) (references .entry) (coordinates .entry) (nodes .entry)) (now (line .entry)) d o → Moved o (now (chunk .entry)) d (now (out .entry)) (lent (r .table) (references .exit) (coordinates .exit) (nodes .exit)) (now (line .exit)) r (now (out .exit))) ⌝ }
     ensures ready { λ r. ⌜ Set (lent (r .table) (references .exit) (coordinates .exit) (nodes .exit)) (now (line .exit)) ⌝ }
     ensures on { λ r. ⌜ (d .at < r .at) × (r .written ≤ length (now (out .entry))) ⌝ }
 {
@@ -88,7 +88,7 @@ pub fn feed(
     out: &mut [u8],
 ) -> Sitting
     requires { ⌜ Set (lent (d .table) references coordinates nodes) (now line) × (d .written ≤ length (now out)) ⌝ }
-    ensures moved { λ r. ⌜ ((o : Office) → Stands (lent (d .table) (references .entry) (coordinates .entry) (nodes .entry)) (now (line .entry)) d o → Moved o (now (chunk .entry)) d (now (out .entry)) (lent (r .table) (references .exit) (coordinates .exit) (nodes .exit)) (now (line .exit)) r (now (out .exit))) ⌝ }
+    ensures moved { λ r. ⌜ ((o : OfficeState) → Stands (lent (d .table) (references .entry) (coordinates .entry) (nodes .entry)) (now (line .entry)) d o → Moved o (now (chunk .entry)) d (now (out .entry)) (lent (r .table) (references .exit) (coordinates .exit) (nodes .exit)) (now (line .exit)) r (now (out .exit))) ⌝ }
     ensures ready { λ r. ⌜ Set (lent (r .table) (references .exit) (coordinates .exit) (nodes .exit)) (now (line .exit)) ⌝ }
     ensures on { λ r. ⌜ (Turning d (length (now (chunk .entry))) (length (now (out .entry))) → d .at < r .at) ⌝ }
     ensures short { λ r. ⌜ r .written ≤ length (now (out .entry)) ⌝ }
@@ -110,7 +110,7 @@ pub fn finish(
     out: &mut [u8],
 ) -> usize
     requires { ⌜ Set (lent (d .table) references coordinates nodes) (now line) × (d .written + longestAnswer ≤ length (now out)) ⌝ }
-    ensures done { λ r. ⌜ ((o : Office) → Stands (lent (d .table) (references .entry) (coordinates .entry) (nodes .entry)) (now (line .entry)) d o → Ended o (now (out .entry)) (d .written) (now (out .exit)) r) ⌝ }
+    ensures done { λ r. ⌜ ((o : OfficeState) → Stands (lent (d .table) (references .entry) (coordinates .entry) (nodes .entry)) (now (line .entry)) d o → Ended o (now (out .entry)) (d .written) (now (out .exit)) r) ⌝ }
     ensures short { λ r. ⌜ r ≤ length (now (out .entry)) ⌝ }
 {
     let t = d.table;

@@ -8,27 +8,27 @@ use lib.Dec.{lit≤}
 use lib.IntN.{ℤ}
 use lib.ListN.{length, drop, drop-of-length-le}
 use Rattle.paper.specs.Tree.{Store, store, built}
-use Rattle.paper.specs.Program.{Office, fed, officeStart}
+use Rattle.paper.specs.Program.{OfficeState, fed, officeStart}
 use Rattle.tree.specs.Rooms.{IsBuilt}
 use Rattle.cut.proofs.Laws.{kept-none}
 use Rattle.serve.specs.declared.feeding.Sitting.{Sitting}
 use Rattle.serve.specs.Serving.{booksOf, Ready}
 use Rattle.serve.specs.Feeding.{Set, Stands, Turning, Moved}
 use Rattle.serve.proofs.Moves.{fed-more, fed-stop}
-use Rattle.stream.specs.Stream.{anewOf, emptiedOf, sittingStart, Reached, Roomy}
-use Rattle.paper.specs.Limits.{longestAnswer, officeClaims, officePlaces, officeNodes}
+use Rattle.stream.specs.Stream.{anewOf, emptiedOf, sittingStart, Reached, ProgramMemory}
+use Rattle.paper.specs.Limits.{longestAnswer, officeClaims, officeCoordinates, officeNodes}
 
 -- ---- a chunk
 
 -- the office `here` at the sitting d still reads from the chunk what the office o would read of the whole
-pub record Reading (o : Office) (chunk : List ℕ) (s : Store) (l : List ℕ) (d : Sitting) : Type 0 where
-  pub here : Office
+pub record Reading (o : OfficeState) (chunk : List ℕ) (s : Store) (l : List ℕ) (d : Sitting) : Type 0 where
+  pub here : OfficeState
   pub stands : Stands s l d here
   pub same : fed here (drop (d .at) chunk) ≡ fed o chunk
 
 -- what holds at each turn of `pump`
 pub record Pumping (chunk rf₀ : List ℕ) (ps₀ : List ℤ) (rs₀ l₀ out₀ : List ℕ) (d₀ : Sitting) (rf : List ℕ) (ps : List ℤ) (rs l b : List ℕ) (d : Sitting) : Type 0 where
-  pub reading : (o : Office) → Stands (store (d₀ .table) rf₀ ps₀ rs₀) l₀ d₀ o → Reading o chunk (store (d .table) rf ps rs) l d
+  pub reading : (o : OfficeState) → Stands (store (d₀ .table) rf₀ ps₀ rs₀) l₀ d₀ o → Reading o chunk (store (d .table) rf ps rs) l d
   pub ready : Set (store (d .table) rf ps rs) l
   pub written : d .written ≡ 0
   pub references : length rf ≡ length rf₀
@@ -52,7 +52,7 @@ pumping-start chunk rf ps rs l out d n e r =
       out = refl;
     })
 
-pub stands-anew : (rf : List ℕ) (ps : List ℤ) (rs l : List ℕ) (d n : Sitting) (o : Office) → n ≡ anewOf d
+pub stands-anew : (rf : List ℕ) (ps : List ℤ) (rs l : List ℕ) (d n : Sitting) (o : OfficeState) → n ≡ anewOf d
     → Stands (store (d .table) rf ps rs) l d o → Stands (store (n .table) rf ps rs) l n o
 stands-anew rf ps rs l d n o e st = rw e (record { books = st .books; line = st .line; left = st .left })
 
@@ -60,8 +60,8 @@ pub pump-turning : (d : Sitting) (chunk out : ℕ) → (d .at < chunk) × (0 < d
 pump-turning d chunk out h w r = record { unread = h .0; left = h .1; room = omega (arith, w) }
 
 -- the office went on by a turn
-reading-more : (o : Office) (chunk : List ℕ) (s s' : Store) (l l' out out' : List ℕ) (d d' : Sitting)
-    → Reading o chunk s l d → ((x : Office) → Stands s l d x → Moved x chunk d out s' l' d' out') → Reading o chunk s' l' (emptiedOf d')
+reading-more : (o : OfficeState) (chunk : List ℕ) (s s' : Store) (l l' out out' : List ℕ) (d d' : Sitting)
+    → Reading o chunk s l d → ((x : OfficeState) → Stands s l d x → Moved x chunk d out s' l' d' out') → Reading o chunk s' l' (emptiedOf d')
 reading-more o chunk s s' l l' out out' d d' r f =
     let m = f (r .here) (r .stands) in
     record {
@@ -73,7 +73,7 @@ reading-more o chunk s s' l l' out out' d d' r f =
 pub pumping-more : (chunk rf₀ : List ℕ) (ps₀ : List ℤ) (rs₀ l₀ out₀ : List ℕ) (d₀ : Sitting) (rf : List ℕ) (ps : List ℤ) (rs l b : List ℕ) (d : Sitting)
     (rf' : List ℕ) (ps' : List ℤ) (rs' l' b' : List ℕ) (r n : Sitting)
     → Pumping chunk rf₀ ps₀ rs₀ l₀ out₀ d₀ rf ps rs l b d
-    → ((x : Office) → Stands (store (d .table) rf ps rs) l d x → Moved x chunk d b (store (r .table) rf' ps' rs') l' r b')
+    → ((x : OfficeState) → Stands (store (d .table) rf ps rs) l d x → Moved x chunk d b (store (r .table) rf' ps' rs') l' r b')
     → Set (store (r .table) rf' ps' rs') l' → n ≡ emptiedOf r
     → length rf' ≡ length rf → length ps' ≡ length ps → length rs' ≡ length rs → length l' ≡ length l → length b' ≡ length b
     → Pumping chunk rf₀ ps₀ rs₀ l₀ out₀ d₀ rf' ps' rs' l' b' n
@@ -90,7 +90,7 @@ pumping-more chunk rf₀ ps₀ rs₀ l₀ out₀ d₀ rf ps rs l b d rf' ps' rs'
       out = k5 ∙ v .out;
     })
 
-pub reading-done : (o : Office) (chunk : List ℕ) (s : Store) (l : List ℕ) (d : Sitting) → Reading o chunk s l d → (length chunk ≤ d .at) ⊎ (d .left ≡ 0)
+pub reading-done : (o : OfficeState) (chunk : List ℕ) (s : Store) (l : List ℕ) (d : Sitting) → Reading o chunk s l d → (length chunk ≤ d .at) ⊎ (d .left ≡ 0)
     → Stands s l d (fed o chunk)
 unfolding fed
 reading-done o chunk s l d r w =
@@ -104,7 +104,7 @@ reading-done o chunk s l d r w =
 -- ---- the whole input
 
 -- the program starts with an empty table, whatever its memory holds
-opened-ready : (rf : List ℕ) (ps : List ℤ) (rs : List ℕ) → officeClaims ≤ length rf → officePlaces ≤ length ps → officeNodes ≤ length rs → Ready (store (sittingStart .table) rf ps rs)
+opened-ready : (rf : List ℕ) (ps : List ℤ) (rs : List ℕ) → officeClaims ≤ length rf → officeCoordinates ≤ length ps → officeNodes ≤ length rs → Ready (store (sittingStart .table) rf ps rs)
 unfolding IsBuilt built
 opened-ready rf ps rs a b c =
     record {
@@ -119,7 +119,7 @@ opened-ready rf ps rs a b c =
         built = refl;
       };
       capacity = refl;
-      places = b;
+      wide = b;
     }
 
 -- what holds at each turn of `run`
@@ -133,12 +133,12 @@ pub record Running (rf₀ : List ℕ) (ps₀ : List ℤ) (rs₀ l₀ out₀ rf :
   pub out : length b ≡ length out₀
 
 pub running-start : (rf : List ℕ) (ps : List ℤ) (rs l out : List ℕ) (d : Sitting) → d ≡ sittingStart
-    → Roomy (length rf) (length ps) (length rs) (length l) (length out) → Running rf ps rs l out rf ps rs l out d
+    → ProgramMemory (length rf) (length ps) (length rs) (length l) (length out) → Running rf ps rs l out rf ps rs l out d
 unfolding fed officeStart booksOf
 running-start rf ps rs l out d e h =
     rw e
     (record {
-      ready = record { ready = opened-ready rf ps rs (h .refs) (h .places) (h .noded); line = h .longest };
+      ready = record { ready = opened-ready rf ps rs (h .refs) (h .wide) (h .noded); line = h .longest };
       reached = record { bytes = []; stands = record { books = refl; line = rw (h .longest) at (kept-none l); left = refl } };
       references = refl;
       coordinates = refl;
@@ -147,13 +147,13 @@ running-start rf ps rs l out d e h =
       out = refl;
     })
 
-pub reached-more : (o : Office) (s s' : Store) (l l' : List ℕ) (d d' : Sitting) → Reached o s l d → ((x : Office) → Stands s l d x → Reached x s' l' d')
+pub reached-more : (o : OfficeState) (s s' : Store) (l l' : List ℕ) (d d' : Sitting) → Reached o s l d → ((x : OfficeState) → Stands s l d x → Reached x s' l' d')
     → Reached o s' l' d'
 reached-more o s s' l l' d d' r f =
     let n = f (fed o (r .bytes)) (r .stands) in
     record { bytes = r .bytes ++ n .bytes; stands = rw (fed-more (r .bytes) (n .bytes) o) (n .stands) }
 
-pub reached-none : (o : Office) (s : Store) (l : List ℕ) (d : Sitting) → Stands s l d o → Reached o s l d
+pub reached-none : (o : OfficeState) (s : Store) (l : List ℕ) (d : Sitting) → Stands s l d o → Reached o s l d
 unfolding fed
 reached-none o s l d st = record { bytes = []; stands = st }
 

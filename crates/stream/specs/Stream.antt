@@ -3,10 +3,10 @@ use Prim.Native.Nat.{ℕ, _≤_}
 use mathlib.Core.Path.{_≡_}
 use mathlib.Core.List.{List}
 use Rattle.paper.specs.Tree.{Store}
-use Rattle.paper.specs.Program.{Office, fed}
+use Rattle.paper.specs.Program.{OfficeState, fed}
 use Rattle.serve.specs.declared.feeding.Sitting.{Sitting}
 use Rattle.serve.specs.Feeding.{Stands}
-use Rattle.paper.specs.Limits.{longestAnswer, officeClaims, officePlaces, officeNodes}
+use Rattle.paper.specs.Limits.{longestAnswer, officeClaims, officeCoordinates, officeNodes}
 
 abbrev pub anewOf : Sitting → Sitting
 anewOf d = record { table = d .table; size = d .size; left = d .left; at = 0; written = 0 }
@@ -26,14 +26,14 @@ sittingStart =
     }
 
 -- the memory stands for the office o after some bytes that were read
-pub record Reached (o : Office) (s : Store) (l : List ℕ) (d : Sitting) : Type 0 where
+pub record Reached (o : OfficeState) (s : Store) (l : List ℕ) (d : Sitting) : Type 0 where
   pub bytes : List ℕ
   pub stands : Stands s l d (fed o bytes)
 
 -- the memory that the program has, and room for a line
-pub record Roomy (references coordinates nodes line out : ℕ) : Type 0 where
+pub record ProgramMemory (references coordinates nodes line out : ℕ) : Type 0 where
   pub refs : officeClaims ≤ references
-  pub places : officePlaces ≤ coordinates
+  pub wide : officeCoordinates ≤ coordinates
   pub noded : officeNodes ≤ nodes
   pub longest : line ≡ longestAnswer
   pub space : longestAnswer ≤ out

@@ -4,8 +4,8 @@ use libc::STDIN_FILENO;
 use libc::STDOUT_FILENO;
 use paper::limits::LONGEST_ANSWER;
 use paper::limits::OFFICE_CLAIMS;
+use paper::limits::OFFICE_COORDINATES;
 use paper::limits::OFFICE_NODES;
-use paper::limits::OFFICE_PLACES;
 use paper::tables::Table;
 use serve::feeding::Sitting;
 use serve::feeding::feed;
@@ -16,9 +16,9 @@ ghost use mathlib.Core.Bool.{true, false};
 ghost use mathlib.Core.Logic.{_⊎_};
 ghost use lib.ListN.{length};
 ghost use Rattle.paper.specs.Tree.{lent};
-ghost use Rattle.paper.specs.Program.{Office, fed};
+ghost use Rattle.paper.specs.Program.{OfficeState, fed};
 ghost use Rattle.serve.specs.Feeding.{Set, Stands};
-ghost use Rattle.stream.specs.Stream.{anewOf, emptiedOf, sittingStart, Reached, Roomy};
+ghost use Rattle.stream.specs.Stream.{anewOf, emptiedOf, sittingStart, Reached, ProgramMemory};
 ghost use Rattle.paper.specs.Limits.{longestAnswer};
 
 // How a sitting stands at the start of a chunk.
@@ -73,7 +73,7 @@ fn pump(
 ) -> Sitting
     requires { ⌜ Set (lent (d .table) references coordinates nodes) (now line) × (longestAnswer ≤ length (now out)) ⌝ }
     ensures { λ r. ⌜ Set (lent (r .table) (references .exit) (coordinates .exit) (nodes .exit)) (now (line .exit)) ⌝ }
-    ensures { λ r. ⌜ ((o : Office) → Stands (lent (d .table) (references .entry) (coordinates .entry) (nodes .entry)) (now (line .entry)) d o → Stands (lent (r .table) (references .exit) (coordinates .exit) (nodes .exit)) (now (line .exit)) r (fed o (now (chunk .entry)))) ⌝ }
+    ensures { λ r. ⌜ ((o : OfficeState) → Stands (lent (d .table) (references .entry) (coordinates .entry) (nodes .entry)) (now (line .entry)) d o → Stands (lent (r .table) (references .exit) (coordinates .exit) (nodes .exit)) (now (line .exit)) r (fed o (now (chunk .entry)))) ⌝ }
 {
     let mut n = anew(d);
     while unread(n, chunk.len()) {
@@ -102,7 +102,7 @@ fn once(
 ) -> Pause
     requires { ⌜ Set (lent (d .table) references coordinates nodes) (now line) × (longestAnswer ≤ length (now out)) ⌝ }
     ensures { λ r. ⌜ Set (lent (r .sitting .table) (references .exit) (coordinates .exit) (nodes .exit)) (now (line .exit)) ⌝ }
-    ensures { λ r. ⌜ ((o : Office) → Stands (lent (d .table) (references .entry) (coordinates .entry) (nodes .entry)) (now (line .entry)) d o → Reached o (lent (r .sitting .table) (references .exit) (coordinates .exit) (nodes .exit)) (now (line .exit)) (r .sitting)) ⌝ }
+    ensures { λ r. ⌜ ((o : OfficeState) → Stands (lent (d .table) (references .entry) (coordinates .entry) (nodes .entry)) (now (line .entry)) d o → Reached o (lent (r .sitting .table) (references .exit) (coordinates .exit) (nodes .exit)) (now (line .exit)) (r .sitting)) ⌝ }
 {
     let got = libc::read(STDIN_FILENO, chunk);
     let n = io::count(got, chunk);
@@ -159,7 +159,7 @@ fn run(
     chunk: &mut [u8],
     out: &mut [u8],
 )
-    requires { ⌜ Roomy (length (now references)) (length (now coordinates)) (length (now nodes)) (length (now line)) (length (now out)) ⌝ }
+    requires { ⌜ ProgramMemory (length (now references)) (length (now coordinates)) (length (now nodes)) (length (now line)) (length (now out)) ⌝ }
 {
     let mut d = open_sitting();
     let mut open = true;
@@ -178,7 +178,7 @@ fn run(
 // The program `office`, with memory of its own.
 pub fn office() {
     let mut references = [0u32; OFFICE_CLAIMS];
-    let mut coordinates = [0i32; OFFICE_PLACES];
+    let mut coordinates = [0i32; OFFICE_COORDINATES];
     let mut nodes = [0u64; OFFICE_NODES];
     let mut line = [0u8; LONGEST_ANSWER];
     let mut chunk = [0u8; 65536];

@@ -22,20 +22,20 @@ use Rattle.paper.specs.Outcomes.{Outcome, refused, gives, must, onto, number}
 use Rattle.paper.specs.Points.{inRange}
 use Rattle.paper.specs.Frames.{lineOf, frameOf}
 use Rattle.paper.specs.Frames as frames
-use Rattle.paper.specs.Fields.{inPlaces, scopeOk}
+use Rattle.paper.specs.Fields.{queryInSlots, scopeOk}
 use Rattle.paper.specs.Lines.{answerKind, spoken, queryFits, Writes, bareLine, reading, askFrame, askRanges, askFits, answerOk, answerAt, anAnswer, noAnswer, readAsAnswer}
 use Rattle.paper.specs.Ends.{Listing, sizeHolds, opening, presentPlace, presentAsk, soundIn, asking, taken, taking}
-use Rattle.paper.specs.Lists.{Takes, Held, held, listing, roomFor, heldWell, soundHeld, noList, openedAs, openingHeld, openedTold, askingHeld, takingHeld}
+use Rattle.paper.specs.Lists.{Takes, Held, held, listing, roomFor, heldWell, soundHeld, noList, openedAs, openingHeld, openedShown, askingHeld, takingHeld}
 use Rattle.lines.proofs.WritersReaders.{writes-refused, bare-fits}
 use Rattle.paper.specs.Codec.{scopeOf, askLine, answerMeant, lines}
 use Rattle.paper.proofs.Tests.{and-first, and-second, and-both}
 use Rattle.paper.proofs.Reading.{answer-by-refusal}
 use Rattle.lines.proofs.Tests.{is-answer}
-use Rattle.tablet.specs.Holding.{Asks}
+use Rattle.tablet.specs.Holding.{AskReady}
 use Rattle.paper.proofs.Ranges.{range-is}
 use Rattle.paper.proofs.Outcomes.{must-stop, must-go}
 use Rattle.tablet.proofs.TakeLaws.{present-after, present-start}
-use Rattle.paper.specs.Limits.{longestAsk, mostClaims, mostNumber, mostPage, mostPlaces}
+use Rattle.paper.specs.Limits.{longestAsk, mostClaims, mostNumber, mostPage, mostCoordinates}
 
 -- ---- taking a line
 
@@ -99,7 +99,7 @@ start-fits : (size : ℕ) → 1 ≤ size → size ≤ mostPage → askRanges (re
 unfolding askRanges scopeOk
 start-fits size s t = rw (le-leb 1 size s, le-leb size mostPage t)
 
-module _ (l : lists.List) (mem : List ℕ) (size : ℕ) (asks : Asks l mem) (one : 1 ≤ size) (most : size ≤ mostPage) where
+module _ (l : lists.List) (mem : List ℕ) (size : ℕ) (asks : AskReady l mem) (one : 1 ≤ size) (most : size ≤ mostPage) where
   abbrev place : Place
   place = presentPlace (listing (held l mem))
 
@@ -184,19 +184,19 @@ module _ (q : Query) (a : Bool) (ae : a ≡ inRange (q .measure) (q .d)) where
   abbrev opens : Outcome lists.List
   opens = openingHeld q
 
-  pub open-1 : not a ≡ true → (r : Opened) → r ≡ record { refusal = 1; list = noList } → r ≡ openedTold opens
-  unfolding openingHeld opening openedTold
+  pub open-1 : not a ≡ true → (r : Opened) → r ≡ record { refusal = 1; list = noList } → r ≡ openedShown opens
+  unfolding openingHeld opening openedShown
   open-1 h r e = e ∙ rw (← ae, not-true a h)
 
   module _ (ha : not a ≡ false) where
-    pub open-5 : (length (q .probe) ≡ q .d → ⊥) → (r : Opened) → r ≡ record { refusal = 5; list = noList } → r ≡ openedTold opens
-    unfolding openingHeld opening openedTold
+    pub open-5 : (length (q .probe) ≡ q .d → ⊥) → (r : Opened) → r ≡ record { refusal = 5; list = noList } → r ≡ openedShown opens
+    unfolding openingHeld opening openedShown
     open-5 h r e = e ∙ rw (← ae, not-false a ha, ne-eqb (length (q .probe)) (q .d) h)
 
-    pub open-list : length (q .probe) ≡ q .d → (x : queries.Query) → x ≡ inPlaces q
-        → record { refusal = 0; list = record { query = x; started = false; snapshot = 0; count = 0; complete = false } } ≡ openedTold opens
-    unfolding openingHeld opening openedTold openedAs
+    pub open-list : length (q .probe) ≡ q .d → (x : queries.Query) → x ≡ queryInSlots q
+        → record { refusal = 0; list = record { query = x; started = false; snapshot = 0; count = 0; complete = false } } ≡ openedShown opens
+    unfolding openingHeld opening openedShown openedAs
     open-list h x e = rw (← ae, not-false a ha, eq-eqb (length (q .probe)) (q .d) h, e)
 
-    pub open-narrow : q .d ≤ mostPlaces
+    pub open-narrow : q .d ≤ mostCoordinates
     open-narrow = range-is (q .measure) (q .d) (sym ae ∙ not-false a ha) .narrow

@@ -59,7 +59,7 @@ pub same-more : (p q : List ℤ) (i : ℕ) (a b r : Bool) → b ≡ sameProbe i 
 unfolding sameProbe
 same-more p q i a b r be ae re = re ∙ rw (be, ae, add-one i)
 
--- the first d places are all that is looked at
+-- the first d slots are all that is looked at
 pub same-take : (d n m : ℕ) (p q : List ℤ) → d ≤ n → d ≤ m → sameProbe d (take n p) (take m q) ≡ sameProbe d p q
 unfolding sameProbe
 same-take zero n m p q h k = refl

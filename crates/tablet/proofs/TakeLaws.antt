@@ -21,19 +21,19 @@ use Rattle.paper.specs.declared.orders.Place.the-variants.{Start, After}
 use Rattle.paper.specs.Orders.{Item, noItem, queryIn, follows, snapshotOf, flat, fronted}
 use Rattle.paper.specs.Ends.{every, rising, fitting, lastItem, presentPlace, sameProbe, sameQuery, samePlace, toPresent, pageHolds, startedWell, soundIn, joinedTo, taken, Listing}
 use Rattle.paper.specs.Lines.{spoken}
-use Rattle.paper.specs.Lists.{Takes, takenAs, putItems, held, itemsIn, listing, heldWell, soundHeld}
+use Rattle.paper.specs.Lists.{Takes, takenShown, putItems, held, itemsIn, listing, heldWell, soundHeld}
 use Rattle.paper.specs.Codec.{placeIn, scopeOf, answerMeant}
 use Rattle.paper.specs.Outcomes.{Outcome, refused, gives, must}
 use Rattle.paper.specs.Points.{inRange}
 use Rattle.paper.proofs.Tests.{and-first, and-second, never}
 use Rattle.paper.proofs.Outcomes.{must-stop, must-go, promise-refused, promise-given}
 use Rattle.orders.proofs.Rooms.{length-in, flat-in, flat-append}
-use Rattle.tablet.specs.Holding.{itemsHold, startedBy, Asks, joinedFields}
+use Rattle.tablet.specs.Holding.{itemsHold, startedBy, AskReady, joinedFields}
 use Rattle.tablet.proofs.ItemLaws.{itemAt, pass-means}
 use Rattle.tablet.proofs.ListLaws.{same-take}
 use Rattle.paper.specs.Limits.{mostClaims}
 
--- ---- places
+-- ---- slots
 
 start-cond : (b : Bool) (n : ℕ) (m : Mark) → b ≡ samePlace Start (cond b Start (After n m))
 unfolding samePlace
@@ -232,7 +232,7 @@ module _ (l : lists.List) (room : List ℕ) (sound : soundHeld (held l room) ≡
       let f : length items ≤ length room / 3 = leb-true (length items) (length room / 3) (and-first (leb (length items) (length room / 3)) _ e) in
       omega (arith, length-in (l .count) room)
 
-  pub sound-asks : l .complete ≡ false → Asks l room
+  pub sound-asks : l .complete ≡ false → AskReady l room
   unfolding soundHeld heldWell soundIn listing startedWell startedBy
   sound-asks open₀ =
       let a = and-second (inRange (l .query .measure) (l .query .d)) _ parts in
@@ -257,7 +257,7 @@ module _ (l : lists.List) (room : List ℕ) (sound : soundHeld (held l room) ≡
 
 -- a refusal leaves the list and its room
 pub takes-refused : (l : lists.List) (x : Outcome Listing) (n : ℕ) (room : List ℕ) (r : Taken) → x ≡ refused n → r ≡ record { refusal = n; list = l } → Takes l x room r room
-takes-refused l x n room r e q = promise-refused (takenAs l) putItems x room n r e q
+takes-refused l x n room r e q = promise-refused (takenShown l) putItems x room n r e q
 
 module _ (l : lists.List) (room : List ℕ) (y : Answer) where
   abbrev L : Listing
@@ -313,6 +313,6 @@ module _ (l : lists.List) (room : List ℕ) (y : Answer) where
   joined-is x t after e h k te ae =
       let n : length (itemsIn (l .count) room ++ itemsIn (y .count) (y .items)) ≡ l .count + y .count =
       omega (arith, length-append (itemsIn (l .count) room) (itemsIn (y .count) (y .items)), length-in (l .count) room, length-in (y .count) (y .items)) in
-      promise-given (takenAs l) putItems x room (joinedTo L (answerMeant y)) (record { refusal = 0; list = t }) after e
+      promise-given (takenShown l) putItems x room (joinedTo L (answerMeant y)) (record { refusal = 0; list = t }) after e
       (ap (λ (u : lists.List). record { refusal = 0; list = u }) te ∙ rw (← n))
       (ae ∙ sym (join-front room (y .items) (l .count) (y .count) h k))

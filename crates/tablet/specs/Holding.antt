@@ -41,7 +41,7 @@ fieldsHold l room =
     && startedBy (l .started) (l .count) (l .snapshot) (l .complete)))))
 
 -- what a sound list that is not complete lends its next ask
-pub record Asks (l : lists.List) (room : List ℕ) : Type 0 where
+pub record AskReady (l : lists.List) (room : List ℕ) : Type 0 where
   pub known : spoken (l .query .order) ≡ true
   pub range : inRange (l .query .measure) (l .query .d) ≡ true
   pub few : l .count * 3 ≤ length room

@@ -9,7 +9,7 @@ ghost use Rattle.paper.specs.Lists.{held, listing, soundHeld, askingHeld};
 ghost use Rattle.paper.specs.Outcomes.{gives};
 ghost use Rattle.paper.specs.Lines.{Writes};
 ghost use Rattle.paper.specs.Codec.{scopeOf, askLine, lines};
-ghost use Rattle.tablet.specs.Holding.{Asks};
+ghost use Rattle.tablet.specs.Holding.{AskReady};
 ghost use Rattle.paper.specs.Limits.{longestAsk, mostPage};
 use checks::size_holds;
 use paper::limits::LONGEST_ASK;
@@ -19,7 +19,7 @@ use paper::lists::List;
 
 // [7.4] Where the next page starts, as lines write it.
 pub fn present(l: List, room: &[u64]) -> Scope
-    requires { ⌜ Asks l (now room) ⌝ }
+    requires { ⌜ AskReady l (now room) ⌝ }
     ensures { λ r. ⌜ r ≡ scopeOf (presentPlace (listing (held l (now (room .entry))))) (snapshotOf (presentPlace (listing (held l (now (room .entry))))) 0) ⌝ }
 {
     let n = l.count;
@@ -57,7 +57,7 @@ pub fn write_ask(l: List, room: &[u64], size: usize, out: &mut [u8]) -> Wrote
 }
 
 fn put_ask(l: List, room: &[u64], size: usize, out: &mut [u8]) -> Wrote
-    requires { ⌜ Asks l (now room) × ((1 ≤ size) × ((size ≤ mostPage) × (longestAsk ≤ length (now out)))) ⌝ }
+    requires { ⌜ AskReady l (now room) × ((1 ≤ size) × ((size ≤ mostPage) × (longestAsk ≤ length (now out)))) ⌝ }
     ensures { λ r. ⌜ Writes (gives (askLine (presentAsk (listing (held l (now (room .entry)))) size))) (now (out .entry)) r (now (out .exit)) ⌝ }
 {
     let p = present(l, room);

@@ -4,7 +4,7 @@ ghost use Prim.Native.Nat.{_-_, _<_};
 ghost use lib.ListN.{length};
 ghost use Rattle.paper.specs.Lists.{held, soundHeld};
 ghost use Rattle.tablet.specs.Holding.{startedBy, fieldsHold};
-ghost use Rattle.paper.specs.Limits.{mostPlaces};
+ghost use Rattle.paper.specs.Limits.{mostCoordinates};
 use crate::items::items_hold;
 use crate::probes::unused_zero;
 use checks::has_lines;
@@ -31,7 +31,7 @@ fn started_well(started: bool, count: usize, snapshot: u64, complete: bool) -> b
 
 // What an array's type says of its length is told along, for whoever does not look into the probe.
 fn fields_hold(l: List, room: usize) -> bool
-    ensures { λ r. ⌜ (r ≡ fieldsHold l room) × (mostPlaces - 1 < length (l .query .probe)) ⌝ }
+    ensures { λ r. ⌜ (r ≡ fieldsHold l room) × (mostCoordinates - 1 < length (l .query .probe)) ⌝ }
 {
     let q = l.query;
     let order = q.order;

@@ -1,6 +1,6 @@
-// [9.11] [7.2] Opening a list: nothing is held yet, and the probe stands in eight places.
+// [9.11] [7.2] Opening a list: nothing is held yet, and the probe stands in eight slots.
 ghost use mathlib.Core.Path.{_≡_};
-ghost use Rattle.paper.specs.Lists.{noList, openingHeld, openedTold};
+ghost use Rattle.paper.specs.Lists.{noList, openingHeld, openedShown};
 use checks::in_range;
 use paper::lists::List;
 use paper::lists::Opened;
@@ -28,7 +28,7 @@ pub fn open_list(
     probe: &[i32],
     reach: u64,
 ) -> Opened
-    ensures { λ r. ⌜ r ≡ openedTold (openingHeld (record { order = order; table = table; measure = measure; d = d; probe = now (probe .entry); reach = reach })) ⌝ }
+    ensures { λ r. ⌜ r ≡ openedShown (openingHeld (record { order = order; table = table; measure = measure; d = d; probe = now (probe .entry); reach = reach })) ⌝ }
 {
     if !in_range(measure, d) {
         return no_list(1);

@@ -1,4 +1,4 @@
-// [7.3] The probe of a list, in eight places.
+// [7.3] The probe of a list, in eight slots.
 ghost use mathlib.Core.Path.{_≡_};
 ghost use Prim.Native.Nat.{_≤_};
 ghost use lib.ListN.{length};
@@ -13,7 +13,7 @@ fn same(x: i32, y: i32) -> bool
     measure::gap(x, y) == 0
 }
 
-// [7.9] Whether the places behind the first d hold 0.
+// [7.9] Whether the slots behind the first d hold 0.
 pub fn unused_zero(d: usize, probe: &[i32]) -> bool
     requires { ⌜ d ≤ length (now probe) ⌝ }
     ensures { λ r. ⌜ r ≡ unusedZero d (now (probe .entry)) ⌝ }

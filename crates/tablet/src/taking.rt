@@ -7,9 +7,9 @@ ghost use lib.Seq.{paste};
 ghost use Rattle.paper.specs.Ends.{sameProbe, sameQuery, samePlace, toPresent, pageHolds, taken};
 ghost use Rattle.paper.specs.Lists.{Takes, held, listing, roomFor, soundHeld, takingHeld};
 ghost use Rattle.paper.specs.Codec.{placeIn, answerMeant, lines};
-ghost use Rattle.tablet.specs.Holding.{Asks, joinedFields};
+ghost use Rattle.tablet.specs.Holding.{AskReady, joinedFields};
 ghost use Rattle.paper.specs.Orders.{queryIn};
-ghost use Rattle.paper.specs.Limits.{itemRoom, mostPage, mostPlaces};
+ghost use Rattle.paper.specs.Limits.{itemRoom, mostPage, mostCoordinates};
 use crate::asking::present;
 use crate::items::items_hold;
 use crate::probes::same_probe;
@@ -40,7 +40,7 @@ fn same_place(p: Scope, q: Scope) -> bool
 }
 
 fn probes_alike(p: Query, q: Query) -> bool
-    requires { ⌜ p .d ≤ mostPlaces ⌝ }
+    requires { ⌜ p .d ≤ mostCoordinates ⌝ }
     ensures { λ r. ⌜ r ≡ sameProbe (p .d) (p .probe) (q .probe) ⌝ }
 {
     let d = p.d;
@@ -50,7 +50,7 @@ fn probes_alike(p: Query, q: Query) -> bool
 }
 
 fn same_query(p: Query, q: Query) -> bool
-    requires { ⌜ p .d ≤ mostPlaces ⌝ }
+    requires { ⌜ p .d ≤ mostCoordinates ⌝ }
     ensures { λ r. ⌜ r ≡ sameQuery (queryIn p) (queryIn q) ⌝ }
 {
     if p.table != q.table {
@@ -70,7 +70,7 @@ fn same_query(p: Query, q: Query) -> bool
 
 // [7.5] [8.13] Whether an answer is to the list's present ask; page sizes are not compared.
 fn to_present(l: List, room: &[u64], y: Answer) -> bool
-    requires { ⌜ Asks l (now room) ⌝ }
+    requires { ⌜ AskReady l (now room) ⌝ }
     ensures { λ r. ⌜ r ≡ toPresent (listing (held l (now (room .entry)))) (answerMeant y) ⌝ }
 {
     let asked = l.query;

@@ -17,7 +17,7 @@ use Rattle.paper.specs.Orders.{snapshotOf, snapshotHolds, markHolds}
 use Rattle.paper.specs.Outcomes.{Outcome, refused, gives, must, number, Promise}
 use Rattle.paper.specs.Tree.{Store, claimsIn}
 use Rattle.paper.specs.Ends.{sizeHolds}
-use Rattle.paper.specs.Calls.{tableQuery, tableRefusal, PageOf, thePage, pageCall, pageShown, putPage}
+use Rattle.paper.specs.Calls.{tableQuery, tableRefusal, ThePage, thePage, pageCall, pageShown, putPage}
 use Rattle.paper.proofs.Tests.{and-first}
 use Rattle.paper.proofs.Outcomes.{must-stop, must-go, number-0, number-is, promise-refused, promise-given}
 use Rattle.tree.proofs.Places.{claims-length}
@@ -27,20 +27,20 @@ use Rattle.tested.specs.Askable.{Askable}
 use Rattle.tested.proofs.TableLaws.{table-refused, table-good, aim-stops, aim-goes}
 
 module _ (order : Order) (s : Store) (probe : List ℤ) (reach : ℕ) (place : Place) (size room : ℕ) where
-  abbrev page : Outcome PageOf
+  abbrev page : Outcome ThePage
   page = pageCall s order probe reach place size room
 
   -- the call from each of its tests on
-  abbrev from-12 : Outcome PageOf
+  abbrev from-12 : Outcome ThePage
   from-12 = must (leb (size * 3) room) 12 (gives (thePage (tableQuery (s .table) order probe reach) s place size))
 
-  abbrev from-8 : Outcome PageOf
+  abbrev from-8 : Outcome ThePage
   from-8 = must (markHolds (tableQuery (s .table) order probe reach) (claimsIn s) place) 8 from-12
 
-  abbrev from-7 : Outcome PageOf
+  abbrev from-7 : Outcome ThePage
   from-7 = must (snapshotHolds (claimsIn s) place) 7 from-8
 
-  abbrev from-6 : Outcome PageOf
+  abbrev from-6 : Outcome ThePage
   from-6 = must (sizeHolds size) 6 from-7
 
   module _ (n : ℕ) (we : n ≡ tableRefusal s) where
@@ -101,7 +101,7 @@ module _ (order : Order) (s : Store) (probe : List ℤ) (reach : ℕ) (place : P
 
 -- the page itself, where the number says that nothing refuses it
 module _ (order : Order) (s : Store) (probe : List ℤ) (reach : ℕ) (place : Place) (size : ℕ) (room : List ℕ) where
-  abbrev there : Outcome PageOf
+  abbrev there : Outcome ThePage
   there = pageCall s order probe reach place size (length room)
 
   -- a refusal as the call tells it

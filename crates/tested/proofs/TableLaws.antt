@@ -10,8 +10,8 @@ use borrow.Author.Tests.{eq-eqb, ne-eqb, not-true, not-false}
 use Rattle.paper.specs.Outcomes.{Outcome, refused, gives, must, onto, number}
 use Rattle.paper.specs.Tree.{Store, fits, sound}
 use Rattle.paper.specs.Calls.{onTable, tableRefusal, aimed}
-use Rattle.paper.proofs.Outcomes.{must-stop, must-go, number-0, behind, stops}
-use Rattle.tree.specs.Soundness.{Good, Lent}
+use Rattle.paper.proofs.Outcomes.{must-stop, must-go, number-0, must-behind, stops}
+use Rattle.tree.specs.Soundness.{Good, MemoryHolds}
 use Rattle.tree.proofs.TestedTables.{fits-fit, sound-good}
 
 -- ---- 1 and 2
@@ -24,7 +24,7 @@ module _ (s : Store) (a : Bool) (ae : a ≡ fits s) where
   pub fit-goes : {A : Type 0} (x : Outcome A) → not a ≡ false → must (fits s) 1 x ≡ x
   fit-goes x h = must-go (fits s) 1 x (sym ae ∙ not-false a h)
 
-  pub fit-lent : not a ≡ false → Lent (s .table) (length (s .coordinates)) (length (s .nodes))
+  pub fit-lent : not a ≡ false → MemoryHolds (s .table) (length (s .coordinates)) (length (s .nodes))
   fit-lent h = fits-fit s (sym ae ∙ not-false a h) .lent
 
   pub table-1 : not a ≡ true → 1 ≡ tableRefusal s
@@ -43,7 +43,7 @@ module _ (s : Store) (a : Bool) (ae : a ≡ fits s) where
 module _ (s : Store) (n : ℕ) (we : n ≡ tableRefusal s) where
   -- what any call does behind the two
   then-goes : {A : Type 0} (x : Outcome A) → onTable s x ≡ onto (onTable s (gives s)) (λ u. x)
-  then-goes x = behind (fits s) 1 (must (sound s) 2 x) x (must (sound s) 2 (gives s)) (behind (sound s) 2 x x (gives s) refl)
+  then-goes x = must-behind (fits s) 1 (must (sound s) 2 x) x (must (sound s) 2 (gives s)) (must-behind (sound s) 2 x x (gives s) refl)
 
   pub table-refused : {A : Type 0} (x : Outcome A) → (n ≡ 0 → ⊥) → onTable s x ≡ refused n
   unfolding tableRefusal

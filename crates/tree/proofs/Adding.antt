@@ -71,7 +71,7 @@ module _ (l : List ℤ) (at : ℕ) (p : List ℤ) (d : ℕ) (inside : at ≤ len
       ∙ ap (take d) (drop-at (take at l) (take d p ++ drop (at + d) l) at len)
       ∙ take-at (take d p) (drop (at + d) l) d (length-take-le d p h)
 
--- the same, of claims and their places
+-- the same, of claims and their points
 
 point-before : (l : List ℤ) (at : ℕ) (p : List ℤ) (d : ℕ) → at ≤ length l → (i : ℕ) → i * d + d ≤ at → point d (paste l at p d) i ≡ point d l i
 unfolding point
@@ -82,14 +82,14 @@ unfolding point
 point-new l n p d inside h = place-new l (n * d) p d inside h
 
 claims-more : (d n : ℕ) (references : List ℕ) (coordinates : List ℤ)
-    → claimsFrom d (suc n) references coordinates ≡ claimsFrom d n references coordinates ++ (record { reference = referenceAt references n; place = point d coordinates n } ∷ [])
+    → claimsFrom d (suc n) references coordinates ≡ claimsFrom d n references coordinates ++ (record { reference = referenceAt references n; point = point d coordinates n } ∷ [])
 unfolding claimsFrom
 claims-more d n references coordinates = refl
 
-claim-eq : (a b : Claim) → a .reference ≡ b .reference → a .place ≡ b .place → a ≡ b
-claim-eq a b p q = λ i. record { reference = p i; place = q i }
+claim-eq : (a b : Claim) → a .reference ≡ b .reference → a .point ≡ b .point → a ≡ b
+claim-eq a b p q = λ i. record { reference = p i; point = q i }
 
--- the first n claims are the same where their references and places are
+-- the first n claims are the same where their references and points are
 pub claims-ext : (d n : ℕ) (r r' : List ℕ) (l l' : List ℤ) → ((i : ℕ) → i < n → getD r i 0 ≡ getD r' i 0)
     → ((i : ℕ) → i < n → point d l i ≡ point d l' i) → claimsFrom d n r l ≡ claimsFrom d n r' l'
 unfolding claimsFrom
@@ -98,9 +98,9 @@ claims-ext d (suc n) r r' l l' hr hp =
     rw (claims-ext d n r r' l l' (λ i h. hr i (omega arith)) (λ i h. hp i (omega arith)), hr n (omega arith), hp n (omega arith))
 
 -- a run's place has d numbers
-pub point-length : (d : ℕ) (places : List ℤ) (i : ℕ) → i * d + d ≤ length places → length (point d places i) ≡ d
+pub point-length : (d : ℕ) (points : List ℤ) (i : ℕ) → i * d + d ≤ length points → length (point d points i) ≡ d
 unfolding point
-point-length d places i h = length-take-le d (drop (i * d) places) (omega (arith, length-drop (i * d) places))
+point-length d points i h = length-take-le d (drop (i * d) points) (omega (arith, length-drop (i * d) points))
 
 -- one claim more
 
@@ -154,7 +154,7 @@ module _ (s : Store) (g : Good s) (more : s .table .count < s .table .capacity) 
         }
 
     -- its claims are those that it had, and the new one
-    pub added-claims : claimsIn (added s r p) ≡ claimsIn s ++ (record { reference = r; place = take (s .table .d) p } ∷ [])
+    pub added-claims : claimsIn (added s r p) ≡ claimsIn s ++ (record { reference = r; point = take (s .table .d) p } ∷ [])
     unfolding added
     added-claims =
         let n : ℕ = s .table .count in
@@ -163,7 +163,7 @@ module _ (s : Store) (g : Good s) (more : s .table .count < s .table .capacity) 
         let inside : n * d ≤ length (s .coordinates) = omega (arith, good-end) in
         ap (λ (k : ℕ). claimsFrom d k (set (s .references) n r) l) (add-one n)
         ∙ claims-more d n (set (s .references) n r) l
-        ∙ ap (λ (old : List Claim). old ++ (record { reference = getD (set (s .references) n r) n 0; place = point d l n } ∷ []))
+        ∙ ap (λ (old : List Claim). old ++ (record { reference = getD (set (s .references) n r) n 0; point = point d l n } ∷ []))
         (claims-ext d n (set (s .references) n r) (s .references) l (s .coordinates)
         (λ i h. getD-set-other (s .references) n i r 0 (λ q. omega arith))
         (λ i h. point-before (s .coordinates) (n * d) p d inside i (before-next d i n h)))
@@ -171,28 +171,28 @@ module _ (s : Store) (g : Good s) (more : s .table .count < s .table .capacity) 
         (claim-eq _ _ (getD-set-same (s .references) n r 0 (omega (arith, g .fit .references))) (point-new (s .coordinates) n p d inside whole))
 
 -- what adding keeps of the header
-pub record Kept (t u : Table) (more : ℕ) : Type 0 where
+pub record HeaderKept (t u : Table) (more : ℕ) : Type 0 where
   pub number : u .number ≡ t .number
   pub measure : u .measure ≡ t .measure
   pub d : u .d ≡ t .d
   pub capacity : u .capacity ≡ t .capacity
   pub count : u .count ≡ t .count + more
 
-pub added-kept : (s : Store) (r : ℕ) (p : List ℤ) → Kept (s .table) (added s r p .table) 1
+pub added-kept : (s : Store) (r : ℕ) (p : List ℤ) → HeaderKept (s .table) (added s r p .table) 1
 unfolding added
 added-kept s r p = record { number = refl; measure = refl; d = refl; capacity = refl; count = refl }
 
 -- the stores of `add` are `added`
-pub add-way : (s : Store) (r u : ℕ) (places l : List ℤ) (i : ℕ) (references nodes : List ℕ)
+pub add-way : (s : Store) (r u : ℕ) (points l : List ℤ) (i : ℕ) (references nodes : List ℕ)
     → references ≡ withReference (s .references) (s .table .count) r
-    → l ≡ paste (s .coordinates) (s .table .count * s .table .d) (drop (i * s .table .d) places) (s .table .d)
+    → l ≡ paste (s .coordinates) (s .table .count * s .table .d) (drop (i * s .table .d) points) (s .table .d)
     → nodes ≡ nextGrown s l .nodes → u ≡ nextGrown s l .used
-    → store (counted (s .table) u) references l nodes ≡ added s r (point (s .table .d) places i)
+    → store (counted (s .table) u) references l nodes ≡ added s r (point (s .table .d) points i)
 unfolding added point
-add-way s r u places l i references nodes g e f h =
+add-way s r u points l i references nodes g e f h =
     let n : ℕ = s .table .count in
     let d : ℕ = s .table .d in
-    let q : List ℤ = drop (i * d) places in
+    let q : List ℤ = drop (i * d) points in
     let e' : l ≡ paste (s .coordinates) (n * d) (take d q) d =
     e ∙ ap (λ (x : List ℤ). take (n * d) (s .coordinates) ++ x ++ drop (n * d + d) (s .coordinates)) (sym (take-take d d q (le-refl d))) in
     rw (g, f, h, ← e')
@@ -200,17 +200,17 @@ add-way s r u places l i references nodes g e f h =
 -- a run
 
 -- a place of a run with d numbers for each claim
-pub in-run : (d i n : ℕ) (places : List ℤ) → length places ≡ d * n → i < n → i * d + d ≤ length places
-in-run d i n places e h = omega (arith, before-next d i n h, mul-comm d n)
+pub in-run : (d i n : ℕ) (points : List ℤ) → length points ≡ d * n → i < n → i * d + d ≤ length points
+in-run d i n points e h = omega (arith, before-next d i n h, mul-comm d n)
 
-pub run-start : (given : List ℕ) (places : List ℤ) (s : Store) → s ≡ addedRun given places 0 s
+pub run-start : (given : List ℕ) (points : List ℤ) (s : Store) → s ≡ addedRun given points 0 s
 unfolding addedRun
-run-start given places s = refl
+run-start given points s = refl
 
-pub run-next : (given : List ℕ) (places : List ℤ) (i : ℕ) (s now next : Store) → now ≡ addedRun given places i s → now .table .d ≡ s .table .d
-    → next ≡ added now (referenceAt given i) (point (now .table .d) places i) → next ≡ addedRun given places (i + 1) s
+pub run-next : (given : List ℕ) (points : List ℤ) (i : ℕ) (s now next : Store) → now ≡ addedRun given points i s → now .table .d ≡ s .table .d
+    → next ≡ added now (referenceAt given i) (point (now .table .d) points i) → next ≡ addedRun given points (i + 1) s
 unfolding addedRun
-run-next given places i s now next e q f = rw (add-one i, ← e, ← q) f
+run-next given points i s now next e q f = rw (add-one i, ← e, ← q) f
 
 pub roomy-less : (s : Store) (m n : ℕ) → Roomy s m → n ≤ m → Roomy s n
 roomy-less s m n h le = record { good = h .good; free = omega (arith, h .free) }
@@ -221,18 +221,18 @@ roomy-next s r p m h whole =
     record { good = added-good s (h .good) (omega (arith, h .free)) r p whole; free = omega (arith, h .free, k .count, k .capacity) }
 
 -- what is left after the first i claims of a run
-pub record Ran (s x : Store) (given : List ℕ) (places : List ℤ) (i more : ℕ) : Type 0 where
+pub record Ran (s x : Store) (given : List ℕ) (points : List ℤ) (i more : ℕ) : Type 0 where
   pub roomy : Roomy x more
-  pub kept : Kept (s .table) (x .table) i
-  pub claims : claimsIn x ≡ claimsIn s ++ claimsFrom (s .table .d) i given places
+  pub kept : HeaderKept (s .table) (x .table) i
+  pub claims : claimsIn x ≡ claimsIn s ++ claimsFrom (s .table .d) i given points
 
-ran-next : (s x : Store) (given : List ℕ) (places : List ℤ) (i more n : ℕ) → i < n → length places ≡ s .table .d * n → Ran s x given places i (more + 1)
-    → Ran s (added x (getD given i 0) (point (s .table .d) places i)) given places (suc i) more
-ran-next s x given places i more n hi whole b =
+ran-next : (s x : Store) (given : List ℕ) (points : List ℤ) (i more n : ℕ) → i < n → length points ≡ s .table .d * n → Ran s x given points i (more + 1)
+    → Ran s (added x (getD given i 0) (point (s .table .d) points i)) given points (suc i) more
+ran-next s x given points i more n hi whole b =
     let d : ℕ = s .table .d in
     let r : ℕ = getD given i 0 in
-    let p : List ℤ = point d places i in
-    let lp : length p ≡ d = point-length d places i (in-run d i n places whole hi) in
+    let p : List ℤ = point d points i in
+    let lp : length p ≡ d = point-length d points i (in-run d i n points whole hi) in
     let wx : x .table .d ≤ length p = omega (arith, b .kept .d) in
     let k = added-kept x r p in
     let tp : take (x .table .d) p ≡ p = take-all (x .table .d) p (omega (arith, b .kept .d)) in
@@ -246,14 +246,14 @@ ran-next s x given places i more n hi whole b =
         count = omega (arith, k .count, b .kept .count);
       };
       claims = added-claims x (b .roomy .good) (omega (arith, b .roomy .free)) r p wx
-          ∙ ap (λ (q : List ℤ). claimsIn x ++ (record { reference = r; place = q } ∷ [])) tp
-          ∙ ap (λ (old : List Claim). old ++ (record { reference = r; place = p } ∷ [])) (b .claims)
-          ∙ append-assoc (claimsIn s) (claimsFrom d i given places) (record { reference = r; place = p } ∷ [])
-          ∙ ap (λ (new : List Claim). claimsIn s ++ new) (sym (claims-more d i given places));
+          ∙ ap (λ (q : List ℤ). claimsIn x ++ (record { reference = r; point = q } ∷ [])) tp
+          ∙ ap (λ (old : List Claim). old ++ (record { reference = r; point = p } ∷ [])) (b .claims)
+          ∙ append-assoc (claimsIn s) (claimsFrom d i given points) (record { reference = r; point = p } ∷ [])
+          ∙ ap (λ (new : List Claim). claimsIn s ++ new) (sym (claims-more d i given points));
     }
 
-module _ (s : Store) (given : List ℕ) (places : List ℤ) (n : ℕ) (h : Roomy s n) (whole : length places ≡ s .table .d * n) where
-  pub ran : (i more : ℕ) → i + more ≡ n → Ran s (addedRun given places i s) given places i more
+module _ (s : Store) (given : List ℕ) (points : List ℤ) (n : ℕ) (h : Roomy s n) (whole : length points ≡ s .table .d * n) where
+  pub ran : (i more : ℕ) → i + more ≡ n → Ran s (addedRun given points i s) given points i more
   unfolding addedRun claimsFrom
   ran zero more e =
       record {
@@ -261,16 +261,16 @@ module _ (s : Store) (given : List ℕ) (places : List ℤ) (n : ℕ) (h : Roomy
         kept = record { number = refl; measure = refl; d = refl; capacity = refl; count = omega arith };
         claims = sym (append-nil (claimsIn s));
       }
-  ran (suc i) more e = ran-next s (addedRun given places i s) given places i more n (omega arith) whole (ran i (more + 1) (omega arith))
+  ran (suc i) more e = ran-next s (addedRun given points i s) given points i more n (omega arith) whole (ran i (more + 1) (omega arith))
 
   -- a run keeps a table good
-  pub run-good : Good (addedRun given places n s)
+  pub run-good : Good (addedRun given points n s)
   run-good = ran n 0 (omega arith) .roomy .good
 
   -- its claims are those that it had, and the run's
-  pub run-claims : claimsIn (addedRun given places n s) ≡ claimsIn s ++ claimsFrom (s .table .d) n given places
+  pub run-claims : claimsIn (addedRun given points n s) ≡ claimsIn s ++ claimsFrom (s .table .d) n given points
   run-claims = ran n 0 (omega arith) .claims
 
   -- its header is the same but for count and nodes in use
-  pub run-kept : Kept (s .table) (addedRun given places n s .table) n
+  pub run-kept : HeaderKept (s .table) (addedRun given points n s .table) n
   run-kept = ran n 0 (omega arith) .kept

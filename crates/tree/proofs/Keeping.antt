@@ -11,16 +11,16 @@ use lib.Dec.{lit<, leb}
 use mathlib.Core.Bool.{Bool, true, false, cond}
 use borrow.Author.Tests.{leb-true, leb-false}
 use lib.Seq.{getD-set-same, getD-set-other}
-use Rattle.paper.specs.Tree.{Grown, grown, fieldAt, putField, sideClaim, cleared, newNode, nearSide, raise, placed, entered}
+use Rattle.paper.specs.Tree.{Grown, grown, fieldAt, putField, sideClaim, cleared, newNode, nearSide, raise, enteredFrom, entered}
 use Rattle.tree.specs.Rooms.{Inside, RoomOk, Linked, Under, here, deeper, Holds, Neartree}
-use Rattle.tree.proofs.OneEntering.{other, still-linked, raise-length, side-small, placed-stop, placed-new, placed-down}
+use Rattle.tree.proofs.OneEntering.{other, still-linked, raise-length, side-small, entered-stop, entered-new, entered-down}
 
-pub record Grows (used : ℕ) (nodes nodes' : List ℕ) : Type 0 where
+pub record NodesGrow (used : ℕ) (nodes nodes' : List ℕ) : Type 0 where
   pub held : (m s : ℕ) → m < used → s < 2 → (fieldAt nodes m s ≡ 0 → ⊥) → fieldAt nodes' m s ≡ fieldAt nodes m s
   pub far : (m s : ℕ) → m < used → s < 2 → fieldAt nodes m (2 + s) ≤ fieldAt nodes' m (2 + s)
   pub below : (m s : ℕ) → m < used → s < 2 → (fieldAt nodes m (4 + s) ≡ 0 → ⊥) → fieldAt nodes' m (4 + s) ≡ fieldAt nodes m (4 + s)
 
-grows-trans : (used : ℕ) (a b c : List ℕ) → Grows used a b → Grows used b c → Grows used a c
+grows-trans : (used : ℕ) (a b c : List ℕ) → NodesGrow used a b → NodesGrow used b c → NodesGrow used a c
 grows-trans used a b c g h =
     record {
       held = λ m s hm hs no. let p = g .held m s hm hs no in h .held m s hm hs (λ q. no (sym p ∙ q)) ∙ p;
@@ -39,7 +39,7 @@ put-cases nodes m f v n g h = go (ℕ-discrete (n * 6 + g) (m * 6 + f))
 
 -- a store where there was 0, or of a larger far distance, lets the nodes grow
 grows-put : (used : ℕ) (nodes : List ℕ) (m f v : ℕ) → m * 6 + f < length nodes → f < 6
-    → (f < 2 → fieldAt nodes m f ≡ 0) → (4 ≤ f → fieldAt nodes m f ≡ 0) → fieldAt nodes m f ≤ v → Grows used nodes (putField nodes m f v)
+    → (f < 2 → fieldAt nodes m f ≡ 0) → (4 ≤ f → fieldAt nodes m f ≡ 0) → fieldAt nodes m f ≤ v → NodesGrow used nodes (putField nodes m f v)
 grows-put used nodes m f v h hf zero-held zero-below less =
     record {
       held = λ n s hm hs no. ⊎-elim
@@ -98,7 +98,7 @@ fresh-small : (nodes : List ℕ) (w k g : ℕ) → Inside nodes w → g < 6 → 
 fresh-small nodes w k zero h hg = let p = fresh-left nodes w k h in omega arith
 fresh-small nodes w k (suc g) h hg = let p = fresh-rest nodes w k (suc g) h (omega arith) hg in omega arith
 
-grows-fresh : (used : ℕ) (nodes : List ℕ) (k : ℕ) → Grows used nodes (newNode nodes used k)
+grows-fresh : (used : ℕ) (nodes : List ℕ) (k : ℕ) → NodesGrow used nodes (newNode nodes used k)
 grows-fresh used nodes k =
     record {
       held = λ m s hm hs no. fresh-other nodes used k m s (λ q. omega arith) (omega arith);
@@ -107,7 +107,7 @@ grows-fresh used nodes k =
     }
 
 -- what is under a side stays there
-pub under-grows : (used n : ℕ) (e : ℕ → ℕ → ℕ) (nodes nodes' : List ℕ) → Linked nodes used n → Grows used nodes nodes'
+pub under-grows : (used n : ℕ) (e : ℕ → ℕ → ℕ) (nodes nodes' : List ℕ) → Linked nodes used n → NodesGrow used nodes nodes'
     → (m s j : ℕ) → m < used → s < 2 → Under nodes e m s j → Under nodes' e m s j
 unfolding Linked
 under-grows used n e nodes nodes' lk g m s j hm hs (here p) = here (g .held m s hm hs (λ q. omega arith) ∙ p)
@@ -116,7 +116,7 @@ under-grows used n e nodes nodes' lk g m s j hm hs (deeper k o w z p q p' near r
     (under-grows used n e nodes nodes' lk g w z j (omega (arith, lk m hm .leads s hs)) hz u)
 
 -- what the node below a side holds, the node above holds too, if the side's far distance reaches it
-above-holds : (used : ℕ) (e : ℕ → ℕ → ℕ) (nodes nodes' : List ℕ) → Grows used nodes nodes' → (m s c o w j : ℕ) → m < used → s < 2
+above-holds : (used : ℕ) (e : ℕ → ℕ → ℕ) (nodes nodes' : List ℕ) → NodesGrow used nodes nodes' → (m s c o w j : ℕ) → m < used → s < 2
     → fieldAt nodes m s ≡ c + 1 → e c j ≤ fieldAt nodes m (2 + s) → fieldAt nodes m (1 - s) ≡ o + 1 → e c j + s ≤ e o j → fieldAt nodes m (4 + s) ≡ w + 1 → Holds nodes' e w j → Holds nodes' e m j
 above-holds used e nodes nodes' g m s c o w j hm hs p q p' near r h =
     record {
@@ -175,8 +175,8 @@ linked-new nodes used k m s hm hs room lk w hw = ⊎-elim at-new at-old (eq-or-l
         }
 
 -- what entering claim k from node m leaves
-pub record Placed (e : ℕ → ℕ → ℕ) (used k m : ℕ) (nodes : List ℕ) (out : Grown) : Type 0 where
-  pub grows : Grows used nodes (out .nodes)
+pub record EnteredFrom (e : ℕ → ℕ → ℕ) (used k m : ℕ) (nodes : List ℕ) (out : Grown) : Type 0 where
+  pub grows : NodesGrow used nodes (out .nodes)
   pub linked : Linked (out .nodes) (out .used) (k + 1)
   pub holds : Holds (out .nodes) e m k
   pub long : length (out .nodes) ≡ length nodes
@@ -184,7 +184,7 @@ pub record Placed (e : ℕ → ℕ → ℕ) (used k m : ℕ) (nodes : List ℕ) 
   pub atMost : out .used ≤ used + 1
 
 module _ (e : ℕ → ℕ → ℕ) (nodes : List ℕ) (m s k : ℕ) (hs : s < 2) (in-m : Inside nodes m) where
-  raise-grows : (used : ℕ) → Grows used nodes (raise e nodes m s k)
+  raise-grows : (used : ℕ) → NodesGrow used nodes (raise e nodes m s k)
   unfolding raise
   raise-grows used =
       grows-put used nodes m (2 + s) (max (fieldAt nodes m (2 + s)) (e (sideClaim nodes m s) k)) (omega arith) (omega arith)
@@ -214,7 +214,7 @@ side-near e nodes m k = go (leb (e (sideClaim nodes m 0) k) (e (sideClaim nodes 
 
 -- the three ways through a node
 module _ (e : ℕ → ℕ → ℕ) (used k m : ℕ) (nodes : List ℕ) (hm : m < used) (room : used * 6 + 6 ≤ length nodes) (lk : Linked nodes used k) where
-  stop : fieldAt nodes m 1 ≡ 0 → Placed e used k m nodes (grown (putField nodes m 1 (k + 1)) used)
+  stop : fieldAt nodes m 1 ≡ 0 → EnteredFrom e used k m nodes (grown (putField nodes m 1 (k + 1)) used)
   stop p =
       record {
         grows = grows-put used nodes m 1 (k + 1) (omega arith) (lit< tt) (λ h. p) (λ h. absurd (omega arith)) (omega arith);
@@ -237,15 +237,15 @@ module _ (e : ℕ → ℕ → ℕ) (used k m : ℕ) (nodes : List ℕ) (hm : m <
     in-m = omega arith
 
     new : fieldAt nodes m (4 + s) ≡ 0
-        → Placed e used k m nodes (grown (newNode (putField (raise e nodes m s k) m (4 + s) (used + 1)) used k) (used + 1))
+        → EnteredFrom e used k m nodes (grown (newNode (putField (raise e nodes m s k) m (4 + s) (used + 1)) used k) (used + 1))
     new z =
         let nodes₁ : List ℕ = raise e nodes m s k in
         let nodes₂ : List ℕ = putField nodes₁ m (4 + s) (used + 1) in
         let len₁ : length nodes₁ ≡ length nodes = raise-length e nodes m k s in
         let len₂ : length nodes₂ ≡ length nodes₁ = length-set nodes₁ (m * 6 + (4 + s)) (used + 1) in
         let z₁ : fieldAt nodes₁ m (4 + s) ≡ 0 = raise-keeps e nodes m s k hs in-m (4 + s) (omega arith) (λ q. omega arith) ∙ z in
-        let g₂ : Grows used nodes₁ nodes₂ = grows-put used nodes₁ m (4 + s) (used + 1) (omega arith) (omega arith) (λ h. absurd (omega arith)) (λ h. z₁) (omega arith) in
-        let g₃ : Grows used nodes₂ (newNode nodes₂ used k) = grows-fresh used nodes₂ k in
+        let g₂ : NodesGrow used nodes₁ nodes₂ = grows-put used nodes₁ m (4 + s) (used + 1) (omega arith) (omega arith) (λ h. absurd (omega arith)) (λ h. z₁) (omega arith) in
+        let g₃ : NodesGrow used nodes₂ (newNode nodes₂ used k) = grows-fresh used nodes₂ k in
         let c : ℕ = sideClaim nodes m s in
         let held₁' : fieldAt nodes₁ m (1 - s) ≡ sideClaim nodes m (1 - s) + 1 = raise-keeps e nodes m s k hs in-m (1 - s) (omega arith) (λ q. omega arith) ∙ claimed (1 - s) (omega arith) no1 in
         let held₁ : fieldAt nodes₁ m s ≡ c + 1 = raise-keeps e nodes m s k hs in-m s (omega arith) (λ q. omega arith) ∙ claimed s hs no1 in
@@ -263,7 +263,7 @@ module _ (e : ℕ → ℕ → ℕ) (used k m : ℕ) (nodes : List ℕ) (hm : m <
           atMost = le-refl (used + 1);
         }
 
-    down : (w : ℕ) (out : Grown) → fieldAt nodes m (4 + s) ≡ w + 1 → Placed e used k w (raise e nodes m s k) out → Placed e used k m nodes out
+    down : (w : ℕ) (out : Grown) → fieldAt nodes m (4 + s) ≡ w + 1 → EnteredFrom e used k w (raise e nodes m s k) out → EnteredFrom e used k m nodes out
     down w out r deep =
         let nodes₁ : List ℕ = raise e nodes m s k in
         let c : ℕ = sideClaim nodes m s in
@@ -283,7 +283,7 @@ module _ (e : ℕ → ℕ → ℕ) (used k m : ℕ) (nodes : List ℕ) (hm : m <
 
 -- by the nodes that may still be gone through
 pub place : (f : ℕ) (e : ℕ → ℕ → ℕ) (used k m : ℕ) (nodes : List ℕ) → m < used → used ≤ m + f → used * 6 + 6 ≤ length nodes → Linked nodes used k
-    → Placed e used k m nodes (placed f e used k m nodes)
+    → EnteredFrom e used k m nodes (enteredFrom f e used k m nodes)
 unfolding Linked
 place zero e used k m nodes hm en room lk = absurd (omega arith)
 place (suc f) e used k m nodes hm en room lk =
@@ -301,20 +301,20 @@ place (suc f) e used k m nodes hm en room lk =
     nodes₁ = raise e nodes m s k
 
     below : (x : ℕ) → fieldAt nodes m (4 + s) ≡ x → (fieldAt nodes m 1 ≡ 0 → ⊥)
-        → ((w : ℕ) → w < used → used ≤ w + f → Placed e used k w nodes₁ (placed f e used k w nodes₁))
-        → Placed e used k m nodes (placed (suc f) e used k m nodes)
-    below zero p no1 deep = rw (placed-new f e used k m nodes no1 p) (new e used k m nodes hm room lk s hs no1 (side-near e nodes m k) p)
+        → ((w : ℕ) → w < used → used ≤ w + f → EnteredFrom e used k w nodes₁ (enteredFrom f e used k w nodes₁))
+        → EnteredFrom e used k m nodes (enteredFrom (suc f) e used k m nodes)
+    below zero p no1 deep = rw (entered-new f e used k m nodes no1 p) (new e used k m nodes hm room lk s hs no1 (side-near e nodes m k) p)
     below (suc w) p no1 deep =
         let q : fieldAt nodes m (4 + s) ≡ w + 1 = omega arith in
         let v : fieldAt nodes m (4 + s) - 1 ≡ w = omega arith in
         let no4 : fieldAt nodes m (4 + s) ≡ 0 → ⊥ = λ z. omega arith in
-        rw (placed-down f e used k m nodes no1 no4, v)
+        rw (entered-down f e used k m nodes no1 no4, v)
         (down e used k m nodes hm room lk s hs no1 (side-near e nodes m k) w _ q
         (deep w (omega (arith, lk m hm .leads s hs)) (omega (arith, lk m hm .rises s hs no4))))
 
-    right : (x : ℕ) → fieldAt nodes m 1 ≡ x → ((w : ℕ) → w < used → used ≤ w + f → Placed e used k w nodes₁ (placed f e used k w nodes₁))
-        → Placed e used k m nodes (placed (suc f) e used k m nodes)
-    right zero p deep = rw (placed-stop f e used k m nodes p) (stop e used k m nodes hm room lk p)
+    right : (x : ℕ) → fieldAt nodes m 1 ≡ x → ((w : ℕ) → w < used → used ≤ w + f → EnteredFrom e used k w nodes₁ (enteredFrom f e used k w nodes₁))
+        → EnteredFrom e used k m nodes (enteredFrom (suc f) e used k m nodes)
+    right zero p deep = rw (entered-stop f e used k m nodes p) (stop e used k m nodes hm room lk p)
     right (suc x) p deep = below (fieldAt nodes m (4 + s)) refl (λ z. omega arith) deep
 
 -- entering the next claim keeps a neartree

@@ -8,7 +8,7 @@ use lib.Dec.{leb, lit<}
 use mathlib.Core.Bool.{Bool, true, false, cond}
 use lib.Seq.{getD-set-other}
 use borrow.Author.Tests.{le-leb, lt-leb, eq-eqb, ne-eqb}
-use Rattle.paper.specs.Tree.{grown, fieldAt, putField, sideClaim, newNode, nearSide, raise, placed, entered}
+use Rattle.paper.specs.Tree.{grown, fieldAt, putField, sideClaim, newNode, nearSide, raise, enteredFrom, entered}
 use Rattle.tree.specs.Rooms.{Linked, HasClaim}
 
 -- another field keeps its number
@@ -61,32 +61,32 @@ module _ (e : ℕ → ℕ → ℕ) (nodes : List ℕ) (m k : ℕ) where
         leads = λ z hz. rw (same-below z hz) (h w hw .leads z hz);
       }
 
--- what one turn of `placed` does
+-- what one turn of `enteredFrom` does
 module _ (f : ℕ) (e : ℕ → ℕ → ℕ) (used k m : ℕ) (nodes : List ℕ) where
-  pub placed-stop : fieldAt nodes m 1 ≡ 0 → placed (suc f) e used k m nodes ≡ grown (putField nodes m 1 (k + 1)) used
-  unfolding placed
-  placed-stop z = rw (eq-eqb (fieldAt nodes m 1) 0 z)
+  pub entered-stop : fieldAt nodes m 1 ≡ 0 → enteredFrom (suc f) e used k m nodes ≡ grown (putField nodes m 1 (k + 1)) used
+  unfolding enteredFrom
+  entered-stop z = rw (eq-eqb (fieldAt nodes m 1) 0 z)
 
-  pub placed-new : (fieldAt nodes m 1 ≡ 0 → ⊥) → fieldAt nodes m (4 + nearSide e nodes m k) ≡ 0
-      → placed (suc f) e used k m nodes ≡ grown (newNode (putField (raise e nodes m (nearSide e nodes m k) k) m (4 + nearSide e nodes m k) (used + 1)) used k) (used + 1)
-  unfolding placed
-  placed-new no1 z = rw (ne-eqb (fieldAt nodes m 1) 0 no1, eq-eqb (fieldAt nodes m (4 + nearSide e nodes m k)) 0 z)
+  pub entered-new : (fieldAt nodes m 1 ≡ 0 → ⊥) → fieldAt nodes m (4 + nearSide e nodes m k) ≡ 0
+      → enteredFrom (suc f) e used k m nodes ≡ grown (newNode (putField (raise e nodes m (nearSide e nodes m k) k) m (4 + nearSide e nodes m k) (used + 1)) used k) (used + 1)
+  unfolding enteredFrom
+  entered-new no1 z = rw (ne-eqb (fieldAt nodes m 1) 0 no1, eq-eqb (fieldAt nodes m (4 + nearSide e nodes m k)) 0 z)
 
-  pub placed-down : (fieldAt nodes m 1 ≡ 0 → ⊥) → (fieldAt nodes m (4 + nearSide e nodes m k) ≡ 0 → ⊥)
-      → placed (suc f) e used k m nodes ≡ placed f e used k (fieldAt nodes m (4 + nearSide e nodes m k) - 1) (raise e nodes m (nearSide e nodes m k) k)
-  unfolding placed
-  placed-down no1 no4 = rw (ne-eqb (fieldAt nodes m 1) 0 no1, ne-eqb (fieldAt nodes m (4 + nearSide e nodes m k)) 0 no4)
+  pub entered-down : (fieldAt nodes m 1 ≡ 0 → ⊥) → (fieldAt nodes m (4 + nearSide e nodes m k) ≡ 0 → ⊥)
+      → enteredFrom (suc f) e used k m nodes ≡ enteredFrom f e used k (fieldAt nodes m (4 + nearSide e nodes m k) - 1) (raise e nodes m (nearSide e nodes m k) k)
+  unfolding enteredFrom
+  entered-down no1 no4 = rw (ne-eqb (fieldAt nodes m 1) 0 no1, ne-eqb (fieldAt nodes m (4 + nearSide e nodes m k)) 0 no4)
 
 -- what holds at each turn of `enter`, at node m of nodes, where it began with nodes₀
-pub record Going (e : ℕ → ℕ → ℕ) (used k : ℕ) (nodes₀ nodes : List ℕ) (m : ℕ) : Type 0 where
+pub record EnteringGoing (e : ℕ → ℕ → ℕ) (used k : ℕ) (nodes₀ nodes : List ℕ) (m : ℕ) : Type 0 where
   pub fuel : ℕ
   pub enough : used ≤ m + fuel
   pub inUse : m < used
   pub long : length nodes ≡ length nodes₀
   pub linked : Linked nodes used k
-  pub same : placed fuel e used k m nodes ≡ entered e used k nodes₀
+  pub same : enteredFrom fuel e used k m nodes ≡ entered e used k nodes₀
 
-pub going-start : (e : ℕ → ℕ → ℕ) (used k : ℕ) (nodes : List ℕ) → (used ≡ 0 → ⊥) → Linked nodes used k → Going e used k nodes nodes 0
+pub going-start : (e : ℕ → ℕ → ℕ) (used k : ℕ) (nodes : List ℕ) → (used ≡ 0 → ⊥) → Linked nodes used k → EnteringGoing e used k nodes nodes 0
 unfolding entered
 going-start e zero k nodes no0 h = absurd (no0 refl)
 going-start e (suc u) k nodes no0 h =
@@ -96,7 +96,7 @@ pub entered-first : (e : ℕ → ℕ → ℕ) (used k : ℕ) (nodes : List ℕ) 
 unfolding entered
 entered-first e used k nodes z = rw z
 
-module _ (e : ℕ → ℕ → ℕ) (used k : ℕ) (nodes₀ nodes : List ℕ) (m : ℕ) (g : Going e used k nodes₀ nodes m) where
+module _ (e : ℕ → ℕ → ℕ) (used k : ℕ) (nodes₀ nodes : List ℕ) (m : ℕ) (g : EnteringGoing e used k nodes₀ nodes m) where
   -- a claim of the node is stored
   pub going-claim : (s : ℕ) → s < 2 → used * 6 + 6 ≤ length nodes₀ → (fieldAt nodes m 1 ≡ 0 → ⊥) → HasClaim nodes k m s
   unfolding Linked
@@ -111,19 +111,19 @@ module _ (e : ℕ → ℕ → ℕ) (used k : ℕ) (nodes₀ nodes : List ℕ) (m
   pub going-stop : fieldAt nodes m 1 ≡ 0 → entered e used k nodes₀ ≡ grown (putField nodes m 1 (k + 1)) used
   going-stop z = go (g .fuel) (g .enough) (g .same)
     where
-      go : (f : ℕ) → used ≤ m + f → placed f e used k m nodes ≡ entered e used k nodes₀ → entered e used k nodes₀ ≡ grown (putField nodes m 1 (k + 1)) used
+      go : (f : ℕ) → used ≤ m + f → enteredFrom f e used k m nodes ≡ entered e used k nodes₀ → entered e used k nodes₀ ≡ grown (putField nodes m 1 (k + 1)) used
       go zero en sm = absurd (omega (arith, g .inUse))
-      go (suc f) en sm = sym sm ∙ placed-stop f e used k m nodes z
+      go (suc f) en sm = sym sm ∙ entered-stop f e used k m nodes z
 
   module _ (s below : ℕ) (nodes' : List ℕ) (no1 : fieldAt nodes m 1 ≡ 0 → ⊥) (near : s ≡ nearSide e nodes m k)
       (read : below ≡ fieldAt nodes m (4 + s)) (lifted : nodes' ≡ raise e nodes m s k) where
     pub going-new : below ≡ 0 → entered e used k nodes₀ ≡ grown (newNode (putField nodes' m (4 + s) (used + 1)) used k) (used + 1)
     going-new z = rw (lifted, near) (go (g .fuel) (g .enough) (g .same))
       where
-        go : (f : ℕ) → used ≤ m + f → placed f e used k m nodes ≡ entered e used k nodes₀
+        go : (f : ℕ) → used ≤ m + f → enteredFrom f e used k m nodes ≡ entered e used k nodes₀
             → entered e used k nodes₀ ≡ grown (newNode (putField (raise e nodes m (nearSide e nodes m k) k) m (4 + nearSide e nodes m k) (used + 1)) used k) (used + 1)
         go zero en sm = absurd (omega (arith, g .inUse))
-        go (suc f) en sm = sym sm ∙ placed-new f e used k m nodes no1 (rw (← near) (sym read ∙ z))
+        go (suc f) en sm = sym sm ∙ entered-new f e used k m nodes no1 (rw (← near) (sym read ∙ z))
 
     pub going-rises : (below ≡ 0 → ⊥) → m < below - 1
     unfolding Linked
@@ -131,7 +131,7 @@ module _ (e : ℕ → ℕ → ℕ) (used k : ℕ) (nodes₀ nodes : List ℕ) (m
         let hs : s < 2 = rw near (side-small e nodes m k) in
         omega (arith, g .linked m (g .inUse) .rises s hs (λ q. no4 (read ∙ q)))
 
-    pub going-down : (below ≡ 0 → ⊥) → Going e used k nodes₀ nodes' (below - 1)
+    pub going-down : (below ≡ 0 → ⊥) → EnteringGoing e used k nodes₀ nodes' (below - 1)
     unfolding Linked
     going-down no4 =
         let hs : s < 2 = rw near (side-small e nodes m k) in
@@ -145,9 +145,9 @@ module _ (e : ℕ → ℕ → ℕ) (used k : ℕ) (nodes₀ nodes : List ℕ) (m
           same = go (g .fuel) (g .enough) (g .same);
         }
       where
-        go : (f : ℕ) → used ≤ m + f → placed f e used k m nodes ≡ entered e used k nodes₀
-            → placed (f - 1) e used k (below - 1) nodes' ≡ entered e used k nodes₀
+        go : (f : ℕ) → used ≤ m + f → enteredFrom f e used k m nodes ≡ entered e used k nodes₀
+            → enteredFrom (f - 1) e used k (below - 1) nodes' ≡ entered e used k nodes₀
         go zero en sm = absurd (omega (arith, g .inUse))
         go (suc f) en sm =
             let pf : suc f - 1 ≡ f = omega arith in
-            rw (pf, lifted, read, near) (sym (placed-down f e used k m nodes no1 (λ q. no4 (read ∙ rw near q))) ∙ sm)
+            rw (pf, lifted, read, near) (sym (entered-down f e used k m nodes no1 (λ q. no4 (read ∙ rw near q))) ∙ sm)

@@ -22,4 +22,4 @@ pub claims-length : (d n : ℕ) (references : List ℕ) (coordinates : List ℤ)
 unfolding claimsFrom
 claims-length d zero references coordinates = refl
 claims-length d (suc n) references coordinates =
-    omega (arith, claims-length d n references coordinates, length-append (claimsFrom d n references coordinates) (record { reference = getD references n 0; place = point d coordinates n } ∷ []))
+    omega (arith, claims-length d n references coordinates, length-append (claimsFrom d n references coordinates) (record { reference = getD references n 0; point = point d coordinates n } ∷ []))

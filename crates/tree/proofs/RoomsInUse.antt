@@ -10,9 +10,9 @@ use native.Mathlib.Nat.{le-refl, eq-or-lt-of-le}
 use lib.ListN.{length, getD, length-set}
 use lib.Dec.{lit<}
 use lib.Seq.{getD-set-same, getD-set-other, ext-getD}
-use Rattle.paper.specs.Tree.{Grown, grown, fieldAt, putField, newNode, nearSide, raise, placed, entered, built}
+use Rattle.paper.specs.Tree.{Grown, grown, fieldAt, putField, newNode, nearSide, raise, enteredFrom, entered, built}
 use Rattle.tree.specs.Rooms.{Inside, Linked, Neartree, IsBuilt}
-use Rattle.tree.proofs.OneEntering.{still-linked, raise-length, side-small, placed-stop, placed-new, placed-down}
+use Rattle.tree.proofs.OneEntering.{still-linked, raise-length, side-small, entered-stop, entered-new, entered-down}
 use Rattle.tree.proofs.Keeping.{fresh-other, fresh-length, fresh-left, fresh-rest, keeps, place}
 
 -- the first w nodes of the two are the same, and the second is no shorter
@@ -59,12 +59,12 @@ module _ (e : ℕ → ℕ → ℕ) (used k m : ℕ) (a b : List ℕ) (hm : m < u
       (rw (ag .same m (2 + s) hm (omega arith), ag .same m s hm (omega arith))) ag
 
 -- both grow alike
-pub record Alike (x y : Grown) : Type 0 where
+pub record SameInUse (x y : Grown) : Type 0 where
   pub agree : Agree (x .used) (x .nodes) (y .nodes)
   pub used : x .used ≡ y .used
 
 place-alike : (f : ℕ) (e : ℕ → ℕ → ℕ) (used k m : ℕ) (a b : List ℕ) → m < used → used ≤ m + f → used * 6 + 6 ≤ length a → Linked a used k → Agree used a b
-    → Alike (placed f e used k m a) (placed f e used k m b)
+    → SameInUse (enteredFrom f e used k m a) (enteredFrom f e used k m b)
 unfolding Linked
 place-alike zero e used k m a b hm en room lk ag = absurd (omega arith)
 place-alike (suc f) e used k m a b hm en room lk ag =
@@ -89,14 +89,14 @@ place-alike (suc f) e used k m a b hm en room lk ag =
     four = ag .same m (4 + s) hm (omega (arith, hs))
 
     below : (x : ℕ) → fieldAt a m (4 + s) ≡ x → (fieldAt a m 1 ≡ 0 → ⊥)
-        → ((w : ℕ) → w < used → used ≤ w + f → Alike (placed f e used k w (raise e a m s k)) (placed f e used k w (raise e b m s k)))
-        → Alike (placed (suc f) e used k m a) (placed (suc f) e used k m b)
+        → ((w : ℕ) → w < used → used ≤ w + f → SameInUse (enteredFrom f e used k w (raise e a m s k)) (enteredFrom f e used k w (raise e b m s k)))
+        → SameInUse (enteredFrom (suc f) e used k m a) (enteredFrom (suc f) e used k m b)
     below zero p no1 deep =
         let la : length (raise e a m s k) ≡ length a = raise-length e a m k s in
         let h4 : 4 + s < 6 = omega (arith, hs) in
         let lp : length (putField (raise e a m s k) m (4 + s) (used + 1)) ≡ length (raise e a m s k) = length-set (raise e a m s k) (m * 6 + (4 + s)) (used + 1) in
         let pb : fieldAt b m (4 + nearSide e b m k) ≡ 0 = rw (← near) (sym four ∙ p) in
-        rw (placed-new f e used k m a no1 p, placed-new f e used k m b (λ z. no1 (one ∙ z)) pb, ← near)
+        rw (entered-new f e used k m a no1 p, entered-new f e used k m b (λ z. no1 (one ∙ z)) pb, ← near)
         (record {
           agree = agree-fresh used _ _ k (omega arith)
               (agree-put used _ _ m (4 + s) (used + 1) (used + 1) (omega arith) refl (agree-raise e used k m a b hm room ag s hs));
@@ -107,20 +107,20 @@ place-alike (suc f) e used k m a b hm en room lk ag =
         let vb : fieldAt b m (4 + s) - 1 ≡ w = omega (arith, four) in
         let no4 : fieldAt a m (4 + s) ≡ 0 → ⊥ = λ z. omega arith in
         let no4b : fieldAt b m (4 + nearSide e b m k) ≡ 0 → ⊥ = rw (← near) (λ z. no4 (four ∙ z)) in
-        rw (placed-down f e used k m a no1 no4, placed-down f e used k m b (λ z. no1 (one ∙ z)) no4b, ← near, v, vb)
+        rw (entered-down f e used k m a no1 no4, entered-down f e used k m b (λ z. no1 (one ∙ z)) no4b, ← near, v, vb)
         (deep w (omega (arith, lk m hm .leads s hs)) (omega (arith, lk m hm .rises s hs no4)))
 
     right : (x : ℕ) → fieldAt a m 1 ≡ x
-        → ((w : ℕ) → w < used → used ≤ w + f → Alike (placed f e used k w (raise e a m s k)) (placed f e used k w (raise e b m s k)))
-        → Alike (placed (suc f) e used k m a) (placed (suc f) e used k m b)
+        → ((w : ℕ) → w < used → used ≤ w + f → SameInUse (enteredFrom f e used k w (raise e a m s k)) (enteredFrom f e used k w (raise e b m s k)))
+        → SameInUse (enteredFrom (suc f) e used k m a) (enteredFrom (suc f) e used k m b)
     right zero p deep =
-        rw (placed-stop f e used k m a p, placed-stop f e used k m b (sym one ∙ p))
+        rw (entered-stop f e used k m a p, entered-stop f e used k m b (sym one ∙ p))
         (record { agree = agree-put used a b m 1 (k + 1) (k + 1) (omega arith) refl ag; used = refl })
     right (suc x) p deep = below (fieldAt a m (4 + s)) refl (λ z. omega arith) deep
 
 -- a node that is not in use afterwards keeps what it held
-Behind : List ℕ → Grown → Type 0
-Behind a x = (n g : ℕ) → x .used ≤ n → g < 6 → fieldAt (x .nodes) n g ≡ fieldAt a n g
+NodesBehind : List ℕ → Grown → Type 0
+NodesBehind a x = (n g : ℕ) → x .used ≤ n → g < 6 → fieldAt (x .nodes) n g ≡ fieldAt a n g
 
 put-behind : (a : List ℕ) (m f v n g : ℕ) → m < n → f < 6 → g < 6 → fieldAt (putField a m f v) n g ≡ fieldAt a n g
 put-behind a m f v n g h hf hg = getD-set-other a (m * 6 + f) (n * 6 + g) v 0 (λ q. omega arith)
@@ -130,8 +130,8 @@ unfolding raise
 raise-behind e a m s k n g h hs hg = put-behind a m (2 + s) _ n g h (omega arith) hg
 
 place-behind : (f : ℕ) (e : ℕ → ℕ → ℕ) (used k m : ℕ) (a : List ℕ) → m < used → used ≤ m + f → used * 6 + 6 ≤ length a → Linked a used k
-    → Behind a (placed f e used k m a)
-unfolding Linked Behind
+    → NodesBehind a (enteredFrom f e used k m a)
+unfolding Linked NodesBehind
 place-behind zero e used k m a hm en room lk = absurd (omega arith)
 place-behind (suc f) e used k m a hm en room lk =
     right (fieldAt a m 1) refl
@@ -147,11 +147,11 @@ place-behind (suc f) e used k m a hm en room lk =
     hs = side-small e a m k
 
     below : (x : ℕ) → fieldAt a m (4 + s) ≡ x → (fieldAt a m 1 ≡ 0 → ⊥)
-        → ((w : ℕ) → w < used → used ≤ w + f → (n g : ℕ) → placed f e used k w (raise e a m s k) .used ≤ n → g < 6
-        → fieldAt (placed f e used k w (raise e a m s k) .nodes) n g ≡ fieldAt (raise e a m s k) n g)
-        → ((w : ℕ) → w < used → used ≤ w + f → used ≤ placed f e used k w (raise e a m s k) .used)
-        → Behind a (placed (suc f) e used k m a)
-    below zero p no1 deep more = rw (placed-new f e used k m a no1 p)
+        → ((w : ℕ) → w < used → used ≤ w + f → (n g : ℕ) → enteredFrom f e used k w (raise e a m s k) .used ≤ n → g < 6
+        → fieldAt (enteredFrom f e used k w (raise e a m s k) .nodes) n g ≡ fieldAt (raise e a m s k) n g)
+        → ((w : ℕ) → w < used → used ≤ w + f → used ≤ enteredFrom f e used k w (raise e a m s k) .used)
+        → NodesBehind a (enteredFrom (suc f) e used k m a)
+    below zero p no1 deep more = rw (entered-new f e used k m a no1 p)
         (λ n g hn hg. fresh-other (putField (raise e a m s k) m (4 + s) (used + 1)) used k n g (λ q. omega arith) hg ∙ put-behind (raise e a m s k) m (4 + s) (used + 1) n g (omega arith) (omega (arith, hs)) hg
         ∙ raise-behind e a m s k n g (omega arith) hs hg)
     below (suc w) p no1 deep more =
@@ -159,32 +159,32 @@ place-behind (suc f) e used k m a hm en room lk =
         let no4 : fieldAt a m (4 + s) ≡ 0 → ⊥ = λ z. omega arith in
         let hw : w < used = omega (arith, lk m hm .leads s hs) in
         let up : used ≤ w + f = omega (arith, lk m hm .rises s hs no4) in
-        rw (placed-down f e used k m a no1 no4, v)
+        rw (entered-down f e used k m a no1 no4, v)
         (λ n g hn hg. deep w hw up n g hn hg ∙ raise-behind e a m s k n g (omega (arith, more w hw up)) hs hg)
 
     right : (x : ℕ) → fieldAt a m 1 ≡ x
-        → ((w : ℕ) → w < used → used ≤ w + f → (n g : ℕ) → placed f e used k w (raise e a m s k) .used ≤ n → g < 6
-        → fieldAt (placed f e used k w (raise e a m s k) .nodes) n g ≡ fieldAt (raise e a m s k) n g)
-        → ((w : ℕ) → w < used → used ≤ w + f → used ≤ placed f e used k w (raise e a m s k) .used)
-        → Behind a (placed (suc f) e used k m a)
-    right zero p deep more = rw (placed-stop f e used k m a p) (λ n g hn hg. put-behind a m 1 (k + 1) n g (omega arith) (lit< tt) hg)
+        → ((w : ℕ) → w < used → used ≤ w + f → (n g : ℕ) → enteredFrom f e used k w (raise e a m s k) .used ≤ n → g < 6
+        → fieldAt (enteredFrom f e used k w (raise e a m s k) .nodes) n g ≡ fieldAt (raise e a m s k) n g)
+        → ((w : ℕ) → w < used → used ≤ w + f → used ≤ enteredFrom f e used k w (raise e a m s k) .used)
+        → NodesBehind a (enteredFrom (suc f) e used k m a)
+    right zero p deep more = rw (entered-stop f e used k m a p) (λ n g hn hg. put-behind a m 1 (k + 1) n g (omega arith) (lit< tt) hg)
     right (suc x) p deep more = below (fieldAt a m (4 + s)) refl (λ z. omega arith) deep more
 
 -- entering: both, from the root
 enter-alike : (e : ℕ → ℕ → ℕ) (used k : ℕ) (a b : List ℕ) → used * 6 + 6 ≤ length a → Linked a used k → Agree used a b
-    → Alike (entered e used k a) (entered e used k b)
+    → SameInUse (entered e used k a) (entered e used k b)
 unfolding entered
 enter-alike e zero k a b room lk ag = record { agree = agree-fresh 0 a b k (omega arith) ag; used = refl }
 enter-alike e (suc u) k a b room lk ag = place-alike (suc u) e (suc u) k 0 a b (omega arith) (omega arith) room lk ag
 
 enter-behind : (e : ℕ → ℕ → ℕ) (used k : ℕ) (a : List ℕ) → used * 6 + 6 ≤ length a → Linked a used k
     → (n g : ℕ) → entered e used k a .used ≤ n → g < 6 → fieldAt (entered e used k a .nodes) n g ≡ fieldAt a n g
-unfolding entered Behind
+unfolding entered NodesBehind
 enter-behind e zero k a room lk n g hn hg = fresh-other a 0 k n g (λ q. omega arith) hg
 enter-behind e (suc u) k a room lk n g hn hg = place-behind (suc u) e (suc u) k 0 a (omega arith) (omega arith) room lk n g hn hg
 
 -- what building gives, whatever the memory held
-pub record Built (e : ℕ → ℕ → ℕ) (n : ℕ) (a : List ℕ) (x : Grown) : Type 0 where
+pub record BuiltOver (e : ℕ → ℕ → ℕ) (n : ℕ) (a : List ℕ) (x : Grown) : Type 0 where
   pub sound : Neartree (x .nodes) e (x .used) n
   pub long : length (x .nodes) ≡ length a
   pub few : x .used ≤ n
@@ -197,7 +197,7 @@ enter-long e zero k a room lk = (fresh-length a 0 k, omega arith, omega arith)
 enter-long e (suc u) k a room lk =
     let p = place (suc u) e (suc u) k 0 a (omega arith) (omega arith) room lk in (p .long, p .more, p .atMost)
 
-pub build : (e : ℕ → ℕ → ℕ) (n : ℕ) (a : List ℕ) → n * 6 ≤ length a → n < 2 ^ 64 - 1 → Built e n a (built e n a)
+pub build : (e : ℕ → ℕ → ℕ) (n : ℕ) (a : List ℕ) → n * 6 ≤ length a → n < 2 ^ 64 - 1 → BuiltOver e n a (built e n a)
 unfolding built Linked
 build e zero a room few =
     record {
@@ -220,7 +220,7 @@ build e (suc n) a room few =
     }
 
 -- two memories are built alike
-pub build-alike : (e : ℕ → ℕ → ℕ) (n : ℕ) (a b : List ℕ) → n * 6 ≤ length a → n < 2 ^ 64 - 1 → length a ≤ length b → Alike (built e n a) (built e n b)
+pub build-alike : (e : ℕ → ℕ → ℕ) (n : ℕ) (a b : List ℕ) → n * 6 ≤ length a → n < 2 ^ 64 - 1 → length a ≤ length b → SameInUse (built e n a) (built e n b)
 unfolding built
 build-alike e zero a b room few len = record { agree = record { long = len; same = λ m g hm hg. absurd (omega arith) }; used = refl }
 build-alike e (suc n) a b room few len =
@@ -245,15 +245,15 @@ pub stays-built : (e : ℕ → ℕ → ℕ) (n used : ℕ) (a : List ℕ) → n 
     → IsBuilt e (suc n) (entered e used n a .nodes) (entered e used n a .used)
 unfolding IsBuilt built
 stays-built e n used a room few is =
-    let pa : Built e n a (grown a used) = rw is at (build e n a (omega arith) (omega arith)) in
+    let pa : BuiltOver e n a (grown a used) = rw is at (build e n a (omega arith) (omega arith)) in
     let r : used * 6 + 6 ≤ length a = omega (arith, pa .few) in
     let l = enter-long e used n a r (pa .sound .linked) in
     let out : Grown = entered e used n a in
     let x : Grown = built e n (out .nodes) in
-    let px : Built e n (out .nodes) x = build e n (out .nodes) (omega (arith, l .0)) (omega arith) in
-    let h₁ : Alike (grown a used) x = rw is at (build-alike e n a (out .nodes) (omega arith) (omega arith) (omega (arith, l .0))) in
+    let px : BuiltOver e n (out .nodes) x = build e n (out .nodes) (omega (arith, l .0)) (omega arith) in
+    let h₁ : SameInUse (grown a used) x = rw is at (build-alike e n a (out .nodes) (omega arith) (omega arith) (omega (arith, l .0))) in
     let y : Grown = entered e used n (x .nodes) in
-    let h₂ : Alike out y = enter-alike e used n a (x .nodes) r (pa .sound .linked) (h₁ .agree) in
+    let h₂ : SameInUse out y = enter-alike e used n a (x .nodes) r (pa .sound .linked) (h₁ .agree) in
     let lx : Linked (x .nodes) used n = subst (λ (u : ℕ). Linked (x .nodes) u n) (sym (h₁ .used)) (px .sound .linked) in
     let rx : used * 6 + 6 ≤ length (x .nodes) = omega (arith, px .long, l .0) in
     let ly = enter-long e used n (x .nodes) rx lx in

@@ -16,50 +16,50 @@ use Rattle.tree.proofs.TestedTables.{fits-fit, fit-fits, sound-good, go
 use Rattle.tree.proofs.Adding.{run-claims, run-good}
 
 -- nothing refuses the run
-pub record Enters (s : Store) (given : List ℕ) (places : List ℤ) : Type 0 where
+pub record Enters (s : Store) (given : List ℕ) (points : List ℤ) : Type 0 where
   pub good : Good s
-  pub whole : length places ≡ s .table .d * length given
+  pub whole : length points ≡ s .table .d * length given
   pub free : s .table .count + length given ≤ s .table .capacity
 
-module _ (s : Store) (given : List ℕ) (places : List ℤ) where
-  pub zero-enters : number (enterCall s given places) ≡ 0 → Enters s given places
+module _ (s : Store) (given : List ℕ) (points : List ℤ) where
+  pub zero-enters : number (enterCall s given points) ≡ 0 → Enters s given points
   unfolding enterCall
   zero-enters z =
       let h1 = number-0 (fits s) 0 _ z in
       let h2 = number-0 (sound s) 1 _ (h1 .1) in
-      let h5 = number-0 (eqb (length places) (s .table .d * length given)) 4 _ (h2 .1) in
+      let h5 = number-0 (eqb (length points) (s .table .d * length given)) 4 _ (h2 .1) in
       let h3 = number-0 (leb (s .table .count + length given) (s .table .capacity)) 2 _ (h5 .1) in
       record {
         good = sound-good s (fits-fit s (h1 .0)) (h2 .0);
-        whole = eqb-true (length places) (s .table .d * length given) (h5 .0);
+        whole = eqb-true (length points) (s .table .d * length given) (h5 .0);
         free = leb-true (s .table .count + length given) (s .table .capacity) (h3 .0);
       }
 
   -- a run that is whole and has node is entered: no other test refuses it
-  pub enters-gives : Good s → length places ≡ s .table .d * length given → s .table .count + length given ≤ s .table .capacity
-      → enterCall s given places ≡ gives (addedRun given places (length given) s)
+  pub enters-gives : Good s → length points ≡ s .table .d * length given → s .table .count + length given ≤ s .table .capacity
+      → enterCall s given points ≡ gives (addedRun given points (length given) s)
   unfolding enterCall
   enters-gives g whole free =
       must-go (fits s) 1 _ (fit-fits s (g .fit))
       ∙ must-go (sound s) 2 _ (good-sound s g)
-      ∙ must-go (eqb (length places) (s .table .d * length given)) 5 _ (eq-eqb (length places) (s .table .d * length given) whole)
+      ∙ must-go (eqb (length points) (s .table .d * length given)) 5 _ (eq-eqb (length points) (s .table .d * length given) whole)
       ∙ must-go (leb (s .table .count + length given) (s .table .capacity)) 3 _ (le-leb (s .table .count + length given) (s .table .capacity) free)
       ∙ must-go (leb (s .table .used + length given) (s .table .capacity)) 4 _
       (le-leb (s .table .used + length given) (s .table .capacity) (omega (arith, good-used s g)))
 
   -- what entering a run asks of the table
-  pub enters-roomy : (why : ℕ) → why ≡ number (enterCall s given places) → why ≡ 0
-      → Roomy s (length given) × (length places ≡ s .table .d * length given)
+  pub enters-roomy : (why : ℕ) → why ≡ number (enterCall s given points) → why ≡ 0
+      → Roomy s (length given) × (length points ≡ s .table .d * length given)
   enters-roomy why we z =
       let e = zero-enters (sym we ∙ z) in (record { good = e .good; free = e .free }, e .whole)
 
   -- [8.4] 4 never arises: a sound table has a node free for each claim that it has node for
-  pub four-never : enterCall s given places ≡ refused 4 → ⊥
+  pub four-never : enterCall s given points ≡ refused 4 → ⊥
   unfolding enterCall
   four-never e =
       let h1 = must-other (fits s) 1 _ 4 e (λ q. omega arith) in
       let h2 = must-other (sound s) 2 _ 4 (h1 .1) (λ q. omega arith) in
-      let h5 = must-other (eqb (length places) (s .table .d * length given)) 5 _ 4 (h2 .1) (λ q. omega arith) in
+      let h5 = must-other (eqb (length points) (s .table .d * length given)) 5 _ 4 (h2 .1) (λ q. omega arith) in
       let h3 = must-other (leb (s .table .count + length given) (s .table .capacity)) 3 _ 4 (h5 .1) (λ q. omega arith) in
       let free = leb-true (s .table .count + length given) (s .table .capacity) (h3 .0) in
       let room = le-leb (s .table .used + length given) (s .table .capacity) (omega (arith, good-used s (sound-good s (fits-fit s (h1 .0)) (h2 .0)), free)) in
@@ -67,10 +67,10 @@ module _ (s : Store) (given : List ℕ) (places : List ℤ) where
       omega arith
 
   -- a run that was entered leaves a good table with the old claims and then the run's
-  pub entered-good : (x : Store) → enterCall s given places ≡ gives x
-      → Good x × (claimsIn x ≡ claimsIn s ++ claimsFrom (s .table .d) (length given) given places)
+  pub entered-good : (x : Store) → enterCall s given points ≡ gives x
+      → Good x × (claimsIn x ≡ claimsIn s ++ claimsFrom (s .table .d) (length given) given points)
   entered-good x e =
       let h = zero-enters (ap number e) in
-      let q : x ≡ addedRun given places (length given) s = same-given _ _ (sym e ∙ enters-gives (h .good) (h .whole) (h .free)) in
+      let q : x ≡ addedRun given points (length given) s = same-given _ _ (sym e ∙ enters-gives (h .good) (h .whole) (h .free)) in
       let r : Roomy s (length given) = record { good = h .good; free = h .free } in
-      rw q (run-good s given places (length given) r (h .whole), run-claims s given places (length given) r (h .whole))
+      rw q (run-good s given points (length given) r (h .whole), run-claims s given points (length given) r (h .whole))

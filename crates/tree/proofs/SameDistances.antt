@@ -5,9 +5,9 @@ use mathlib.Core.List.{List}
 use native.Mathlib.Omega.{arith}
 use lib.ListN.{length}
 use lib.Dec.{lit<}
-use Rattle.paper.specs.Tree.{Grown, fieldAt, sideClaim, nearSide, raise, placed, entered, built}
+use Rattle.paper.specs.Tree.{Grown, fieldAt, sideClaim, nearSide, raise, enteredFrom, entered, built}
 use Rattle.tree.specs.Rooms.{Linked}
-use Rattle.tree.proofs.OneEntering.{still-linked, side-small, placed-stop, placed-new, placed-down}
+use Rattle.tree.proofs.OneEntering.{still-linked, side-small, entered-stop, entered-new, entered-down}
 use Rattle.tree.proofs.RoomsInUse.{build}
 
 module _ (e e' : ℕ → ℕ → ℕ) (used k m : ℕ) (a : List ℕ) (hm : m < used) (lk : Linked a used k) (no1 : fieldAt a m 1 ≡ 0 → ⊥) (same : (j : ℕ) → j < k → e j k ≡ e' j k) where
@@ -26,7 +26,7 @@ module _ (e e' : ℕ → ℕ → ℕ) (used k m : ℕ) (a : List ℕ) (hm : m < 
   raise-ext s hs = rw (at-side s hs)
 
 place-ext : (f : ℕ) (e e' : ℕ → ℕ → ℕ) (used k m : ℕ) (a : List ℕ) → m < used → used ≤ m + f → Linked a used k → ((j : ℕ) → j < k → e j k ≡ e' j k)
-    → placed f e used k m a ≡ placed f e' used k m a
+    → enteredFrom f e used k m a ≡ enteredFrom f e' used k m a
 unfolding Linked
 place-ext zero e e' used k m a hm en lk same = absurd (omega arith)
 place-ext (suc f) e e' used k m a hm en lk same =
@@ -40,24 +40,24 @@ place-ext (suc f) e e' used k m a hm en lk same =
     hs = side-small e a m k
 
     below : (x : ℕ) → fieldAt a m (4 + s) ≡ x → (fieldAt a m 1 ≡ 0 → ⊥)
-        → ((w : ℕ) → w < used → used ≤ w + f → placed f e used k w (raise e a m s k) ≡ placed f e' used k w (raise e a m s k))
-        → placed (suc f) e used k m a ≡ placed (suc f) e' used k m a
+        → ((w : ℕ) → w < used → used ≤ w + f → enteredFrom f e used k w (raise e a m s k) ≡ enteredFrom f e' used k w (raise e a m s k))
+        → enteredFrom (suc f) e used k m a ≡ enteredFrom (suc f) e' used k m a
     below zero p no1 deep =
         let near : s ≡ nearSide e' a m k = near-ext e e' used k m a hm lk no1 same in
         let lift : raise e a m s k ≡ raise e' a m s k = raise-ext e e' used k m a hm lk no1 same s hs in
-        rw (placed-new f e used k m a no1 p, placed-new f e' used k m a no1 (rw (← near) p), ← near, lift)
+        rw (entered-new f e used k m a no1 p, entered-new f e' used k m a no1 (rw (← near) p), ← near, lift)
     below (suc w) p no1 deep =
         let near : s ≡ nearSide e' a m k = near-ext e e' used k m a hm lk no1 same in
         let lift : raise e a m s k ≡ raise e' a m s k = raise-ext e e' used k m a hm lk no1 same s hs in
         let v : fieldAt a m (4 + s) - 1 ≡ w = omega arith in
         let no4 : fieldAt a m (4 + s) ≡ 0 → ⊥ = λ z. omega arith in
-        rw (placed-down f e used k m a no1 no4, placed-down f e' used k m a no1 (rw (← near) no4), ← near, v, ← lift)
+        rw (entered-down f e used k m a no1 no4, entered-down f e' used k m a no1 (rw (← near) no4), ← near, v, ← lift)
         (deep w (omega (arith, lk m hm .leads s hs)) (omega (arith, lk m hm .rises s hs no4)))
 
     right : (x : ℕ) → fieldAt a m 1 ≡ x
-        → ((w : ℕ) → w < used → used ≤ w + f → placed f e used k w (raise e a m s k) ≡ placed f e' used k w (raise e a m s k))
-        → placed (suc f) e used k m a ≡ placed (suc f) e' used k m a
-    right zero p deep = rw (placed-stop f e used k m a p, placed-stop f e' used k m a p)
+        → ((w : ℕ) → w < used → used ≤ w + f → enteredFrom f e used k w (raise e a m s k) ≡ enteredFrom f e' used k w (raise e a m s k))
+        → enteredFrom (suc f) e used k m a ≡ enteredFrom (suc f) e' used k m a
+    right zero p deep = rw (entered-stop f e used k m a p, entered-stop f e' used k m a p)
     right (suc x) p deep = below (fieldAt a m (4 + s)) refl (λ z. omega arith) deep
 
 pub enter-ext : (e e' : ℕ → ℕ → ℕ) (used k : ℕ) (a : List ℕ) → Linked a used k → ((j : ℕ) → j < k → e j k ≡ e' j k) → entered e used k a ≡ entered e' used k a

@@ -13,8 +13,8 @@ use borrow.Author.Tests.{leb-true, eqb-true, le-leb, lt-leb, eq-eqb, ne-eqb}
 use Rattle.paper.specs.declared.tables.Table.{Table}
 use Rattle.paper.specs.Tree.{Grown, grown, entered, built, Store, apart, apartIn, fits, sameFront, afresh, sound}
 use Rattle.tree.specs.Rooms.{Neartree, Located, Enterable, IsBuilt}
-use Rattle.tree.specs.Soundness.{Lent, Fit, Good}
-use Rattle.tree.proofs.RoomsInUse.{Built, build, build-alike, Alike, same-list, grown-eq}
+use Rattle.tree.specs.Soundness.{MemoryHolds, Fit, Good}
+use Rattle.tree.proofs.RoomsInUse.{BuiltOver, build, build-alike, SameInUse, same-list, grown-eq}
 use Rattle.paper.proofs.Tests.{and-first, and-second}
 use Rattle.tree.proofs.Front.{front-at, front-all, front-ext, agree-at}
 use Rattle.paper.specs.Points.{inRange}
@@ -24,8 +24,8 @@ use Rattle.paper.specs.Limits.{mostClaims}
 -- range and lent memory
 
 -- a capacity in range, times a d in range, is small
-pub few-places : (c d : ℕ) → c ≤ mostClaims → d ≤ 8 → c * d ≤ 32768
-few-places c d hc hd = mul-le-mul hc hd
+pub few-points : (c d : ℕ) → c ≤ mostClaims → d ≤ 8 → c * d ≤ 32768
+few-points c d hc hd = mul-le-mul hc hd
 
 module _ (s : Store) where
   c : ℕ
@@ -68,9 +68,9 @@ module _ (s : Store) where
         le-leb (c * 6) (length (s .nodes)) (f .lent .nodes),
       )
 
--- the places of a table's first n claims are in the lent memory
-pub lent-located : (t : Table) (places : List ℤ) (numbers n : ℕ) → Lent t (length places) numbers → n ≤ t .capacity → Located (t .d) n places
-lent-located t places numbers n l h = record { narrow = l .narrow; inside = omega (arith, mul-le-mul-right (t .d) h, l .coordinates) }
+-- the points of a table's first n claims are in the lent memory
+pub lent-located : (t : Table) (points : List ℤ) (numbers n : ℕ) → MemoryHolds t (length points) numbers → n ≤ t .capacity → Located (t .d) n points
+lent-located t points numbers n l h = record { narrow = l .narrow; inside = omega (arith, mul-le-mul-right (t .d) h, l .coordinates) }
 
 -- rebuilding
 
@@ -78,7 +78,7 @@ module _ (measure d : ℕ) (coordinates : List ℤ) (nodes₀ nodes : List ℕ) 
   -- after k claims the next can be entered
   pub rebuild-ready : (n : ℕ) → n * 6 ≤ length nodes₀ → n ≤ mostClaims → Located d n coordinates → k < n → Enterable nodes used d coordinates k
   rebuild-ready n room few l hk =
-      let b : Built (apart measure d coordinates) k nodes₀ (grown nodes used) = rw is (build (apart measure d coordinates) k nodes₀ (omega arith) (omega arith)) in
+      let b : BuiltOver (apart measure d coordinates) k nodes₀ (grown nodes used) = rw is (build (apart measure d coordinates) k nodes₀ (omega arith) (omega arith)) in
       let le : k + 1 ≤ n = omega arith in
       record {
         linked = b .sound .linked;
@@ -99,7 +99,7 @@ module _ (measure d : ℕ) (coordinates : List ℤ) (nodes₀ nodes : List ℕ) 
   -- what rebuilding leaves of the memory
   pub rebuild-few : k * 6 ≤ length nodes₀ → k ≤ mostClaims → (used ≤ k) × (length nodes ≡ length nodes₀)
   rebuild-few room few =
-      let b : Built (apart measure d coordinates) k nodes₀ (grown nodes used) = rw is (build (apart measure d coordinates) k nodes₀ room (omega arith)) in
+      let b : BuiltOver (apart measure d coordinates) k nodes₀ (grown nodes used) = rw is (build (apart measure d coordinates) k nodes₀ room (omega arith)) in
       (b .few, b .long)
 
 pub rebuild-start : (e : ℕ → ℕ → ℕ) (nodes : List ℕ) → grown nodes 0 ≡ built e 0 nodes
@@ -109,7 +109,7 @@ rebuild-start e nodes = refl
 -- testing
 
 -- memory of any contents gives what empty nodes give
-alike-afresh : (e : ℕ → ℕ → ℕ) (nodes : List ℕ) (n : ℕ) → n * 6 ≤ length nodes → n ≤ mostClaims → Alike (afresh e n) (built e n nodes)
+alike-afresh : (e : ℕ → ℕ → ℕ) (nodes : List ℕ) (n : ℕ) → n * 6 ≤ length nodes → n ≤ mostClaims → SameInUse (afresh e n) (built e n nodes)
 unfolding afresh
 alike-afresh e nodes n room few =
     let l = length-replicate {A = ℕ} (n * 6) 0 in
@@ -122,7 +122,7 @@ module _ (s : Store) where
 
   module _ (scratch nodes : List ℕ) (u : ℕ) (hc : s .table .count ≤ s .table .capacity) (most : s .table .capacity ≤ mostClaims)
       (room : s .table .count * 6 ≤ length scratch) (is : grown nodes u ≡ built (apartIn s) (s .table .count) scratch) where
-    alike : Alike (afresh (apartIn s) (s .table .count)) (grown nodes u)
+    alike : SameInUse (afresh (apartIn s) (s .table .count)) (grown nodes u)
     alike = rw is (alike-afresh (apartIn s) scratch (s .table .count) room (omega arith))
 
     pub sound-other : (u ≡ s .table .used → ⊥) → false ≡ sound s
@@ -182,12 +182,12 @@ module _ (s : Store) (g : Good s) where
   good-sound =
       let n : ℕ = s .table .count in
       let e : ℕ → ℕ → ℕ = apartIn s in
-      let h : Alike (afresh e n) (grown (s .nodes) (s .table .used)) = rw (g .built) at (alike-afresh e (s .nodes) n room good-few) in
+      let h : SameInUse (afresh e n) (grown (s .nodes) (s .table .used)) = rw (g .built) at (alike-afresh e (s .nodes) n room good-few) in
       rw (le-leb n (s .table .capacity) (g .count), eq-eqb (afresh e n .used) (s .table .used) (h .used))
       (front-all (s .table .used * 6) (afresh e n .nodes) (s .nodes)
       (agree-at (s .table .used) (afresh e n .nodes) (s .nodes) (λ m f hm hf. h .agree .same m f (omega (arith, h .used)) hf)))
 
-  pub good-built : Built (apartIn s) (s .table .count) (s .nodes) (grown (s .nodes) (s .table .used))
+  pub good-built : BuiltOver (apartIn s) (s .table .count) (s .nodes) (grown (s .nodes) (s .table .used))
   unfolding IsBuilt
   good-built = rw (g .built) at (build (apartIn s) (s .table .count) (s .nodes) room (omega (arith, good-few)))
 

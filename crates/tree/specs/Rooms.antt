@@ -6,7 +6,7 @@ use mathlib.Core.List.{List}
 use lib.IntN.{ℤ}
 use lib.ListN.{length}
 use Rattle.paper.specs.Tree.{fieldAt, grown, built}
-use Rattle.paper.specs.Limits.{mostPlaces}
+use Rattle.paper.specs.Limits.{mostCoordinates}
 
 -- node m has all of its six numbers
 abbrev pub Inside : List ℕ → ℕ → Type 0
@@ -57,7 +57,7 @@ pub record HasClaim (nodes : List ℕ) (n m s : ℕ) : Type 0 where
 
 -- claims numbered below n have their d coordinates in the lent memory
 pub record Located (d n : ℕ) (coordinates : List ℤ) : Type 0 where
-  pub narrow : d ≤ mostPlaces
+  pub narrow : d ≤ mostCoordinates
   pub inside : n * d ≤ length coordinates
 
 -- claim k, the first that is not entered yet, can be

@@ -5,13 +5,13 @@ use Rattle.paper.specs.declared.tables.Table.{Table}
 use Rattle.paper.specs.Points.{InRange}
 use Rattle.paper.specs.Tree.{Store, apartIn}
 use Rattle.tree.specs.Rooms.{IsBuilt}
-use Rattle.paper.specs.Limits.{mostClaims, mostPlaces}
+use Rattle.paper.specs.Limits.{mostClaims, mostCoordinates}
 
--- [3.2] the lent memory holds what a table's nodes and its claims' places need: so many coordinates, and so many numbers of nodes
-pub record Lent (t : Table) (places numbers : ℕ) : Type 0 where
-  pub narrow : t .d ≤ mostPlaces
+-- [3.2] the lent memory holds what a table's nodes and its claims' points need: so many coordinates, and so many numbers of nodes
+pub record MemoryHolds (t : Table) (points numbers : ℕ) : Type 0 where
+  pub narrow : t .d ≤ mostCoordinates
   pub most : t .capacity ≤ mostClaims
-  pub coordinates : t .capacity * t .d ≤ places
+  pub coordinates : t .capacity * t .d ≤ points
   pub nodes : t .capacity * 6 ≤ numbers
 
 -- [8.1] a table in range with enough lent memory
@@ -19,7 +19,7 @@ pub record Fit (s : Store) : Type 0 where
   pub range : InRange (s .table .measure) (s .table .d)
   pub some : 1 ≤ s .table .capacity
   pub references : s .table .capacity ≤ length (s .references)
-  pub lent : Lent (s .table) (length (s .coordinates)) (length (s .nodes))
+  pub lent : MemoryHolds (s .table) (length (s .coordinates)) (length (s .nodes))
 
 -- [3.12] and sound
 pub record Good (s : Store) : Type 0 where

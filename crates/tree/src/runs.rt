@@ -11,14 +11,14 @@ use super::entering::enter;
 use super::rows::put_reference;
 use paper::tables::Table;
 
-// Copies n coordinates from `from` of the given places to `at` of the lent memory.
-fn copy(coordinates: &mut [i32], at: usize, places: &[i32], from: usize, n: usize)
-    requires { ⌜ (at + n ≤ length (now coordinates)) × (from + n ≤ length (now places)) ⌝ }
-    ensures { λ _. ⌜ now (coordinates .exit) ≡ paste (now (coordinates .entry)) at (drop from (now (places .entry))) n ⌝ }
+// Copies n coordinates from `from` of the given points to `at` of the lent memory.
+fn copy(coordinates: &mut [i32], at: usize, points: &[i32], from: usize, n: usize)
+    requires { ⌜ (at + n ≤ length (now coordinates)) × (from + n ≤ length (now points)) ⌝ }
+    ensures { λ _. ⌜ now (coordinates .exit) ≡ paste (now (coordinates .entry)) at (drop from (now (points .entry))) n ⌝ }
 {
     let mut i = 0;
     while i < n {
-        coordinates[at + i] = places[from + i];
+        coordinates[at + i] = points[from + i];
         i += 1;
     }
 }
@@ -30,17 +30,17 @@ pub fn add(
     coordinates: &mut [i32],
     nodes: &mut [u64],
     reference: u32,
-    places: &[i32],
+    points: &[i32],
     i: usize,
 ) -> Table
-    requires { ⌜ Roomy (lent t references coordinates nodes) 1 × (i * t .d + t .d ≤ length (now places)) ⌝ }
+    requires { ⌜ Roomy (lent t references coordinates nodes) 1 × (i * t .d + t .d ≤ length (now points)) ⌝ }
     ensures { λ r. ⌜ lent r (references .exit) (coordinates .exit) (nodes .exit)
-        ≡ added (lent t (references .entry) (coordinates .entry) (nodes .entry)) reference (point (t .d) (now (places .entry)) i) ⌝ }
+        ≡ added (lent t (references .entry) (coordinates .entry) (nodes .entry)) reference (point (t .d) (now (points .entry)) i) ⌝ }
 {
     let k = t.count;
     let d = t.d;
     put_reference(references, k, reference);
-    copy(coordinates, k * d, places, i * d, d);
+    copy(coordinates, k * d, points, i * d, d);
     let used = enter(nodes, t.measure, d, coordinates, t.used, k as u64);
     Table {
         number: t.number,
@@ -59,16 +59,16 @@ pub fn add_run(
     coordinates: &mut [i32],
     nodes: &mut [u64],
     given: &[u32],
-    places: &[i32],
+    points: &[i32],
 ) -> Table
-    requires { ⌜ Roomy (lent t references coordinates nodes) (length (now given)) × (length (now places) ≡ t .d * length (now given)) ⌝ }
+    requires { ⌜ Roomy (lent t references coordinates nodes) (length (now given)) × (length (now points) ≡ t .d * length (now given)) ⌝ }
     ensures { λ r. ⌜ lent r (references .exit) (coordinates .exit) (nodes .exit)
-        ≡ addedRun (now (given .entry)) (now (places .entry)) (length (now (given .entry))) (lent t (references .entry) (coordinates .entry) (nodes .entry)) ⌝ }
+        ≡ addedRun (now (given .entry)) (now (points .entry)) (length (now (given .entry))) (lent t (references .entry) (coordinates .entry) (nodes .entry)) ⌝ }
 {
     let mut held = t;
     let mut i = 0;
     while i < given.len() {
-        held = add(held, references, coordinates, nodes, given[i], places, i);
+        held = add(held, references, coordinates, nodes, given[i], points, i);
         i += 1;
     }
     held

@@ -5,7 +5,7 @@ ghost use mathlib.Core.List.{List};
 ghost use lib.ListN.{length};
 ghost use Rattle.paper.specs.Tree.{lent, grown, built, apart, store, fits, sameFront, sound};
 ghost use Rattle.tree.specs.Rooms.{Located};
-ghost use Rattle.tree.specs.Soundness.{Lent};
+ghost use Rattle.tree.specs.Soundness.{MemoryHolds};
 ghost use Rattle.paper.specs.Limits.{mostClaims};
 use super::entering::enter;
 use checks::in_range;
@@ -70,7 +70,7 @@ fn same_front(a: &[u64], b: &[u64], w: usize) -> bool
 
 // [3.12] [8.2] Whether the table is sound. Its claims are entered again, into nodes of its own, and the nodes in use are compared.
 pub fn is_sound(t: Table, coordinates: &[i32], nodes: &[u64]) -> bool
-    requires { ⌜ Lent t (length (now coordinates)) (length (now nodes)) ⌝ }
+    requires { ⌜ MemoryHolds t (length (now coordinates)) (length (now nodes)) ⌝ }
     ensures { λ r. ⌜ ((references : List ℕ) → r ≡ sound (store t references (now (coordinates .entry)) (now (nodes .entry)))) ⌝ }
 {
     let n = t.count;

@@ -22,7 +22,7 @@ use Rattle.paper.specs.Tree.{claimsFrom, referenceAt}
 use Rattle.paper.specs.Calls.{tableQuery}
 use Rattle.tree.proofs.Places.{claims-length}
 use Rattle.keep.specs.Page.{ranks, sooner, insertBy, sortedOf, firstSorted, items, Filled}
-use Rattle.keep.specs.Kept.{key, Rising, none, more}
+use Rattle.keep.specs.Kept.{key, RisingClaims, none, more}
 use Rattle.keep.proofs.Keeping.{sooner-true, sooner-false, key-sooner, key-differs, scan-rising}
 use Rattle.keep.proofs.Placing.{before-ranks}
 use Rattle.walk.specs.Walking.{distOf}
@@ -45,7 +45,7 @@ sooner-turned rank j k false hj hk ne p =
 
 module _ (o : Order) (ref dist : ℕ → ℕ) where
   -- a claim behind all of l, put in its place among the numbers and among the items
-  put-numbers : (ok : ℕ → Bool) (k s lo : ℕ) (l : List ℕ) → k < 2 ^ 64 → Rising (ranks o dist) ok k s lo l
+  put-numbers : (ok : ℕ → Bool) (k s lo : ℕ) (l : List ℕ) → k < 2 ^ 64 → RisingClaims (ranks o dist) ok k s lo l
       → put o (itemAt ref dist k) (map (itemAt ref dist) l) ≡ map (itemAt ref dist) (insertBy (ranks o dist) k l)
   unfolding put insertBy
   put-numbers ok k s lo [] hk none = refl
@@ -114,7 +114,7 @@ flat-items ref dist (k ∷ l) = rw (flat-items ref dist l)
 
 -- the claims of the lent memory
 pub claims-at : (d n : ℕ) (references : List ℕ) (coordinates : List ℤ) (k : ℕ) → k < n
-    → getD (claimsFrom d n references coordinates) k zeroClaim ≡ record { reference = getD references k 0; place = point d coordinates k }
+    → getD (claimsFrom d n references coordinates) k zeroClaim ≡ record { reference = getD references k 0; point = point d coordinates k }
 unfolding claimsFrom
 claims-at d zero references coordinates k h = absurd (omega arith)
 claims-at d (suc n) references coordinates k h =
@@ -139,7 +139,7 @@ module _ (t : Table) (order : Order) (reach : ℕ) (references : List ℕ) (coor
   unfolding itemOf distOf point
   item-is k h =
       ap
-      (λ (c : Claim). record { number = k; reference = c .reference; distance = distance (measureOf (t .measure)) (t .d) (c .place) probe })
+      (λ (c : Claim). record { number = k; reference = c .reference; distance = distance (measureOf (t .measure)) (t .d) (c .point) probe })
       (claims-at (t .d) (t .count) references coordinates k h)
       ∙ ap
       (λ (x : ℕ). record { number = k; reference = getD references k 0; distance = x })

@@ -10,8 +10,8 @@ use Rattle.measure.proofs.Metric.{In32, distance-most}
 use Rattle.orders.proofs.Meaning.{listed-has}
 use Rattle.orders.proofs.Pages.{first-some}
 
-pub farthest-some : (q : Query) (cs : List Claim) → In32 (q .probe) → In32 (getD cs 0 zeroClaim .place) → 0 < length cs → farthestOf q cs ≡ nothing → ⊥
+pub farthest-some : (q : Query) (cs : List Claim) → In32 (q .probe) → In32 (getD cs 0 zeroClaim .point) → 0 < length cs → farthestOf q cs ≡ nothing → ⊥
 unfolding farthestOf itemOf
 farthest-some q cs hp hc h e =
     first-some (listed (farQuery q) cs (length cs)) (itemOf (farQuery q) cs 0)
-    (listed-has (farQuery q) cs (length cs) 0 h (distance-most (measureOf (q .measure)) (q .d) (getD cs 0 zeroClaim .place) (q .probe) hc hp)) e
+    (listed-has (farQuery q) cs (length cs) 0 h (distance-most (measureOf (q .measure)) (q .d) (getD cs 0 zeroClaim .point) (q .probe) hc hp)) e

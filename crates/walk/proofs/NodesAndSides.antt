@@ -15,11 +15,11 @@ use Rattle.tree.proofs.Places.{located-at}
 use Rattle.tree.specs.Rooms.{Linked, Under, here, deeper, Holds, Searchable}
 use Rattle.keep.specs.declared.Asked.{Asked}
 use Rattle.keep.specs.Page.{items, sortedOf, firstSorted}
-use Rattle.keep.specs.Kept.{none, Roomy, KeepIs}
+use Rattle.keep.specs.Kept.{none, PageRoomy, KeepIs}
 use Rattle.keep.specs.Skips.{admitted, capOf, boundOf, beyondOf, passedOf}
 use Rattle.keep.proofs.Keeping.{all-are-first}
 use Rattle.keep.proofs.Walks.{walked-still, walked-then, walked-fewer, step-taken, step-passed, beyond-wanted}
-use Rattle.walk.specs.Walking.{distBy, InSight, apartBy, okBy, rankBy, Metric, Below, Reached, wayDown, AskWalked, Stepped, Lent, WayAsk, NodeAsk, SideAsk, PageAsk, AskFilled}
+use Rattle.walk.specs.Walking.{distBy, InSight, apartBy, okBy, rankBy, Metric, Below, InOrBelow, wayDown, AskWalked, Stepped, Readable, WayAsk, NodeAsk, SideAsk, PageAsk, AskFilled}
 use Rattle.walk.proofs.Skipping.{metric, rank-there, rank-back, rank-between, beyond-skips, passed-skips, ask-capped}
 
 -- the step of a claim that was measured
@@ -106,10 +106,10 @@ module _ (ask : Asked) (nodes : List ℕ) (m s x y : ℕ) (o : List ℕ) (count 
 
 -- below a side
 module _ (ask : Asked) (references nodes : List ℕ) (e : ℕ → ℕ → ℕ) (dist : ℕ → ℕ) (way : ℕ) (o : List ℕ) (count : ℕ) where
-  pub side-none : count ≤ ask .size → way ≡ 0 → AskWalked ask references dist (Reached nodes e way) o count o count
+  pub side-none : count ≤ ask .size → way ≡ 0 → AskWalked ask references dist (InOrBelow nodes e way) o count o count
   side-none few z = walked-still _ _ _ _ _ _ _ o count few (λ base l g j c y. absurd (c .some z))
 
-  pub side-down : (o' : List ℕ) (r : ℕ) → AskWalked ask references dist (Holds nodes e (way - 1)) o count o' r → AskWalked ask references dist (Reached nodes e way) o count o' r
+  pub side-down : (o' : List ℕ) (r : ℕ) → AskWalked ask references dist (Holds nodes e (way - 1)) o count o' r → AskWalked ask references dist (InOrBelow nodes e way) o count o' r
   side-down o' r h = walked-fewer _ _ _ _ _ _ _ (Holds nodes e (way - 1)) o count o' r (λ j c. c .holds) h
 
 module _ (ask : Asked) (references nodes : List ℕ) (e : ℕ → ℕ → ℕ) (dist : ℕ → ℕ) (metric : Metric e dist) (some : 0 < ask .size) (m s : ℕ) (o : List ℕ) (count : ℕ)
@@ -137,7 +137,7 @@ module _ (ask : Asked) (references nodes : List ℕ) (e : ℕ → ℕ → ℕ) (
   pub side-went : (a xd x b yd y way : ℕ) (o' : List ℕ) (r : ℕ)
       → a ≡ fieldAt nodes m s → xd ≡ dist (a - 1) → x ≡ rank (ask .order) xd
       → b ≡ fieldAt nodes m (1 - s) → yd ≡ dist (b - 1) → y ≡ rank (ask .order) yd
-      → way ≡ wayDown nodes ask m s x y o count → AskWalked ask references dist (Reached nodes e way) o count o' r → Went o' r
+      → way ≡ wayDown nodes ask m s x y o count → AskWalked ask references dist (InOrBelow nodes e way) o count o' r → Went o' r
   unfolding wayDown
   side-went a xd x b yd y way o' r read px rx read' py ry is w =
       go (passedOf ask x (fieldAt nodes m (2 + s))) (beyondOf (ask .order) (boundOf ask o count) x y s (fieldAt nodes m (2 + s))) refl refl is
@@ -149,14 +149,14 @@ module _ (ask : Asked) (references nodes : List ℕ) (e : ℕ → ℕ → ℕ) (
       is-other = rw (← read', ← py) ry
 
       after : Went o count → Went o' r
-      after h = walked-then _ _ _ _ _ _ _ (Below nodes e m s (fieldAt nodes m s - 1)) (Reached nodes e way) o count o count o' r h w (λ j c. inl c)
+      after h = walked-then _ _ _ _ _ _ _ (Below nodes e m s (fieldAt nodes m s - 1)) (InOrBelow nodes e way) o count o count o' r h w (λ j c. inl c)
 
       go : (u v : Bool) → passedOf ask x (fieldAt nodes m (2 + s)) ≡ u → beyondOf (ask .order) (boundOf ask o count) x y s (fieldAt nodes m (2 + s)) ≡ v
           → way ≡ cond u 0 (cond v 0 (fieldAt nodes m (4 + s))) → Went o' r
       go true v p q f = after (side-passed x (omega (arith, is-rank)) p)
       go false true p q f = after (side-beyond x y (omega (arith, is-rank)) (omega (arith, is-other)) q)
       go false false p q f =
-          walked-fewer _ _ _ _ _ _ _ (Reached nodes e way) o count o' r
+          walked-fewer _ _ _ _ _ _ _ (InOrBelow nodes e way) o count o' r
           (λ j c. let z : c .room ≡ way - 1 = omega (arith, c .leads) in record { some = λ n. omega (arith, c .leads); holds = rw (← z) (c .holds) }) w
 
 -- a room, after its left claim
@@ -188,20 +188,20 @@ module _ (ask : Asked) (references nodes : List ℕ) (e : ℕ → ℕ → ℕ) (
 
     module _ (metric : Metric e dist) (some : 0 < ask .size) (rl : ℕ) (ranked : rl ≡ rank (ask .order) x) (rr : ℕ) (ranked₂ : rr ≡ rank (ask .order) x₂) (way way₂ : ℕ) where
       left-went : (o : List ℕ) (c : ℕ) → c ≤ ask .size → (way : ℕ) (o' : List ℕ) (c' : ℕ) → way ≡ wayDown nodes ask m 0 rl rr o c
-          → AskWalked ask references dist (Reached nodes e way) o c o' c' → AskWalked ask references dist (Side 0) o c o' c'
+          → AskWalked ask references dist (InOrBelow nodes e way) o c o' c' → AskWalked ask references dist (Side 0) o c o' c'
       left-went o c few way o' c' = side-went ask references nodes e dist metric some m 0 o c few l x rl right x₂ rr way o' c' left measured ranked read measured₂ ranked₂
 
       right-went : (o : List ℕ) (c : ℕ) → c ≤ ask .size → (way : ℕ) (o' : List ℕ) (c' : ℕ) → way ≡ wayDown nodes ask m 1 rr rl o c
-          → AskWalked ask references dist (Reached nodes e way) o c o' c' → AskWalked ask references dist (Side 1) o c o' c'
+          → AskWalked ask references dist (InOrBelow nodes e way) o c o' c' → AskWalked ask references dist (Side 1) o c o' c'
       right-went o c few way o' c' = side-went ask references nodes e dist metric some m 1 o c few right x₂ rr l x rl way o' c' read measured₂ ranked₂ left measured ranked
 
-      pub node-left-first : way ≡ wayDown nodes ask m 0 rl rr o₂ c₂ → AskWalked ask references dist (Reached nodes e way) o₂ c₂ o₃ c₃
-          → way₂ ≡ wayDown nodes ask m 1 rr rl o₃ c₃ → AskWalked ask references dist (Reached nodes e way₂) o₃ c₃ o₄ r → All o₄ r
+      pub node-left-first : way ≡ wayDown nodes ask m 0 rl rr o₂ c₂ → AskWalked ask references dist (InOrBelow nodes e way) o₂ c₂ o₃ c₃
+          → way₂ ≡ wayDown nodes ask m 1 rr rl o₃ c₃ → AskWalked ask references dist (InOrBelow nodes e way₂) o₃ c₃ o₄ r → All o₄ r
       node-left-first is w₃ is₂ w₄ =
           node-two (Side 0) (Side 1) (λ j c. c) (left-went o₂ c₂ (w₂ .few) way o₃ c₃ is w₃) (right-went o₃ c₃ (w₃ .few) way₂ o₄ r is₂ w₄)
 
-      pub node-right-first : way ≡ wayDown nodes ask m 1 rr rl o₂ c₂ → AskWalked ask references dist (Reached nodes e way) o₂ c₂ o₃ c₃
-          → way₂ ≡ wayDown nodes ask m 0 rl rr o₃ c₃ → AskWalked ask references dist (Reached nodes e way₂) o₃ c₃ o₄ r → All o₄ r
+      pub node-right-first : way ≡ wayDown nodes ask m 1 rr rl o₂ c₂ → AskWalked ask references dist (InOrBelow nodes e way) o₂ c₂ o₃ c₃
+          → way₂ ≡ wayDown nodes ask m 0 rl rr o₃ c₃ → AskWalked ask references dist (InOrBelow nodes e way₂) o₃ c₃ o₄ r → All o₄ r
       node-right-first is w₃ is₂ w₄ =
           node-two (Side 1) (Side 0) (λ j c. ⊎-elim (λ q. inr q) (λ q. inl q) c) (right-went o₂ c₂ (w₂ .few) way o₃ c₃ is w₃) (left-went o₃ c₃ (w₃ .few) way₂ o₄ r is₂ w₄)
 
@@ -223,7 +223,7 @@ unfolding Linked
 next-here nodes used n m s x h hs read some =
     record { linked = h .linked; room = h .room; inUse = omega (arith, h .linked m (h .inUse) .leads s hs) }
 
-pub roomy-again : (size : ℕ) (o o' : List ℕ) (count r : ℕ) → Roomy size o count → length o' ≡ length o → r ≤ size → Roomy size o' r
+pub roomy-again : (size : ℕ) (o o' : List ℕ) (count r : ℕ) → PageRoomy size o count → length o' ≡ length o → r ≤ size → PageRoomy size o' r
 roomy-again size o o' count r h e few = record { some = h .some; few = few; long = omega (arith, h .long) }
 
 -- the nodes left above the one that a side leads to, counted for the measure of the walk
@@ -236,7 +236,7 @@ node-falls used zero some = absurd (some refl)
 node-falls used (suc k) some = omega arith
 
 -- claim k has its d coordinates in the lent memory
-pub in-sight : (ask : Asked) (references : List ℕ) (coordinates probe : List ℤ) (k : ℕ) → Lent ask references coordinates probe → k < ask .claims → InSight (ask .d) k coordinates probe
+pub in-sight : (ask : Asked) (references : List ℕ) (coordinates probe : List ℤ) (k : ℕ) → Readable ask references coordinates probe → k < ask .claims → InSight (ask .d) k coordinates probe
 in-sight ask references coordinates probe k h hk =
     record { narrow = h .located .narrow; inside = located-at (ask .d) (ask .claims) k coordinates (h .located) hk; aimed = h .aimed }
 

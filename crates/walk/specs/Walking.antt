@@ -10,9 +10,9 @@ use Rattle.paper.specs.Tree.{fieldAt, apart, referenceAt}
 use Rattle.tree.specs.Rooms.{Inside, Holds, Searchable, Neartree, Located}
 use Rattle.keep.specs.declared.Asked.{Asked}
 use Rattle.keep.specs.Page.{ranks, Filled}
-use Rattle.keep.specs.Kept.{Roomy, Walked}
+use Rattle.keep.specs.Kept.{PageRoomy, Walked}
 use Rattle.keep.specs.Skips.{admitted, boundOf, beyondOf, passedOf}
-use Rattle.paper.specs.Limits.{mostPlaces}
+use Rattle.paper.specs.Limits.{mostCoordinates}
 
 -- how far claim k is from the probe
 unfoldable pub distOf : ℕ → ℕ → List ℤ → List ℤ → ℕ → ℕ
@@ -23,7 +23,7 @@ distBy ask coordinates probe = distOf (ask .measure) (ask .d) coordinates probe
 
 -- claim k can be measured: the lent memory has its d coordinates, and the probe's
 pub record InSight (d k : ℕ) (coordinates probe : List ℤ) : Type 0 where
-  pub narrow : d ≤ mostPlaces
+  pub narrow : d ≤ mostCoordinates
   pub inside : k * d + d ≤ length coordinates
   pub aimed : d ≤ length probe
 
@@ -55,7 +55,7 @@ pub record Below (nodes : List ℕ) (e : ℕ → ℕ → ℕ) (m s k j : ℕ) : 
   pub holds : Holds nodes e room j
 
 -- a claim in or below room `way` less one; none where `way` is 0
-pub record Reached (nodes : List ℕ) (e : ℕ → ℕ → ℕ) (way j : ℕ) : Type 0 where
+pub record InOrBelow (nodes : List ℕ) (e : ℕ → ℕ → ℕ) (way j : ℕ) : Type 0 where
   pub some : way ≡ 0 → ⊥
   pub holds : Holds nodes e (way - 1) j
 
@@ -76,7 +76,7 @@ pub record Stepped (ask : Asked) (references : List ℕ) (k x : ℕ) (o : List �
   pub walked : (dist : ℕ → ℕ) → x ≡ dist k → AskWalked ask references dist (λ j. j ≡ k) o count o' r
 
 -- the lent memory has what the question reads of it
-pub record Lent (ask : Asked) (references : List ℕ) (coordinates probe : List ℤ) : Type 0 where
+pub record Readable (ask : Asked) (references : List ℕ) (coordinates probe : List ℤ) : Type 0 where
   pub located : Located (ask .d) (ask .claims) coordinates
   pub named : ask .claims ≤ length references
   pub aimed : ask .d ≤ length probe
@@ -85,31 +85,31 @@ pub record Lent (ask : Asked) (references : List ℕ) (coordinates probe : List 
 pub record StepAsk (ask : Asked) (references : List ℕ) (k : ℕ) (o : List ℕ) (count : ℕ) : Type 0 where
   pub stored : k < ask .claims
   pub named : ask .claims ≤ length references
-  pub roomy : Roomy (ask .size) o count
+  pub roomy : PageRoomy (ask .size) o count
 
 -- what the walk of room m asks
 pub record NodeAsk (references : List ℕ) (coordinates : List ℤ) (nodes : List ℕ) (probe : List ℤ) (ask : Asked) (m : ℕ) (o : List ℕ) (count : ℕ) : Type 0 where
   pub walk : Searchable nodes (ask .used) (ask .claims) m
-  pub lent : Lent ask references coordinates probe
-  pub roomy : Roomy (ask .size) o count
+  pub lent : Readable ask references coordinates probe
+  pub roomy : PageRoomy (ask .size) o count
 
 -- what the tests of side s of room m ask
 pub record WayAsk (nodes : List ℕ) (ask : Asked) (m s : ℕ) (o : List ℕ) (count : ℕ) : Type 0 where
   pub which : s < 2
   pub inside : Inside nodes m
-  pub roomy : Roomy (ask .size) o count
+  pub roomy : PageRoomy (ask .size) o count
 
 -- what the walk below a side asks
 pub record SideAsk (references : List ℕ) (coordinates : List ℤ) (nodes : List ℕ) (probe : List ℤ) (ask : Asked) (way : ℕ) (o : List ℕ) (count : ℕ) : Type 0 where
   pub walk : (way ≡ 0 → ⊥) → Searchable nodes (ask .used) (ask .claims) (way - 1)
-  pub lent : Lent ask references coordinates probe
-  pub roomy : Roomy (ask .size) o count
+  pub lent : Readable ask references coordinates probe
+  pub roomy : PageRoomy (ask .size) o count
 
 -- what a page asks
 pub record PageAsk (references : List ℕ) (coordinates : List ℤ) (nodes : List ℕ) (probe : List ℤ) (ask : Asked) (o : List ℕ) : Type 0 where
   pub tree : Neartree nodes (apartBy ask coordinates) (ask .used) (ask .claims)
-  pub lent : Lent ask references coordinates probe
-  pub roomy : Roomy (ask .size) o 0
+  pub lent : Readable ask references coordinates probe
+  pub roomy : PageRoomy (ask .size) o 0
 
 -- [4.6] [4.8] the first so many admitted claims stand at the front of the room
 abbrev pub AskFilled : Asked → List ℕ → (ℕ → ℕ) → List ℕ → List ℕ → ℕ → Type 0

@@ -1,7 +1,7 @@
 // One walk for every order and every question. It keeps the first so many claims, in order, in the front of the caller's room.
 ghost use mathlib.Core.Path.{_≡_};
 ghost use Rattle.tree.specs.Rooms.{Holds};
-ghost use Rattle.walk.specs.Walking.{distOf, distBy, InSight, apartBy, wayDown, WayAsk, Reached, AskWalked, Stepped, StepAsk, NodeAsk, SideAsk, PageAsk, AskFilled};
+ghost use Rattle.walk.specs.Walking.{distOf, distBy, InSight, apartBy, wayDown, WayAsk, InOrBelow, AskWalked, Stepped, StepAsk, NodeAsk, SideAsk, PageAsk, AskFilled};
 use keep::Asked;
 use tree::nodes::field;
 use tree::rows::reference;
@@ -110,7 +110,7 @@ fn side(
     count: usize,
 ) -> usize
     requires { ⌜ SideAsk (now references) (now coordinates) (now nodes) (now probe) ask way (now room) count ⌝ }
-    ensures { λ r. ⌜ AskWalked ask (now (references .entry)) (distBy ask (now (coordinates .entry)) (now (probe .entry))) (Reached (now (nodes .entry)) (apartBy ask (now (coordinates .entry))) way) (now (room .entry)) count (now (room .exit)) r ⌝ }
+    ensures { λ r. ⌜ AskWalked ask (now (references .entry)) (distBy ask (now (coordinates .entry)) (now (probe .entry))) (InOrBelow (now (nodes .entry)) (apartBy ask (now (coordinates .entry))) way) (now (room .entry)) count (now (room .exit)) r ⌝ }
 {
     if way == 0 {
         return count;

@@ -4,14 +4,14 @@ use borrow.Author.Needs.{needs}
 use Rattle.keep.proofs.keep.Statement.{statement}
 use Rattle.keep.proofs.keep.Tie as tie
 
-place-requires : tie.Need-place-requires
-place-requires c κs = search needs
+position-requires : tie.Need-position-requires
+position-requires c κs = search needs
 
 same-length : tie.Need-same-length
 same-length c = search needs
 
 returns : tie.Need-returns
-returns c = keep-full _ _ _ _ _ _ _ _ (c .before .before .before .before .pre) (c .before .place .ensures) (c .if1 .taken)
+returns c = keep-full _ _ _ _ _ _ _ _ (c .before .before .before .before .pre) (c .before .position .ensures) (c .if1 .taken)
 
 held-requires : tie.Need-held-requires
 held-requires c κs = search needs
@@ -20,7 +20,7 @@ same-length-2 : tie.Need-same-length-2
 same-length-2 c = search needs
 
 returns-2 : tie.Need-returns-2
-returns-2 c = keep-same _ _ _ _ _ _ _ _ (c .before .before .before .before .before .before .before .pre) (c .before .before .before .before .place .ensures) _ (c .before .held .ensures) (c .if2 .taken)
+returns-2 c = keep-same _ _ _ _ _ _ _ _ (c .before .before .before .before .before .before .before .pre) (c .before .before .before .before .position .ensures) _ (c .before .held .ensures) (c .if2 .taken)
 
 mul-shift : tie.Need-mul-shift
 mul-shift c = search needs
@@ -46,12 +46,12 @@ same-length-3 c = search needs
 returns-3 : tie.Need-returns-3
 returns-3 c =
     let pre = c .before .before .before .before .before .before .before .before .before .before .before .before .before .before .before .before .pre in
-    let place = c .before .before .before .before .before .before .before .before .before .before .before .before .before .place in
+    let position = c .before .before .before .before .before .before .before .before .before .before .before .before .before .position in
     let held = c .before .before .before .before .before .before .before .before .before .before .held in
     let if2 = c .before .before .before .before .before .before .before .before .before .if2 in
     let if3 = c .before .before .before .before .before .before .before .before .if3 in
     let shift = c .before .before .before .before .before .before .shift in
-    keep-more _ _ _ _ _ _ _ _ pre (place .ensures) _ _ (if3 .taken) (shift .ensures) (c .before .before .put-three .ensures) _ (held .ensures) (if2 .left)
+    keep-more _ _ _ _ _ _ _ _ pre (position .ensures) _ _ (if3 .taken) (shift .ensures) (c .before .before .put-three .ensures) _ (held .ensures) (if2 .left)
 
 mul-shift-3 : tie.Need-mul-shift-3
 mul-shift-3 c = search needs
@@ -77,19 +77,19 @@ same-length-4 c = search needs
 returns-4 : tie.Need-returns-4
 returns-4 c =
     let pre = c .before .before .before .before .before .before .before .before .before .before .before .before .before .before .before .before .pre in
-    let place = c .before .before .before .before .before .before .before .before .before .before .before .before .before .place in
+    let position = c .before .before .before .before .before .before .before .before .before .before .before .before .before .position in
     let if1 = c .before .before .before .before .before .before .before .before .before .before .before .before .if1 in
     let held = c .before .before .before .before .before .before .before .before .before .before .held in
     let if2 = c .before .before .before .before .before .before .before .before .before .if2 in
     let if3 = c .before .before .before .before .before .before .before .before .if3 in
     let shift2 = c .before .before .before .before .before .before .shift2 in
-    keep-over _ _ _ _ _ _ _ _ pre (place .ensures) _ _ (if3 .left) (if1 .left) (shift2 .ensures) (c .before .before .put-three2 .ensures) _ (held .ensures) (if2 .left)
+    keep-over _ _ _ _ _ _ _ _ pre (position .ensures) _ _ (if3 .left) (if1 .left) (shift2 .ensures) (c .before .before .put-three2 .ensures) _ (held .ensures) (if2 .left)
 
 pub keep-spec : {M : Type 1} → statement M
 keep-spec =
     tie.close
     (tie.spec
-    place-requires
+    position-requires
     same-length
     returns
     held-requires

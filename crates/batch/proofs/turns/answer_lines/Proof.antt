@@ -5,12 +5,12 @@ use lib.ListN.{length}
 use Rattle.paper.specs.Tree.{store}
 use Rattle.batch.specs.Batch.{batchStart, batchOf}
 use Rattle.batch.proofs.Steps.{goes-is}
-use Rattle.batch.proofs.Loops.{Going, going-start, going-on, going-less, going-done}
+use Rattle.batch.proofs.Loops.{BatchGoing, going-start, going-on, going-less, going-done}
 use Rattle.batch.proofs.turns.answer_lines.Statement.{statement}
 use Rattle.batch.proofs.turns.answer_lines.Tie as tie
 
 abbrev Inv-loop : tie.InvT-loop
-Inv-loop t references coordinates nodes asks outcomes₀ out₀ d₀ outcomes out d = Going (store t references coordinates nodes) asks (batchStart outcomes₀ out₀) (batchOf d outcomes out) × (d .refusal ≡ 0)
+Inv-loop t references coordinates nodes asks outcomes₀ out₀ d₀ outcomes out d = BatchGoing (store t references coordinates nodes) asks (batchStart outcomes₀ out₀) (batchOf d outcomes out) × (d .refusal ≡ 0)
 
 abbrev μ-loop : tie.MeasureT-loop
 μ-loop t references coordinates nodes asks outcomes₀ out₀ d₀ outcomes out d = length asks - d .used

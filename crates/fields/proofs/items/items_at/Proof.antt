@@ -7,8 +7,8 @@ use lib.Seq.{drop-drop}
 use Rattle.paper.specs.Frames.{num}
 use Rattle.digits.specs.Places.{frameIn}
 use Rattle.digits.proofs.NumbersAndFrames.{held-le}
-use Rattle.paper.specs.Fields.{itemNumbers, itemPlaces}
-use Rattle.fields.proofs.ItemLaws.{places-step}
+use Rattle.paper.specs.Fields.{itemNumbers, itemSlots}
+use Rattle.fields.proofs.ItemLaws.{slots-step}
 use borrow.Author.Needs.{needs}
 use Rattle.fields.proofs.items.items_at.Statement.{statement}
 use Rattle.fields.proofs.items.items_at.Tie as tie
@@ -89,10 +89,10 @@ loop-again c =
     let q3 : a .at + 14 * l .i + 6 ≡ a .at + (14 * l .i + 6) = omega arith in
     let e2 : c .before .number2 .result ≡ num 4 (drop (14 * l .i + 2) (drop (a .at) f)) = c .before .number2 .ensures .value ∙ rw (q2, drop-drop) in
     let e3 : c .number3 .result ≡ num 8 (drop (14 * l .i + 6) (drop (a .at) f)) = c .number3 .ensures .value ∙ rw (q3, drop-drop) in
-    (search needs, rw (e1, e2, e3, l .inv .1) (places-step (drop (a .at) f) (l .i) (omega arith)))
+    (search needs, rw (e1, e2, e3, l .inv .1) (slots-step (drop (a .at) f) (l .i) (omega arith)))
 
 returns : tie.Need-returns Inv-loop μ-loop
-unfolding itemPlaces
+unfolding itemSlots
 returns c =
     let l = c .before .loop in
     let e : l .i ≡ c .before .before .before .args .k = omega arith in

@@ -2,7 +2,7 @@ use Prim.Native.Nat.{_+_, _*_, _≤_}
 use native.Mathlib.Omega.{arith}
 use mathlib.Core.Path.{_≡_, sym, _∙_}
 use lib.ListN.{length}
-use Rattle.paper.specs.Fields.{item}
+use Rattle.paper.specs.Fields.{itemFrame}
 use Rattle.fields.proofs.PartLaws.{over-be}
 use borrow.Author.Needs.{needs}
 use Rattle.fields.proofs.items.put_item.Statement.{statement}
@@ -27,7 +27,7 @@ same-length : tie.Need-same-length
 same-length c = search needs
 
 returns : tie.Need-returns
-unfolding item
+unfolding itemFrame
 returns c =
     let a = c .before .before .before .before .before .before .before .before .before .before .before .before .before .args in
     let p1 = c .before .before .before .before .before .before .before .before .before .before .put in

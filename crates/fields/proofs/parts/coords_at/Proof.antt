@@ -12,7 +12,7 @@ use borrow.Author.Needs.{needs}
 use Rattle.paper.specs.Frames.{num}
 use Rattle.digits.specs.Places.{frameIn}
 use Rattle.digits.proofs.NumbersAndFrames.{held-le}
-use Rattle.paper.specs.Fields.{coordsIn, places}
+use Rattle.paper.specs.Fields.{coordsIn, inSlots}
 use Rattle.fields.proofs.PartLaws.{place-step}
 use Rattle.fields.proofs.parts.coords_at.Statement.{statement}
 use Rattle.fields.proofs.parts.coords_at.Tie as tie
@@ -64,7 +64,7 @@ loop-again c =
     (search needs, rw (e, l .inv .1) (place-step (drop (a .at) f) (l .i) (omega arith)))
 
 returns : tie.Need-returns Inv-loop μ-loop
-unfolding places
+unfolding inSlots
 returns c =
     let l = c .before .loop in
     let e : l .i ≡ c .before .before .before .args .d = omega arith in

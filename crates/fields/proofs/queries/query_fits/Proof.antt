@@ -1,4 +1,4 @@
--- `fields::queries::query_fits` meets its contract: eight places are enough for any d in range. Assumes nothing.
+-- `fields::queries::query_fits` meets its contract: eight slots are enough for any d in range. Assumes nothing.
 use Prim.Native.Nat.{_≤_, _<_}
 use native.Mathlib.Omega.{arith}
 use mathlib.Core.Path.{_≡_, refl, sym}
@@ -15,7 +15,7 @@ use borrow.Author.Needs.{needs}
 use Rattle.fields.proofs.queries.query_fits.Statement.{statement}
 use Rattle.fields.proofs.queries.query_fits.Tie as tie
 
--- in eight places there are d whenever d is in range
+-- in eight slots there are d whenever d is in range
 enough : (q : Query) → 7 < length (q .probe) → (b : Bool) → b ≡ inRange (q .measure) (q .d) → b ≡ b && eqb (length (take (q .d) (q .probe))) (q .d)
 enough q h true e = let n = range-is (q .measure) (q .d) (sym e) in rw (eq-eqb _ _ (length-take-le (q .d) (q .probe) (omega (arith, n .narrow))))
 enough q h false e = refl

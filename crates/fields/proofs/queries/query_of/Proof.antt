@@ -1,5 +1,5 @@
 -- `fields::queries::query_of` meets its contract. Assumes nothing.
-use Rattle.paper.specs.Fields.{inPlaces}
+use Rattle.paper.specs.Fields.{queryInSlots}
 use borrow.Author.Needs.{needs}
 use Rattle.fields.proofs.queries.query_of.Statement.{statement}
 use Rattle.fields.proofs.queries.query_of.Tie as tie
@@ -8,7 +8,7 @@ padded-requires : tie.Need-padded-requires
 padded-requires c κs = search needs
 
 returns : tie.Need-returns
-unfolding inPlaces
+unfolding queryInSlots
 returns c = rw (c .padded .ensures, c .before .pre .0)
 
 pub query-of-spec : {M : Type 1} → statement M

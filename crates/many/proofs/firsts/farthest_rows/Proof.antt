@@ -3,14 +3,14 @@ use Prim.Native.Nat.{_-_}
 use native.Mathlib.Omega.{arith}
 use Rattle.paper.specs.Tree.{store}
 use Rattle.many.specs.Rows.{putFound}
-use Rattle.many.proofs.FirstsOfMany.{Going, going-start, going-on, going-done, one-of}
+use Rattle.many.proofs.FirstsOfMany.{RowsGoing, going-start, going-on, going-done, one-of}
 use Rattle.many.specs.Many.{farthestAt}
 use Rattle.many.proofs.firsts.farthest_rows.Statement.{statement}
 use Rattle.many.proofs.firsts.farthest_rows.Tie as tie
 
 abbrev Inv-loop : tie.InvT-loop
 Inv-loop t references coordinates nodes probes n out₀ i₀ out i =
-    Going (putFound (farthestAt (store t references coordinates nodes) probes)) (n) i out₀ out
+    RowsGoing (putFound (farthestAt (store t references coordinates nodes) probes)) (n) i out₀ out
 
 abbrev μ-loop : tie.MeasureT-loop
 μ-loop t references coordinates nodes probes n out₀ i₀ out i = n - i

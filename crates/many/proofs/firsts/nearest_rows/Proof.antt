@@ -4,14 +4,14 @@ use native.Mathlib.Omega.{arith}
 use lib.ListN.{length}
 use Rattle.paper.specs.Tree.{store}
 use Rattle.many.specs.Rows.{putFound}
-use Rattle.many.proofs.FirstsOfMany.{Going, going-start, going-on, going-done, one-of}
+use Rattle.many.proofs.FirstsOfMany.{RowsGoing, going-start, going-on, going-done, one-of}
 use Rattle.many.specs.Many.{nearestAt}
 use Rattle.many.proofs.firsts.nearest_rows.Statement.{statement}
 use Rattle.many.proofs.firsts.nearest_rows.Tie as tie
 
 abbrev Inv-loop : tie.InvT-loop
 Inv-loop t references coordinates nodes probes reaches out₀ i₀ out i =
-    Going (putFound (nearestAt (store t references coordinates nodes) probes reaches)) (length reaches) i out₀ out
+    RowsGoing (putFound (nearestAt (store t references coordinates nodes) probes reaches)) (length reaches) i out₀ out
 
 abbrev μ-loop : tie.MeasureT-loop
 μ-loop t references coordinates nodes probes reaches out₀ i₀ out i = length reaches - i

@@ -4,15 +4,15 @@ use native.Mathlib.Omega.{arith}
 use lib.ListN.{length}
 use Rattle.paper.specs.Tree.{store}
 use Rattle.many.specs.Pages.{pageAt, putOutcome, putPageItems}
-use Rattle.many.proofs.FirstsOfMany.{Going, going-start, going-on, going-done}
+use Rattle.many.proofs.FirstsOfMany.{RowsGoing, going-start, going-on, going-done}
 use Rattle.many.proofs.PagesOfMany.{one-page}
 use Rattle.many.proofs.pages.page_rows.Statement.{statement}
 use Rattle.many.proofs.pages.page_rows.Tie as tie
 
 abbrev Inv-loop : tie.InvT-loop
 Inv-loop t references coordinates nodes probes reaches places size outcomes₀ items₀ i₀ outcomes items i =
-    Going (putOutcome (pageAt (store t references coordinates nodes) probes reaches places size)) (length reaches) i outcomes₀ outcomes
-    × Going (putPageItems (pageAt (store t references coordinates nodes) probes reaches places size) (size * 3)) (length reaches) i items₀ items
+    RowsGoing (putOutcome (pageAt (store t references coordinates nodes) probes reaches places size)) (length reaches) i outcomes₀ outcomes
+    × RowsGoing (putPageItems (pageAt (store t references coordinates nodes) probes reaches places size) (size * 3)) (length reaches) i items₀ items
 
 abbrev μ-loop : tie.MeasureT-loop
 μ-loop t references coordinates nodes probes reaches places size outcomes₀ items₀ i₀ outcomes items i =

@@ -21,12 +21,12 @@ same-length-3 c = search needs
 returns : tie.Need-returns
 returns c =
     let a = c .before .before .before .before .before .before .before .before .args in
-    enter-refused (store (a .t) (a .references .now) (a .coordinates .now) (a .nodes .now)) (a .given .now) (a .places .now) _ (c .before .run-refusal .ensures) (c .if1 .taken)
+    enter-refused (store (a .t) (a .references .now) (a .coordinates .now) (a .nodes .now)) (a .given .now) (a .points .now) _ (c .before .run-refusal .ensures) (c .if1 .taken)
 
 add-run-requires : tie.Need-add-run-requires
 add-run-requires c κs =
     let a = c .before .before .before .before .before .before .before .before .before .before .before .args in
-    enters-roomy (store (a .t) (a .references .now) (a .coordinates .now) (a .nodes .now)) (a .given .now) (a .places .now) _ (c .before .before .before .before .run-refusal .ensures) (c .before .before .before .if1 .left)
+    enters-roomy (store (a .t) (a .references .now) (a .coordinates .now) (a .nodes .now)) (a .given .now) (a .points .now) _ (c .before .before .before .before .run-refusal .ensures) (c .before .before .before .if1 .left)
 
 same-length-4 : tie.Need-same-length-4
 same-length-4 c = search needs
@@ -44,7 +44,7 @@ returns-2 c =
     let if1 = c .before .before .before .before .before .before .before .before .before .if1 in
     let add-run = c .before .before .before .before .before .add-run in
     let a = args in
-    enter-done (store (a .t) (a .references .now) (a .coordinates .now) (a .nodes .now)) (a .given .now) (a .places .now) _ (run-refusal .ensures) (if1 .left) _ _ _ _ (add-run .ensures)
+    enter-done (store (a .t) (a .references .now) (a .coordinates .now) (a .nodes .now)) (a .given .now) (a .points .now) _ (run-refusal .ensures) (if1 .left) _ _ _ _ (add-run .ensures)
 
 pub enter-spec : {M : Type 1} → statement M
 enter-spec =

@@ -11,34 +11,34 @@ table-refusal-requires c κs = search needs
 returns : tie.Need-returns
 returns c =
     let a = c .before .before .before .before .before .args in
-    run-refused (store (a .t) (a .references .now) (a .coordinates .now) (a .nodes .now)) (a .given .now) (a .places .now) _ (c .before .table-refusal .ensures) (c .if1 .taken)
+    run-refused (store (a .t) (a .references .now) (a .coordinates .now) (a .nodes .now)) (a .given .now) (a .points .now) _ (c .before .table-refusal .ensures) (c .if1 .taken)
 
 is-whole-requires : tie.Need-is-whole-requires
 is-whole-requires c κs =
     let a = c .before .before .before .before .before .args in
-    run-wide (store (a .t) (a .references .now) (a .coordinates .now) (a .nodes .now)) (a .given .now) (a .places .now) _ (c .before .table-refusal .ensures) (c .if1 .left)
+    run-wide (store (a .t) (a .references .now) (a .coordinates .now) (a .nodes .now)) (a .given .now) (a .points .now) _ (c .before .table-refusal .ensures) (c .if1 .left)
 
 returns-2 : tie.Need-returns-2
 returns-2 c =
     let a = c .before .before .before .before .before .before .before .args in
-    run-5 (store (a .t) (a .references .now) (a .coordinates .now) (a .nodes .now)) (a .given .now) (a .places .now) _ (c .before .before .before .table-refusal .ensures) (c .before .before .if1 .left) _ (c .before .is-whole .ensures) (c .if2 .taken)
+    run-5 (store (a .t) (a .references .now) (a .coordinates .now) (a .nodes .now)) (a .given .now) (a .points .now) _ (c .before .before .before .table-refusal .ensures) (c .before .before .if1 .left) _ (c .before .is-whole .ensures) (c .if2 .taken)
 
 sub-if3 : tie.Need-sub-if3
 sub-if3 c =
     let a = c .before .before .before .before .before .before .before .before .args in
-    run-count (store (a .t) (a .references .now) (a .coordinates .now) (a .nodes .now)) (a .given .now) (a .places .now) _ (c .before .before .before .before .table-refusal .ensures) (c .before .before .before .if1 .left)
+    run-count (store (a .t) (a .references .now) (a .coordinates .now) (a .nodes .now)) (a .given .now) (a .points .now) _ (c .before .before .before .before .table-refusal .ensures) (c .before .before .before .if1 .left)
 
 returns-3 : tie.Need-returns-3
 returns-3 c =
     let args = c .before .before .before .before .before .before .before .before .before .args in
     let table-refusal = c .before .before .before .before .before .table-refusal in
     let a = args in
-    run-3 (store (a .t) (a .references .now) (a .coordinates .now) (a .nodes .now)) (a .given .now) (a .places .now) _ (table-refusal .ensures) (c .before .before .before .before .if1 .left) _ (c .before .before .before .is-whole .ensures) (c .before .before .if2 .left) (c .if3 .taken)
+    run-3 (store (a .t) (a .references .now) (a .coordinates .now) (a .nodes .now)) (a .given .now) (a .points .now) _ (table-refusal .ensures) (c .before .before .before .before .if1 .left) _ (c .before .before .before .is-whole .ensures) (c .before .before .if2 .left) (c .if3 .taken)
 
 sub-if4 : tie.Need-sub-if4
 sub-if4 c =
     let a = c .before .before .before .before .before .before .before .before .before .before .args in
-    run-used (store (a .t) (a .references .now) (a .coordinates .now) (a .nodes .now)) (a .given .now) (a .places .now) _ (c .before .before .before .before .before .before .table-refusal .ensures) (c .before .before .before .before .before .if1 .left)
+    run-used (store (a .t) (a .references .now) (a .coordinates .now) (a .nodes .now)) (a .given .now) (a .points .now) _ (c .before .before .before .before .before .before .table-refusal .ensures) (c .before .before .before .before .before .if1 .left)
 
 returns-4 : tie.Need-returns-4
 returns-4 c =
@@ -47,7 +47,7 @@ returns-4 c =
     let if1 = c .before .before .before .before .before .before .if1 in
     let is-whole = c .before .before .before .before .before .is-whole in
     let a = args in
-    run-4 (store (a .t) (a .references .now) (a .coordinates .now) (a .nodes .now)) (a .given .now) (a .places .now) _ (table-refusal .ensures) (if1 .left) _ (is-whole .ensures) (c .before .before .before .before .if2 .left) (c .before .before .if3 .left) (c .if4 .taken)
+    run-4 (store (a .t) (a .references .now) (a .coordinates .now) (a .nodes .now)) (a .given .now) (a .points .now) _ (table-refusal .ensures) (if1 .left) _ (is-whole .ensures) (c .before .before .before .before .if2 .left) (c .before .before .if3 .left) (c .if4 .taken)
 
 returns-5 : tie.Need-returns-5
 returns-5 c =
@@ -56,7 +56,7 @@ returns-5 c =
     let if1 = c .before .before .before .before .before .before .if1 in
     let is-whole = c .before .before .before .before .before .is-whole in
     let a = args in
-    run-0 (store (a .t) (a .references .now) (a .coordinates .now) (a .nodes .now)) (a .given .now) (a .places .now) _ (table-refusal .ensures) (if1 .left) _ (is-whole .ensures) (c .before .before .before .before .if2 .left) (c .before .before .if3 .left) (c .if4 .left)
+    run-0 (store (a .t) (a .references .now) (a .coordinates .now) (a .nodes .now)) (a .given .now) (a .points .now) _ (table-refusal .ensures) (if1 .left) _ (is-whole .ensures) (c .before .before .before .before .if2 .left) (c .before .before .if3 .left) (c .if4 .left)
 
 pub run-refusal-spec : {M : Type 1} → statement M
 run-refusal-spec =

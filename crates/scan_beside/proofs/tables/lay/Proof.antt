@@ -5,10 +5,10 @@ use Rattle.scan_beside.proofs.tables.lay.Statement.{statement}
 use Rattle.scan_beside.proofs.tables.lay.Tie as tie
 
 abbrev Inv-loop : tie.InvT-loop
-Inv-loop points k d places₀ w i₀ places i = i ≤ d
+Inv-loop points k d laid₀ w i₀ laid i = i ≤ d
 
 abbrev μ-loop : tie.MeasureT-loop
-μ-loop points k d places₀ w i₀ places i = d - i
+μ-loop points k d laid₀ w i₀ laid i = d - i
 
 loop-holds : tie.Need-loop-holds Inv-loop μ-loop
 loop-holds c = search needs
@@ -34,8 +34,8 @@ add-t15 c = search needs
 mul-t16 : tie.Need-mul-t16 Inv-loop μ-loop
 mul-t16 c = search needs
 
-element-set-from-places : tie.Need-element-set-from-places Inv-loop μ-loop
-element-set-from-places c = search needs
+element-set-from-laid : tie.Need-element-set-from-laid Inv-loop μ-loop
+element-set-from-laid c = search needs
 
 add-i : tie.Need-add-i Inv-loop μ-loop
 add-i c = search needs
@@ -66,7 +66,7 @@ lay-spec =
     value-requires
     add-t15
     mul-t16
-    element-set-from-places
+    element-set-from-laid
     add-i
     loop-less
     loop-again

@@ -5,10 +5,10 @@ use Rattle.scan_beside.proofs.tables.lay_all.Statement.{statement}
 use Rattle.scan_beside.proofs.tables.lay_all.Tie as tie
 
 abbrev Inv-loop : tie.InvT-loop
-Inv-loop points n d places₀ w₀ k₀ places w k = (k ≤ n) × (w ≤ k * 8)
+Inv-loop points n d laid₀ w₀ k₀ laid w k = (k ≤ n) × (w ≤ k * 8)
 
 abbrev μ-loop : tie.MeasureT-loop
-μ-loop points n d places₀ w₀ k₀ places w k = n - k
+μ-loop points n d laid₀ w₀ k₀ laid w k = n - k
 
 loop-holds : tie.Need-loop-holds Inv-loop μ-loop
 loop-holds c = search needs

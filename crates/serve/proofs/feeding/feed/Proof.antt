@@ -4,12 +4,12 @@ use mathlib.Core.Path.{sym, _∙_}
 use mathlib.Core.Logic.{inr}
 use native.Mathlib.Omega.{arith}
 use lib.ListN.{length}
-use Rattle.serve.proofs.Moves.{never, Going, going-start, going-on, moved-more, later}
+use Rattle.serve.proofs.Moves.{never, FeedGoing, going-start, going-on, moved-more, still-later}
 use Rattle.serve.proofs.feeding.feed.Statement.{statement}
 use Rattle.serve.proofs.feeding.feed.Tie as tie
 
 abbrev Inv-loop : tie.InvT-loop
-Inv-loop references₀ coordinates₀ nodes₀ line₀ chunk out₀ n₀ references coordinates nodes line out n = Going chunk references₀ coordinates₀ nodes₀ line₀ out₀ n₀ references coordinates nodes line out n
+Inv-loop references₀ coordinates₀ nodes₀ line₀ chunk out₀ n₀ references coordinates nodes line out n = FeedGoing chunk references₀ coordinates₀ nodes₀ line₀ out₀ n₀ references coordinates nodes line out n
 
 abbrev μ-loop : tie.MeasureT-loop
 μ-loop references₀ coordinates₀ nodes₀ line₀ chunk out₀ n₀ references coordinates nodes line out n = length chunk - n .at
@@ -37,7 +37,7 @@ loop-again c =
     record {
       moved = λ o st. moved-more o _ _ _ _ _ _ _ _ _ _ _ (v .moved o st) (t .ensures .0);
       ready = t .ensures .1 .0;
-      went = inr (later _ _ _ (v .went) (t .ensures .1 .1 .0));
+      went = inr (still-later _ _ _ (v .went) (t .ensures .1 .1 .0));
       short = let h = t .ensures .1 .1 .1 in omega (arith, v .out);
       references = t .kept .1 .0 ∙ v .references;
       coordinates = t .kept .1 .1 .0 ∙ v .coordinates;

@@ -6,12 +6,12 @@ use mathlib.Core.List.{List}
 use native.Mathlib.Omega.{arith}
 use lib.Dec.{lit<}
 use Rattle.paper.specs.Tree.{Grown, fieldAt, newNode, raise, apart}
-use Rattle.tree.proofs.OneEntering.{Going, going-start, entered-first, going-claim, going-stop, going-new, going-rises, going-down, side-small, raised}
+use Rattle.tree.proofs.OneEntering.{EnteringGoing, going-start, entered-first, going-claim, going-stop, going-new, going-rises, going-down, side-small, raised}
 use Rattle.tree.proofs.entering.enter.Statement.{statement}
 use Rattle.tree.proofs.entering.enter.Tie as tie
 
 abbrev Inv-loop : tie.InvT-loop
-Inv-loop nodes₀ measure d coordinates used k m₀ nodes m = Going (apart measure d coordinates) used k nodes₀ nodes m
+Inv-loop nodes₀ measure d coordinates used k m₀ nodes m = EnteringGoing (apart measure d coordinates) used k nodes₀ nodes m
 
 abbrev μ-loop : tie.MeasureT-loop
 μ-loop nodes₀ measure d coordinates used k m₀ nodes m = used - m

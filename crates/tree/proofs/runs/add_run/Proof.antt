@@ -14,38 +14,38 @@ use Rattle.tree.proofs.runs.add_run.Statement.{statement}
 use Rattle.tree.proofs.runs.add_run.Tie as tie
 
 -- after i claims of the run
-record Running (given : List ℕ) (places : List ℤ) (s x : Store) (i : ℕ) : Type 0 where
+record Running (given : List ℕ) (points : List ℤ) (s x : Store) (i : ℕ) : Type 0 where
   pub low : i ≤ length given
   pub roomy : Roomy x (length given - i)
   pub d : x .table .d ≡ s .table .d
-  pub same : x ≡ addedRun given places i s
+  pub same : x ≡ addedRun given points i s
   pub references : length (x .references) ≡ length (s .references)
   pub coordinates : length (x .coordinates) ≡ length (s .coordinates)
   pub nodes : length (x .nodes) ≡ length (s .nodes)
 
 abbrev Inv-loop : tie.InvT-loop
-Inv-loop references₀ coordinates₀ nodes₀ given places held₀ i₀ references coordinates nodes held i =
-    Running given places (store held₀ references₀ coordinates₀ nodes₀) (store held references coordinates nodes) i
+Inv-loop references₀ coordinates₀ nodes₀ given points held₀ i₀ references coordinates nodes held i =
+    Running given points (store held₀ references₀ coordinates₀ nodes₀) (store held references coordinates nodes) i
 
 abbrev μ-loop : tie.MeasureT-loop
-μ-loop references₀ coordinates₀ nodes₀ given places held₀ i₀ references coordinates nodes held i = length given - i
+μ-loop references₀ coordinates₀ nodes₀ given points held₀ i₀ references coordinates nodes held i = length given - i
 
 -- the next claim's place is in the run
-module _ (given : List ℕ) (places : List ℤ) (s x : Store) (i : ℕ) (v : Running given places s x i) (whole : length places ≡ s .table .d * length given) (h : i < length given) where
-  next-in : i * x .table .d + x .table .d ≤ length places
-  next-in = rw (v .d) (in-run (s .table .d) i (length given) places whole h)
+module _ (given : List ℕ) (points : List ℤ) (s x : Store) (i : ℕ) (v : Running given points s x i) (whole : length points ≡ s .table .d * length given) (h : i < length given) where
+  next-in : i * x .table .d + x .table .d ≤ length points
+  next-in = rw (v .d) (in-run (s .table .d) i (length given) points whole h)
 
   -- one claim more
-  again : (y : Store) → y ≡ added x (getD given i 0) (point (x .table .d) places i) → length (y .references) ≡ length (x .references)
-      → length (y .coordinates) ≡ length (x .coordinates) → length (y .nodes) ≡ length (x .nodes) → Running given places s y (i + 1)
+  again : (y : Store) → y ≡ added x (getD given i 0) (point (x .table .d) points i) → length (y .references) ≡ length (x .references)
+      → length (y .coordinates) ≡ length (x .coordinates) → length (y .nodes) ≡ length (x .nodes) → Running given points s y (i + 1)
   again y e lr lc lm =
-      let p : List ℤ = point (x .table .d) places i in
-      let wx : x .table .d ≤ length p = omega (arith, point-length (x .table .d) places i next-in) in
+      let p : List ℤ = point (x .table .d) points i in
+      let wx : x .table .d ≤ length p = omega (arith, point-length (x .table .d) points i next-in) in
       record {
         low = omega arith;
         roomy = rw e (roomy-next x (getD given i 0) p (length given - (i + 1)) (roomy-less x _ _ (v .roomy) (omega arith)) wx);
         d = ap (λ (z : Store). z .table .d) e ∙ added-kept x (getD given i 0) p .d ∙ v .d;
-        same = run-next given places i s x y (v .same) (v .d) e;
+        same = run-next given points i s x y (v .same) (v .d) e;
         references = lr ∙ v .references;
         coordinates = lc ∙ v .coordinates;
         nodes = lm ∙ v .nodes;

@@ -13,25 +13,25 @@ use Rattle.tree.proofs.runs.copy.Statement.{statement}
 use Rattle.tree.proofs.runs.copy.Tie as tie
 
 -- one coordinate more
-one-more : (l : List ℤ) (at : ℕ) (places : List ℤ) (from i : ℕ) (now : List ℤ) (x : ℤ) → now ≡ paste l at (drop from places) i
-    → x ≡ getD places (from + i) (pos 0) → at + i < length l → from + i < length places → set now (at + i) x ≡ paste l at (drop from places) (i + 1)
-one-more l at places from i now x e q h k =
-    let s : List ℤ = drop from places in
-    let hs : i < length s = omega (arith, length-drop from places) in
+one-more : (l : List ℤ) (at : ℕ) (points : List ℤ) (from i : ℕ) (now : List ℤ) (x : ℤ) → now ≡ paste l at (drop from points) i
+    → x ≡ getD points (from + i) (pos 0) → at + i < length l → from + i < length points → set now (at + i) x ≡ paste l at (drop from points) (i + 1)
+one-more l at points from i now x e q h k =
+    let s : List ℤ = drop from points in
+    let hs : i < length s = omega (arith, length-drop from points) in
     ap (λ (n : List ℤ). set n (at + i) x) e
-    ∙ ap (λ (y : ℤ). set (paste l at s i) (at + i) y) (q ∙ sym (getD-drop from places i (pos 0)))
+    ∙ ap (λ (y : ℤ). set (paste l at s i) (at + i) y) (q ∙ sym (getD-drop from points i (pos 0)))
     ∙ paste-suc l at s i (pos 0) h hs
     ∙ ap (λ (n : ℕ). paste l at s n) (sym (add-one i))
 
 abbrev Inv-loop : tie.InvT-loop
-Inv-loop coordinates₀ at places from n i₀ coordinates i =
-    (i ≤ n) × (length coordinates ≡ length coordinates₀) × (coordinates ≡ paste coordinates₀ at (drop from places) i)
+Inv-loop coordinates₀ at points from n i₀ coordinates i =
+    (i ≤ n) × (length coordinates ≡ length coordinates₀) × (coordinates ≡ paste coordinates₀ at (drop from points) i)
 
 abbrev μ-loop : tie.MeasureT-loop
-μ-loop coordinates₀ at places from n i₀ coordinates i = n - i
+μ-loop coordinates₀ at points from n i₀ coordinates i = n - i
 
 loop-holds : tie.Need-loop-holds Inv-loop μ-loop
-loop-holds c = let a = c .args in (omega arith, refl, paste-zero (a .coordinates .now) (a .at) (drop (a .from) (a .places .now)))
+loop-holds c = let a = c .args in (omega arith, refl, paste-zero (a .coordinates .now) (a .at) (drop (a .from) (a .points .now)))
 
 add-coordinates : tie.Need-add-coordinates Inv-loop μ-loop
 add-coordinates c = omega arith
@@ -61,7 +61,7 @@ loop-again : tie.Need-loop-again Inv-loop μ-loop
 loop-again c =
     let v = c .before .before .loop .inv in
     let a = c .before .before .before .args in
-    (omega arith, simp length-set (v .1), one-more (a .coordinates .now) (a .at) (a .places .now) (a .from) (c .before .before .loop .i) _ _ (v .2) (toZ-ofZ {w = w32} (record { sfits = c .coordinates .given })) (omega arith) (omega arith))
+    (omega arith, simp length-set (v .1), one-more (a .coordinates .now) (a .at) (a .points .now) (a .from) (c .before .before .loop .i) _ _ (v .2) (toZ-ofZ {w = w32} (record { sfits = c .coordinates .given })) (omega arith) (omega arith))
 
 same-length : tie.Need-same-length Inv-loop μ-loop
 same-length c = c .before .loop .inv .1

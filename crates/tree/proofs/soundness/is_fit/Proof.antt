@@ -5,7 +5,7 @@ use borrow.Author.Needs.{needs}
 use borrow.Author.Tests.{le-leb, lt-leb, not-true, not-false}
 use Rattle.paper.specs.Tree.{fits}
 use Rattle.paper.proofs.Ranges.{range-is}
-use Rattle.tree.proofs.TestedTables.{few-places}
+use Rattle.tree.proofs.TestedTables.{few-points}
 use Rattle.tree.proofs.soundness.is_fit.Statement.{statement}
 use Rattle.tree.proofs.soundness.is_fit.Tie as tie
 
@@ -32,7 +32,7 @@ mul-if5 : tie.Need-mul-if5
 mul-if5 c =
     let args = c .before .before .before .before .before .before .before .before .args in
     let in-range = c .before .before .before .before .before .in-range in
-    let t = args .t in record { fits = omega (arith, few-places (t .capacity) (t .d) (omega arith) (range-is (t .measure) (t .d) (sym (in-range .ensures) ∙ not-false _ (c .before .before .before .before .if1 .left)) .narrow)) }
+    let t = args .t in record { fits = omega (arith, few-points (t .capacity) (t .d) (omega arith) (range-is (t .measure) (t .d) (sym (in-range .ensures) ∙ not-false _ (c .before .before .before .before .if1 .left)) .narrow)) }
 
 returns-5 : tie.Need-returns-5
 unfolding fits

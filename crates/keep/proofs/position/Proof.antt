@@ -1,11 +1,11 @@
--- `keep::place` meets its contract. The loop goes down from the last item: none from i on comes before the new one. Assumes nothing.
+-- `keep::position` meets its contract. The loop goes down from the last item: none from i on comes before the new one. Assumes nothing.
 use native.Mathlib.Omega.{arith}
-use Rattle.keep.proofs.Placing.{Behind, behind-start, behind-turn, place-found, place-none}
-use Rattle.keep.proofs.place.Statement.{statement}
-use Rattle.keep.proofs.place.Tie as tie
+use Rattle.keep.proofs.Placing.{NoneBefore, behind-start, behind-turn, position-found, position-none}
+use Rattle.keep.proofs.position.Statement.{statement}
+use Rattle.keep.proofs.position.Tie as tie
 
 abbrev Inv-loop : tie.InvT-loop
-Inv-loop order room count x k i₀ i = Behind order room count x k i
+Inv-loop order room count x k i₀ i = NoneBefore order room count x k i
 
 abbrev μ-loop : tie.MeasureT-loop
 μ-loop order room count x k i₀ i = i
@@ -41,7 +41,7 @@ before-requires : tie.Need-before-requires Inv-loop μ-loop
 before-requires c κs = tt
 
 returns : tie.Need-returns Inv-loop μ-loop
-returns c = place-found _ _ _ _ _ _ _ (c .before .before .before .before .before .loop .inv) (c .before .before2 .ensures) (c .if1 .taken)
+returns c = position-found _ _ _ _ _ _ _ (c .before .before .before .before .before .loop .inv) (c .before .before2 .ensures) (c .if1 .taken)
 
 sub-i : tie.Need-sub-i Inv-loop μ-loop
 sub-i c = omega arith
@@ -53,10 +53,10 @@ loop-again : tie.Need-loop-again Inv-loop μ-loop
 loop-again c = behind-turn _ _ _ _ _ _ _ (c .before .before .before .before .before .loop .inv) (c .before .before .before .before .loop-test .taken) (c .before .before2 .ensures) (c .if1 .left)
 
 returns-2 : tie.Need-returns-2 Inv-loop μ-loop
-returns-2 c = place-none _ _ _ _ _ _ (c .before .loop .inv) (c .loop-test .left)
+returns-2 c = position-none _ _ _ _ _ _ (c .before .loop .inv) (c .loop-test .left)
 
-pub place-spec : {M : Type 1} → statement M
-place-spec =
+pub position-spec : {M : Type 1} → statement M
+position-spec =
     tie.close
     (tie.spec
     Inv-loop
