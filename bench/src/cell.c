@@ -14,7 +14,7 @@ enum { CENTRES = 16, LETTERS = 8, LETTER_KEPT = 8 };
 
 struct source {
     uint64_t state;
-    int32_t centres[CENTRES][NEARBY_MOST_PLACES];
+    int32_t centres[CENTRES][NEARBY_MOST_COORDINATES];
 };
 
 /* splitmix64 */
@@ -54,12 +54,12 @@ static void draw(struct source *s, const struct cell *cell, int32_t *points, siz
     }
 }
 
-static size_t compared_places;
+static size_t compared_coordinates;
 
 static int compare_points(const void *a, const void *b)
 {
     const int32_t *p = a, *q = b;
-    for (size_t j = 0; j < compared_places; j++)
+    for (size_t j = 0; j < compared_coordinates; j++)
         if (p[j] != q[j])
             return p[j] < q[j] ? -1 : 1;
     return 0;
@@ -110,7 +110,7 @@ void make_cell(struct cell *cell, size_t n, size_t d, uint8_t measure, enum spre
             s.centres[c][j] = anywhere(&s, cell);
     draw(&s, cell, cell->coordinates, n);
     if (spread == SORTED) {
-        compared_places = d;
+        compared_coordinates = d;
         qsort(cell->coordinates, n, d * sizeof *cell->coordinates, compare_points);
     }
     for (size_t k = 0; k < n; k++)

@@ -20,8 +20,8 @@ struct cell {
     uint8_t measure;
     enum spread spread;
     uint32_t references[NEARBY_MOST_CLAIMS];
-    int32_t coordinates[NEARBY_MOST_CLAIMS * NEARBY_MOST_PLACES];
-    int32_t probes[ALL_QUESTIONS * NEARBY_MOST_PLACES];
+    int32_t coordinates[NEARBY_MOST_CLAIMS * NEARBY_MOST_COORDINATES];
+    int32_t probes[ALL_QUESTIONS * NEARBY_MOST_COORDINATES];
     uint64_t reaches[ALL_QUESTIONS];
     /* The places of first pages, all at the start, and of fifth pages, behind the last item of the fourth. */
     uint64_t first_places[ALL_QUESTIONS * PLACE];

@@ -96,7 +96,7 @@ void ask(void *table, const cell *cell, question question, std::size_t count, an
 {
     const Table &t = *static_cast<const Table *>(table);
     for (std::size_t i = 0; i < count; i++) {
-        double probe[NEARBY_MOST_PLACES];
+        double probe[NEARBY_MOST_COORDINATES];
         for (std::size_t j = 0; j < cell->d; j++)
             probe[j] = cell->probes[i * cell->d + j];
         if (question == NEAREST)

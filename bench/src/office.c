@@ -63,7 +63,7 @@ static uint8_t read_line(const uint8_t *line, size_t length, struct frame *f)
 struct ask {
     uint32_t table;
     uint8_t measure, d;
-    int32_t probe[NEARBY_MOST_PLACES];
+    int32_t probe[NEARBY_MOST_COORDINATES];
     uint64_t reach;
     uint64_t place[PLACE];
     uint8_t size;
@@ -91,7 +91,7 @@ static uint8_t get_ask(const struct frame *f, struct ask *a)
         return 10;
     a->measure = f->bytes[5];
     a->d = f->bytes[6];
-    if (a->measure < 1 || a->measure > 3 || a->d < 1 || a->d > NEARBY_MOST_PLACES || f->length != 29u + 4u * a->d)
+    if (a->measure < 1 || a->measure > 3 || a->d < 1 || a->d > NEARBY_MOST_COORDINATES || f->length != 29u + 4u * a->d)
         return 10;
     for (size_t j = 0; j < a->d; j++)
         a->probe[j] = (int32_t)(uint32_t)get(f, &at, 4);

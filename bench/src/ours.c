@@ -7,9 +7,9 @@ void *our_table(const struct cell *cell)
 {
     struct our_table *t = need(sizeof *t);
     nearby_tabled made = nearby_make_table(TABLE_NUMBER, cell->measure, cell->d, cell->n, t->references, cell->n, t->coordinates,
-                                           cell->n * cell->d, t->rooms, cell->n * NEARBY_ROOM);
+                                           cell->n * cell->d, t->nodes, cell->n * NEARBY_NODE);
     if (made.refusal == 0)
-        made = nearby_enter(made.table, t->references, cell->n, t->coordinates, cell->n * cell->d, t->rooms, cell->n * NEARBY_ROOM,
+        made = nearby_enter(made.table, t->references, cell->n, t->coordinates, cell->n * cell->d, t->nodes, cell->n * NEARBY_NODE,
                             cell->references, cell->n, cell->coordinates, cell->n * cell->d);
     if (made.refusal != 0)
         fail("entering was refused: %s", nearby_refusal_meaning(made.refusal));
@@ -29,18 +29,18 @@ static void many_answers(struct our_table *t, const struct cell *cell, size_t co
 static void ask(void *table, const struct cell *cell, enum question question, size_t count, struct answers *answers)
 {
     struct our_table *t = table;
-    const size_t places = count * cell->d;
+    const size_t coordinates = count * cell->d;
     uint8_t refusal = 0;
     switch (question) {
     case NEAREST:
-        refusal = nearby_many_nearest(OUR_TABLE(t), cell->probes, places, cell->reaches, count, answers->found, count * FOUND);
+        refusal = nearby_many_nearest(OUR_TABLE(t), cell->probes, coordinates, cell->reaches, count, answers->found, count * FOUND);
         break;
     case FARTHEST:
-        refusal = nearby_many_farthest(OUR_TABLE(t), cell->probes, places, count, answers->found, count * FOUND);
+        refusal = nearby_many_farthest(OUR_TABLE(t), cell->probes, coordinates, count, answers->found, count * FOUND);
         break;
     case FIRST_PAGE:
     case FIFTH_PAGE:
-        refusal = nearby_many_pages(OUR_TABLE(t), cell->probes, places, cell->reaches, count,
+        refusal = nearby_many_pages(OUR_TABLE(t), cell->probes, coordinates, cell->reaches, count,
                                     question == FIRST_PAGE ? cell->first_places : cell->fifth_places, count * PLACE,
                                     NEARBY_MOST_PAGE, answers->outcomes, count * OUTCOME, answers->items, count * ITEMS);
         break;

@@ -7,14 +7,14 @@
 struct our_table {
     nearby_table header;
     uint32_t references[NEARBY_MOST_CLAIMS];
-    int32_t coordinates[NEARBY_MOST_CLAIMS * NEARBY_MOST_PLACES];
-    uint64_t rooms[NEARBY_MOST_CLAIMS * NEARBY_ROOM];
+    int32_t coordinates[NEARBY_MOST_CLAIMS * NEARBY_MOST_COORDINATES];
+    uint64_t nodes[NEARBY_MOST_CLAIMS * NEARBY_NODE];
 };
 
 /* A table as the first arguments of a call. */
 #define OUR_TABLE(t)                                                                                         \
     (t)->header, (t)->references, (t)->header.capacity, (t)->coordinates, (t)->header.capacity * (t)->header.d, \
-        (t)->rooms, (t)->header.capacity * NEARBY_ROOM
+        (t)->nodes, (t)->header.capacity * NEARBY_NODE
 
 /* Makes a table and enters the claims of a cell in one run. */
 void *our_table(const struct cell *cell);

@@ -11,11 +11,11 @@ static void *enter(const struct cell *cell)
     size_t references = cell->n * sizeof *cell->references;
     size_t coordinates = cell->n * cell->d * sizeof *cell->coordinates;
     struct scan *t = need(sizeof *t + coordinates + references);
-    int32_t *places = (int32_t *)(t + 1);
-    uint32_t *given = (uint32_t *)(places + cell->n * cell->d);
-    memcpy(places, cell->coordinates, coordinates);
+    int32_t *points = (int32_t *)(t + 1);
+    uint32_t *given = (uint32_t *)(points + cell->n * cell->d);
+    memcpy(points, cell->coordinates, coordinates);
     memcpy(given, cell->references, references);
-    *t = (struct scan){ cell->n, cell->d, cell->measure, given, places };
+    *t = (struct scan){ cell->n, cell->d, cell->measure, given, points };
     return t;
 }
 

@@ -34,12 +34,12 @@ extern "C" {
 #define NEARBY_ANSWER_LINE 573
 #define NEARBY_CLAIM_LINE 87
 
-/* [3.2] Numbers in a node room: a table of capacity c is lent c * NEARBY_ROOM of them. */
-#define NEARBY_ROOM 6
+/* [3.2] Numbers in a node: a table of capacity c is lent c * NEARBY_NODE of them. */
+#define NEARBY_NODE 6
 /* [2.6] Numbers in an item: its claim's number, its reference, its distance from the probe. */
 #define NEARBY_ITEM 3
 /* [1.3] [3.1] [4.3] The largest d, capacity and page size. */
-#define NEARBY_MOST_PLACES 8
+#define NEARBY_MOST_COORDINATES 8
 #define NEARBY_MOST_CLAIMS 4096
 #define NEARBY_MOST_PAGE 16
 /* [9.22] Bytes of stack that are enough for every call. */
@@ -52,7 +52,7 @@ extern "C" {
 
 /* ---- Tables ---- */
 
-/* [3.1] The header of a table: its number, measure, d, capacity, how many claims it has, and how many node rooms are in use.
+/* [3.1] The header of a table: its number, measure, d, capacity, how many claims it has, and how many nodes are in use.
  * Only nearby_make_table and nearby_enter make one; it belongs to the memory that it was made with. */
 typedef struct {
     uint32_t number;
@@ -94,39 +94,39 @@ typedef struct {
 } nearby_written;
 
 /* [9.4] Makes an empty table over lent memory, which may hold anything and is not touched: at least `capacity` references,
- * `capacity * d` coordinates and `capacity * NEARBY_ROOM` numbers of rooms. Refusal 1. */
+ * `capacity * d` coordinates and `capacity * NEARBY_NODE` numbers of nodes. Refusal 1. */
 nearby_tabled nearby_make_table(uint32_t number, uint8_t measure, size_t d, size_t capacity,
                                 const uint32_t *references, size_t references_length,
                                 const int32_t *coordinates, size_t coordinates_length,
-                                const uint64_t *rooms, size_t rooms_length);
+                                const uint64_t *nodes, size_t nodes_length);
 
 /* [9.5] Tests a table as every call on a table does: 0 where it is sound, otherwise 1 or 2. It costs as much as building it. */
 uint8_t nearby_test_table(nearby_table table,
                           const uint32_t *references, size_t references_length,
                           const int32_t *coordinates, size_t coordinates_length,
-                          const uint64_t *rooms, size_t rooms_length);
+                          const uint64_t *nodes, size_t nodes_length);
 
-/* [9.6] [3.15] Enters all claims of a run, or none: a reference in `given` and d coordinates in `places` for each. It gives the
+/* [9.6] [3.15] Enters all claims of a run, or none: a reference in `given` and d coordinates in `points` for each. It gives the
  * header that counts from now on. Refusals 1, 2, 5, 3, 4. */
 nearby_tabled nearby_enter(nearby_table table,
                            uint32_t *references, size_t references_length,
                            int32_t *coordinates, size_t coordinates_length,
-                           uint64_t *rooms, size_t rooms_length,
+                           uint64_t *nodes, size_t nodes_length,
                            const uint32_t *given, size_t given_length,
-                           const int32_t *places, size_t places_length);
+                           const int32_t *points, size_t points_length);
 
 /* [9.7] [4.1] The nearest claim within reach (one just at the reach too), the smallest number among equals. Refusals 1, 2, 5. */
 nearby_item nearby_nearest(nearby_table table,
                            const uint32_t *references, size_t references_length,
                            const int32_t *coordinates, size_t coordinates_length,
-                           const uint64_t *rooms, size_t rooms_length,
+                           const uint64_t *nodes, size_t nodes_length,
                            const int32_t *probe, size_t probe_length, uint64_t reach);
 
 /* [9.7] [4.2] The farthest claim, the smallest number among equals. Refusals 1, 2, 5. */
 nearby_item nearby_farthest(nearby_table table,
                             const uint32_t *references, size_t references_length,
                             const int32_t *coordinates, size_t coordinates_length,
-                            const uint64_t *rooms, size_t rooms_length,
+                            const uint64_t *nodes, size_t nodes_length,
                             const int32_t *probe, size_t probe_length);
 
 /* [9.8] [4.6] The first `size` claims within reach from a start on, nearest first, as items at the front of a room of at least
@@ -134,7 +134,7 @@ nearby_item nearby_farthest(nearby_table table,
 nearby_filled nearby_page(nearby_table table,
                           const uint32_t *references, size_t references_length,
                           const int32_t *coordinates, size_t coordinates_length,
-                          const uint64_t *rooms, size_t rooms_length,
+                          const uint64_t *nodes, size_t nodes_length,
                           const int32_t *probe, size_t probe_length, uint64_t reach,
                           nearby_start start, size_t size,
                           uint64_t *room, size_t room_length);
@@ -144,7 +144,7 @@ nearby_filled nearby_page(nearby_table table,
 nearby_written nearby_answer(nearby_table table,
                              const uint32_t *references, size_t references_length,
                              const int32_t *coordinates, size_t coordinates_length,
-                             const uint64_t *rooms, size_t rooms_length,
+                             const uint64_t *nodes, size_t nodes_length,
                              const uint8_t *line, size_t line_length,
                              uint8_t *out, size_t out_length);
 
@@ -164,7 +164,7 @@ typedef struct {
 uint8_t nearby_many_nearest(nearby_table table,
                             const uint32_t *references, size_t references_length,
                             const int32_t *coordinates, size_t coordinates_length,
-                            const uint64_t *rooms, size_t rooms_length,
+                            const uint64_t *nodes, size_t nodes_length,
                             const int32_t *probes, size_t probes_length,
                             const uint64_t *reaches, size_t reaches_length,
                             uint64_t *out, size_t out_length);
@@ -174,7 +174,7 @@ uint8_t nearby_many_nearest(nearby_table table,
 uint8_t nearby_many_farthest(nearby_table table,
                              const uint32_t *references, size_t references_length,
                              const int32_t *coordinates, size_t coordinates_length,
-                             const uint64_t *rooms, size_t rooms_length,
+                             const uint64_t *nodes, size_t nodes_length,
                              const int32_t *probes, size_t probes_length, size_t n,
                              uint64_t *out, size_t out_length);
 
@@ -185,7 +185,7 @@ uint8_t nearby_many_farthest(nearby_table table,
 uint8_t nearby_many_pages(nearby_table table,
                           const uint32_t *references, size_t references_length,
                           const int32_t *coordinates, size_t coordinates_length,
-                          const uint64_t *rooms, size_t rooms_length,
+                          const uint64_t *nodes, size_t nodes_length,
                           const int32_t *probes, size_t probes_length,
                           const uint64_t *reaches, size_t reaches_length,
                           const uint64_t *places, size_t places_length, size_t size,
@@ -199,7 +199,7 @@ uint8_t nearby_many_pages(nearby_table table,
 nearby_answered nearby_many_answers(nearby_table table,
                                     const uint32_t *references, size_t references_length,
                                     const int32_t *coordinates, size_t coordinates_length,
-                                    const uint64_t *rooms, size_t rooms_length,
+                                    const uint64_t *nodes, size_t nodes_length,
                                     const uint8_t *asks, size_t asks_length,
                                     uint64_t *outcomes, size_t outcomes_length,
                                     uint8_t *out, size_t out_length);
@@ -208,14 +208,14 @@ nearby_answered nearby_many_answers(nearby_table table,
 
 /* [7.1] [9.19] A tablet's list: what it was opened with, the snapshot that its first answer fixed, and how many items it has. The
  * items stand at the front of a room of the caller's, NEARBY_ITEM numbers for each. A flag from the caller is off when it is 0 and
- * on otherwise; a flag to the caller is 0 or 1. Unused places of the probe are 0. */
+ * on otherwise; a flag to the caller is 0 or 1. Unused slots of the probe are 0. */
 typedef struct {
     uint32_t table;
     uint8_t measure;
     uint8_t started;
     uint8_t complete;
     size_t d;
-    int32_t probe[NEARBY_MOST_PLACES];
+    int32_t probe[NEARBY_MOST_COORDINATES];
     uint64_t reach;
     uint64_t snapshot;
     size_t count;
@@ -254,22 +254,22 @@ typedef struct {
     uint16_t number;
 } nearby_scope;
 
-/* [5.5] The fields of an ask line. Unused places of a probe are 0, here as below. */
+/* [5.5] The fields of an ask line. Unused slots of a probe are 0, here as below. */
 typedef struct {
     uint32_t table;
     uint8_t measure;
     uint8_t d;
-    int32_t probe[NEARBY_MOST_PLACES];
+    int32_t probe[NEARBY_MOST_COORDINATES];
     nearby_scope scope;
     uint8_t size;
 } nearby_ask;
 
-/* [5.6] The fields of an answer line: `count` items of NEARBY_ITEM numbers each; unused places are 0. */
+/* [5.6] The fields of an answer line: `count` items of NEARBY_ITEM numbers each; unused slots are 0. */
 typedef struct {
     uint32_t table;
     uint8_t measure;
     uint8_t d;
-    int32_t probe[NEARBY_MOST_PLACES];
+    int32_t probe[NEARBY_MOST_COORDINATES];
     nearby_scope scope;
     uint8_t last;
     uint8_t count;
@@ -282,7 +282,7 @@ typedef struct {
     uint8_t measure;
     uint8_t d;
     uint32_t reference;
-    int32_t coordinates[NEARBY_MOST_PLACES];
+    int32_t coordinates[NEARBY_MOST_COORDINATES];
 } nearby_claim;
 
 /* [5.14] What a reader gives: refusal 0 beside the fields, or 9 or 10 beside zeros. */

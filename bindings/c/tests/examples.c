@@ -39,7 +39,7 @@ static const struct {
 };
 
 /* The distance shows in a table of one claim: in its nearest, its farthest and its page, and in the reach that just includes it. */
-static void check_distance(uint8_t measure, places claim, places probe, uint64_t apart)
+static void check_distance(uint8_t measure, points claim, points probe, uint64_t apart)
 {
     seeded from = seed(81);
     const uint32_t given[] = { 101 };
@@ -62,7 +62,7 @@ static void distances_by_hand(void)
     CHECK(LENGTH(distances) == 13);
     for (size_t i = 0; i < LENGTH(distances); i++)
         for (uint8_t measure = 1; measure <= 3; measure++) {
-            places a = { distances[i].a, distances[i].d }, b = { distances[i].b, distances[i].d };
+            points a = { distances[i].a, distances[i].d }, b = { distances[i].b, distances[i].d };
             check_distance(measure, a, b, distances[i].apart[measure - 1]);
             check_distance(measure, b, a, distances[i].apart[measure - 1]);
         }
@@ -75,8 +75,8 @@ static void example_a(void)
 {
     seeded from = seed(82);
     store s = marked_store(&from, 8);
-    const uint64_t rooms[] = { 1, 2, 0, 6, 0, 2, 3, 4, 0, 1, 0, 3, 5, 0, 0, 0, 0, 0 };
-    CHECK(s.table.used == 3 && memcmp(s.rooms, rooms, sizeof rooms) == 0);
+    const uint64_t nodes[] = { 1, 2, 0, 6, 0, 2, 3, 4, 0, 1, 0, 3, 5, 0, 0, 0, 0, 0 };
+    CHECK(s.table.used == 3 && memcmp(s.nodes, nodes, sizeof nodes) == 0);
     free_store(&s);
 }
 
@@ -88,16 +88,16 @@ static void ties_go_left(void)
     s.table = try_make(7, NEARBY_CITY_BLOCK, 1, 3, &s).table;
     const uint32_t given[] = { 101, 102, 103 };
     const int32_t run[] = { 0, 2, 1 };
-    const uint64_t rooms[] = { 1, 2, 1, 0, 2, 0, 3, 0, 0, 0, 0, 0 };
-    CHECK(try_enter(&s, given, 3, (places){ run, 3 }).refusal == 0);
-    CHECK(s.table.used == 2 && memcmp(s.rooms, rooms, sizeof rooms) == 0);
+    const uint64_t nodes[] = { 1, 2, 1, 0, 2, 0, 3, 0, 0, 0, 0, 0 };
+    CHECK(try_enter(&s, given, 3, (points){ run, 3 }).refusal == 0);
+    CHECK(s.table.used == 2 && memcmp(s.nodes, nodes, sizeof nodes) == 0);
     free_store(&s);
 }
 
 /* ---- Questions ---- */
 
 static const int32_t four[] = { 4 };
-static const places probe = { four, 1 };
+static const points probe = { four, 1 };
 
 /* How far the claims are from the probe, by their numbers; their references are 101 and on. */
 static const uint64_t from_probe[] = { 2, 1, 5, 2, 1 };

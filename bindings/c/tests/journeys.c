@@ -12,12 +12,12 @@
 #include <string.h>
 
 /* 15 journeys for each measure, d and style. */
-enum { ROUNDS = 15 * 3 * NEARBY_MOST_PLACES * STYLES, STEPS = 240, TABLETS = 3, LARGEST_CAPACITY = 120, LONGEST_RUN = 10 };
+enum { ROUNDS = 15 * 3 * NEARBY_MOST_COORDINATES * STYLES, STEPS = 240, TABLETS = 3, LARGEST_CAPACITY = 120, LONGEST_RUN = 10 };
 
 /* A list, the probe and reach that were drawn for it, and whether it names the office's table. */
 typedef struct {
     tablet t;
-    int32_t probe[NEARBY_MOST_PLACES];
+    int32_t probe[NEARBY_MOST_COORDINATES];
     uint64_t reach;
     bool ours;
 } drawn_list;
@@ -52,13 +52,13 @@ static void keep_run(store *s, const uint32_t *given, size_t n, const int32_t *r
 static void enter_some(journey *j)
 {
     uint32_t given[LONGEST_RUN];
-    int32_t run[LONGEST_RUN * NEARBY_MOST_PLACES + 1];
+    int32_t run[LONGEST_RUN * NEARBY_MOST_COORDINATES + 1];
     const nearby_table *t = &j->office.table;
     size_t n = below(j->from, LONGEST_RUN + 1), too_many = one_in(j->from, 10), left = t->capacity - t->count;
     for (size_t i = 0; i < n; i++)
         given[i] = any_reference(j->from);
-    put_places(j->from, one_in(j->from, 8) ? (style)below(j->from, STYLES) : j->how, run, n * t->d + too_many);
-    uint8_t refusal = try_enter(&j->office, given, n, (places){ run, n * t->d + too_many }).refusal;
+    put_coordinates(j->from, one_in(j->from, 8) ? (style)below(j->from, STYLES) : j->how, run, n * t->d + too_many);
+    uint8_t refusal = try_enter(&j->office, given, n, (points){ run, n * t->d + too_many }).refusal;
     CHECK(refusal == (too_many ? 5 : n > left ? 3 : 0));
     count_call(ENTER, refusal, RUNS);
     if (refusal == 0) {
@@ -84,7 +84,7 @@ static drawn_list open_some(journey *j, const drawn_list *like)
     uint8_t measure = t->measure;
     size_t d = t->d;
     drawn_list l = { .reach = UINT64_MAX };
-    put_places(j->from, j->how, l.probe, NEARBY_MOST_PLACES);
+    put_coordinates(j->from, j->how, l.probe, NEARBY_MOST_COORDINATES);
     if (one_in(j->from, 2))
         l.reach = any_reach(j->from, &j->office, l.probe);
     if (like != NULL)
@@ -92,11 +92,11 @@ static drawn_list open_some(journey *j, const drawn_list *like)
     switch (below(j->from, 16)) {
     case 0: number++; break;
     case 1: measure = (uint8_t)(measure % 3 + 1); break;
-    case 2: d = d % NEARBY_MOST_PLACES + 1; break;
+    case 2: d = d % NEARBY_MOST_COORDINATES + 1; break;
     default: break;
     }
     l.ours = number == t->number && measure == t->measure && d == t->d;
-    l.t = open_tablet(number, measure, (places){ l.probe, d }, l.reach, below(j->from, 9));
+    l.t = open_tablet(number, measure, (points){ l.probe, d }, l.reach, below(j->from, 9));
     count_event(OPENED, 1);
     count_event(LIKE_ANOTHER, like != NULL);
     count_event(OF_OTHER_TABLES, !l.ours);
@@ -242,8 +242,8 @@ static void drive_to_the_end(journey *j, drawn_list *l)
 static journey begin(seeded *from, wire *link, size_t number)
 {
     uint8_t measure = (uint8_t)(1 + number % 3);
-    size_t d = 1 + number / 3 % NEARBY_MOST_PLACES, capacity = 1 + below(from, LARGEST_CAPACITY);
-    journey j = { .from = from, .how = (style)(number / (3 * NEARBY_MOST_PLACES) % STYLES), .link = link };
+    size_t d = 1 + number / 3 % NEARBY_MOST_COORDINATES, capacity = 1 + below(from, LARGEST_CAPACITY);
+    journey j = { .from = from, .how = (style)(number / (3 * NEARBY_MOST_COORDINATES) % STYLES), .link = link };
     count_event(JOURNEYS, 1);
     count_event(CARRIED_OVER, link->count);
     j.office = full_store(from, measure, d, capacity, 0, j.how);

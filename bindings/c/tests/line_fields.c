@@ -4,19 +4,19 @@
 
 nearby_written write_ask_fields(nearby_ask ask, output out)
 {
-    return try_ask_line(ask.table, ask.measure, ask.d, (places){ ask.probe, ask.d }, ask.scope, ask.size, out);
+    return try_ask_line(ask.table, ask.measure, ask.d, (points){ ask.probe, ask.d }, ask.scope, ask.size, out);
 }
 
 nearby_written write_answer_fields(nearby_answer_fields answer, output out)
 {
     room items = { answer.items, (size_t)answer.count * NEARBY_ITEM };
-    return try_answer_line(answer.table, answer.measure, answer.d, (places){ answer.probe, answer.d }, answer.scope, answer.last,
+    return try_answer_line(answer.table, answer.measure, answer.d, (points){ answer.probe, answer.d }, answer.scope, answer.last,
                            answer.count, items, out);
 }
 
 nearby_written write_claim_fields(nearby_claim claim, output out)
 {
-    return try_claim_line(claim.table, claim.measure, claim.d, claim.reference, (places){ claim.coordinates, claim.d }, out);
+    return try_claim_line(claim.table, claim.measure, claim.d, claim.reference, (points){ claim.coordinates, claim.d }, out);
 }
 
 /* Structs have padding, so each field is compared. */

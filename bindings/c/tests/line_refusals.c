@@ -80,18 +80,18 @@ static const answer_row answers[] = {
 
 static nearby_written write_claim_row(claim_row r, output out)
 {
-    return try_claim_line(7, r.measure, r.d, 101, (places){ nine, r.length }, out);
+    return try_claim_line(7, r.measure, r.d, 101, (points){ nine, r.length }, out);
 }
 
 static nearby_written write_ask_row(ask_row r, output out)
 {
-    return try_ask_line(7, r.measure, r.d, (places){ nine, r.length }, r.scope, r.size, out);
+    return try_ask_line(7, r.measure, r.d, (points){ nine, r.length }, r.scope, r.size, out);
 }
 
 static nearby_written write_answer_row(answer_row r, output out)
 {
     room items = { r.items, r.items_length };
-    return try_answer_line(7, r.measure, r.d, (places){ nine, r.length }, r.scope, r.last, r.count, items, out);
+    return try_answer_line(7, r.measure, r.d, (points){ nine, r.length }, r.scope, r.last, r.count, items, out);
 }
 
 /* The rooms are too small by all and by one, and just large enough. */

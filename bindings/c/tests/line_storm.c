@@ -44,10 +44,10 @@ static uint64_t about(seeded *from, field f)
 /* ---- Lines ---- */
 
 /* Enough for the longest line with one coordinate, one item and two characters more. */
-enum { ROOM = 640 };
+enum { NODE = 640 };
 
 typedef struct {
-    uint8_t at[ROOM];
+    uint8_t at[NODE];
     size_t length;
 } sheet;
 
@@ -180,7 +180,7 @@ static void read_and_write_again(text line, tally *t)
 static void storm(void)
 {
     seeded from = seed(28);
-    uint8_t *end = (uint8_t *)brink(ROOM) + ROOM;
+    uint8_t *end = (uint8_t *)brink(NODE) + NODE;
     sheet s;
     tally t = { 0 };
     for (size_t i = 0; i < LINES; i++) {
@@ -189,7 +189,7 @@ static void storm(void)
         memcpy(end - s.length, s.at, s.length);
         read_and_write_again((text){ end - s.length, s.length }, &t);
     }
-    brink_free(end - ROOM, ROOM);
+    brink_free(end - NODE, NODE);
     CHECK(t.no_line >= LEAST && t.no_kind >= LEAST);
     CHECK(t.asks >= LEAST && t.answers >= LEAST && t.claims >= LEAST);
 }

@@ -24,7 +24,7 @@ static fields any_fields(seeded *from)
     f.count = (uint8_t)below(from, 17);
     f.probe_length = f.d;
     f.items_length = (size_t)f.count * NEARBY_ITEM;
-    put_places(from, one_in(from, 2) ? ANYWHERE : AT_THE_ENDS, f.probe, 10);
+    put_coordinates(from, one_in(from, 2) ? ANYWHERE : AT_THE_ENDS, f.probe, 10);
     f.scope.reach = next_number(from) >> below(from, 64);
     if (one_in(from, 2))
         f.scope = (nearby_scope){ f.scope.reach, 1, (uint16_t)below(from, 4097), next_number(from), (uint16_t)below(from, 4096) };
@@ -33,7 +33,7 @@ static fields any_fields(seeded *from)
     return f;
 }
 
-static places probe_of(const fields *f) { return (places){ f->probe, f->probe_length }; }
+static points probe_of(const fields *f) { return (points){ f->probe, f->probe_length }; }
 
 static nearby_written write_ask_of(const fields *f, output out)
 {

@@ -87,7 +87,7 @@ void ask_cases(const list_case *cases, size_t count)
 static size_t write_whole(situation *c, output out)
 {
     nearby_answer_fields *f = &c->fields;
-    places probe = { f->probe, f->d };
+    points probe = { f->probe, f->d };
     switch (c->writer) {
     case ASK_LINE: return model_ask_line(f->table, f->measure, f->d, probe, f->scope, 2, out).length;
     case CLAIM_LINE: return model_claim_line(f->table, f->measure, f->d, 0x65, probe, out).length;

@@ -11,7 +11,7 @@ static void opening(void)
     for (unsigned measure = 0; measure < 256; measure++)
         for (size_t i = 0; i < LENGTH(sizes); i++)
             for (size_t length = 0; length <= 10; length++) {
-                nearby_listed opened = try_open(7, (uint8_t)measure, sizes[i], (places){ probe, length }, 5);
+                nearby_listed opened = try_open(7, (uint8_t)measure, sizes[i], (points){ probe, length }, 5);
                 bool in_range = measure >= 1 && measure <= 3 && sizes[i] >= 1 && sizes[i] <= 8;
                 CHECK(opened.refusal == (!in_range ? 1 : length != sizes[i] ? 5 : 0));
             }
@@ -101,7 +101,7 @@ static void asking_in_every_room(void)
 {
     const size_t sizes[] = { 0, 1, 16, 17, 255, 256, 257, SIZE_MAX };
     const int32_t probe[] = { 4 };
-    tablet t = open_tablet(7, 1, (places){ probe, 1 }, 5, 0);
+    tablet t = open_tablet(7, 1, (points){ probe, 1 }, 5, 0);
     for (size_t i = 0; i < LENGTH(sizes); i++)
         for (size_t length = 0; length <= NEARBY_ASK_LINE + 1; length++) {
             uint8_t *out = brink(length);

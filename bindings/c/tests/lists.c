@@ -31,9 +31,9 @@ static scene set_scene(seeded *from, size_t pages)
 {
     scene c = { .s = full_store(from, (uint8_t)(1 + below(from, 3)), 1 + below(from, 8), 40, 30, TIED) };
     int32_t probe[8];
-    put_places(from, TIED, probe, 8);
+    put_coordinates(from, TIED, probe, 8);
     const nearby_table *t = &c.s.table;
-    c.t = open_tablet(t->number, t->measure, (places){ probe, t->d }, UINT64_MAX, 40 * NEARBY_ITEM + below(from, 3));
+    c.t = open_tablet(t->number, t->measure, (points){ probe, t->d }, UINT64_MAX, 40 * NEARBY_ITEM + below(from, 3));
     for (size_t i = 0; i < pages; i++) {
         fetch(&c, 4);
         c.t.list = try_take(c.t.list, c.t.items, answer_of(&c)).list;
@@ -67,14 +67,14 @@ static void page_by_page(void)
     const int32_t four[] = { 4 };
     const uint32_t reference[] = { 0x6a };
     seeded from = seed(31);
-    scene c = { .s = marked_store(&from, 8), .t = open_tablet(7, 1, (places){ four, 1 }, 5, 5 * NEARBY_ITEM) };
+    scene c = { .s = marked_store(&from, 8), .t = open_tablet(7, 1, (points){ four, 1 }, 5, 5 * NEARBY_ITEM) };
     for (size_t i = 0; i < LENGTH(pages); i++) {
         fetch(&c, 2);
         CHECK(c.length == strlen(pages[i].answer) && memcmp(c.answer, pages[i].answer, c.length) == 0);
         c.t.list = try_take(c.t.list, c.t.items, answer_of(&c)).list;
         CHECK(c.t.list.snapshot == 5 && c.t.list.count == pages[i].count && c.t.list.complete == pages[i].complete);
         CHECK(memcmp(c.t.items.at, in_order, pages[i].count * NEARBY_ITEM * sizeof(uint64_t)) == 0);
-        CHECK(try_enter(&c.s, reference, 1, (places){ four, 1 }).refusal == 0);
+        CHECK(try_enter(&c.s, reference, 1, (points){ four, 1 }).refusal == 0);
     }
     drop_scene(&c);
 }

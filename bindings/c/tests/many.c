@@ -28,7 +28,7 @@ static questions any_questions(seeded *from, const store *s, style how)
 {
     questions q = { .n = below(from, MOST + 1) };
     size_t d = s->table.d;
-    put_places(from, how, q.probes, LENGTH(q.probes));
+    put_coordinates(from, how, q.probes, LENGTH(q.probes));
     for (size_t i = 0; i < q.n; i++) {
         q.reaches[i] = any_reach(from, s, q.probes + i * d);
         put_start(from, s, q.probes + i * d, q.starts + 4 * i);
@@ -36,7 +36,7 @@ static questions any_questions(seeded *from, const store *s, style how)
     return q;
 }
 
-static places probes_of(const questions *q, const store *s) { return (places){ q->probes, q->n * s->table.d }; }
+static points probes_of(const questions *q, const store *s) { return (points){ q->probes, q->n * s->table.d }; }
 static room reaches_of(questions *q) { return (room){ q->reaches, q->n }; }
 static room starts_of(questions *q) { return (room){ q->starts, 4 * q->n }; }
 
@@ -64,10 +64,10 @@ static void ask_many_ends(seeded *from, const store *s, questions *q)
     room out = lend_room(from, 4 * q->n + below(from, 5));
     CHECK(try_many_nearest(s, probes_of(q, s), reaches_of(q), out) == 0);
     for (size_t i = 0; i < q->n; i++)
-        CHECK(same_row(out.at + 4 * i, try_nearest(s, (places){ q->probes + i * d, d }, q->reaches[i])));
+        CHECK(same_row(out.at + 4 * i, try_nearest(s, (points){ q->probes + i * d, d }, q->reaches[i])));
     CHECK(try_many_farthest(s, probes_of(q, s), q->n, out) == 0);
     for (size_t i = 0; i < q->n; i++)
-        CHECK(same_row(out.at + 4 * i, try_farthest(s, (places){ q->probes + i * d, d })));
+        CHECK(same_row(out.at + 4 * i, try_farthest(s, (points){ q->probes + i * d, d })));
     free_room(out);
 }
 
@@ -80,7 +80,7 @@ static void ask_many_pages(seeded *from, const store *s, questions *q)
     CHECK(try_many_pages(s, probes_of(q, s), reaches_of(q), starts_of(q), size, outcomes, items) == 0);
     for (size_t i = 0; i < q->n; i++) {
         const uint64_t *start = q->starts + 4 * i;
-        nearby_filled page = try_page(s, (places){ q->probes + i * d, d }, q->reaches[i],
+        nearby_filled page = try_page(s, (points){ q->probes + i * d, d }, q->reaches[i],
                                       (nearby_start){ start[0] != 0, start[1], start[2], start[3] }, size,
                                       (room){ before + i * width, width });
         const uint64_t *outcome = outcomes.at + 3 * i;
@@ -153,7 +153,7 @@ static void ask_amiss(seeded *from, const store *s, size_t n)
     uint64_t out[20] = { 0 }, outcomes[20] = { 0 }, items[40] = { 0 }, reaches[5] = { 0 }, starts[20] = { 0 };
     int32_t probes[40] = { 0 };
     size_t size = one_in(from, 5) ? sizes[below(from, LENGTH(sizes))] : 3;
-    places p = { probes, nearly(from, n * s->table.d) };
+    points p = { probes, nearly(from, n * s->table.d) };
     room r = { reaches, n }, rows = { out, nearly(from, 4 * n) };
     try_many_nearest(s, p, r, rows);
     try_many_farthest(s, p, n, rows);
@@ -183,7 +183,7 @@ static void many_with_counts_too_large(void)
         store s = full_store(&from, 2, d, 12, 11, TIED);
         for (size_t i = 0; i < LENGTH(counts); i++)
             for (size_t length = 0; length <= LENGTH(probes); length++)
-                CHECK(try_many_farthest(&s, (places){ probes, length }, counts[i], (room){ out, LENGTH(out) }) == 5);
+                CHECK(try_many_farthest(&s, (points){ probes, length }, counts[i], (room){ out, LENGTH(out) }) == 5);
         free_store(&s);
     }
 }
@@ -201,14 +201,14 @@ static size_t put_ask(seeded *from, const store *s, uint8_t *out)
     const nearby_table *t = &s->table;
     int32_t probe[8];
     uint64_t start[4];
-    put_places(from, TIED, probe, 8);
+    put_coordinates(from, TIED, probe, 8);
     put_start(from, s, probe, start);
     nearby_scope scope = { any_reach(from, s, probe), start[0] != 0, (uint16_t)start[1], start[2], (uint16_t)start[3] };
     if (scope.from == 0)
         scope.snapshot = scope.distance = scope.number = 0;
     uint32_t number = t->number ^ one_in(from, 9);
     uint8_t line[NEARBY_ASK_LINE];
-    size_t length = model_ask_line(number, t->measure, (uint8_t)t->d, (places){ probe, t->d }, scope,
+    size_t length = model_ask_line(number, t->measure, (uint8_t)t->d, (points){ probe, t->d }, scope,
                                    (uint8_t)(1 + below(from, 16)), (output){ line, sizeof line }).length;
     if (one_in(from, 8))
         line[below(from, length)] = (uint8_t)(one_in(from, 2) ? '\n' : 'g');
@@ -316,7 +316,7 @@ static void many_answers_to_the_last_character(void)
     const nearby_scope scope = { .reach = UINT64_MAX };
     uint8_t twice[2 * NEARBY_ASK_LINE], one[NEARBY_ANSWER_LINE];
     for (uint8_t size = 1; size <= NEARBY_MOST_PAGE; size++) {
-        size_t length = try_ask_line(s.table.number, 2, 3, (places){ probe, 3 }, scope, size, (output){ twice, sizeof twice }).length;
+        size_t length = try_ask_line(s.table.number, 2, 3, (points){ probe, 3 }, scope, size, (output){ twice, sizeof twice }).length;
         memcpy(twice + length, twice, length);
         size_t first = try_answer(&s, (text){ twice, length }, (output){ one, sizeof one }).length;
         for (size_t behind = NEARBY_ANSWER_LINE - 2; behind <= NEARBY_ANSWER_LINE + 1; behind++) {

@@ -26,7 +26,7 @@ static void head_fields(sheet *s, uint8_t kind, uint32_t table, uint8_t measure,
     field(s, 1, d);
 }
 
-static void place_fields(sheet *s, places p)
+static void coordinate_fields(sheet *s, points p)
 {
     for (size_t i = 0; i < p.length; i++)
         field(s, 4, (uint32_t)p.at[i]);
@@ -50,7 +50,7 @@ static nearby_written hand_over(sheet *s, output out)
 
 static bool head_holds(uint8_t measure, size_t d)
 {
-    return measure >= 1 && measure <= 3 && d >= 1 && d <= NEARBY_MOST_PLACES;
+    return measure >= 1 && measure <= 3 && d >= 1 && d <= NEARBY_MOST_COORDINATES;
 }
 
 static bool scope_holds(nearby_scope p)
@@ -65,7 +65,7 @@ static bool ask_holds(nearby_scope p, uint8_t size)
     return scope_holds(p) && (p.from == 1 || p.snapshot == 0) && size >= 1 && size <= NEARBY_MOST_PAGE;
 }
 
-nearby_written model_ask_line(uint32_t table, uint8_t measure, uint8_t d, places probe, nearby_scope scope, uint8_t size, output out)
+nearby_written model_ask_line(uint32_t table, uint8_t measure, uint8_t d, points probe, nearby_scope scope, uint8_t size, output out)
 {
     if (!head_holds(measure, d) || probe.length != d || !ask_holds(scope, size))
         return (nearby_written){ .refusal = 10 };
@@ -73,7 +73,7 @@ nearby_written model_ask_line(uint32_t table, uint8_t measure, uint8_t d, places
         return (nearby_written){ .refusal = 12 };
     sheet s = { .length = 0 };
     head_fields(&s, 1, table, measure, d);
-    place_fields(&s, probe);
+    coordinate_fields(&s, probe);
     scope_fields(&s, scope);
     field(&s, 1, size);
     return hand_over(&s, out);
@@ -89,7 +89,7 @@ static bool items_hold(uint8_t count, room items)
     return true;
 }
 
-nearby_written model_answer_line(uint32_t table, uint8_t measure, uint8_t d, places probe, nearby_scope scope, uint8_t last,
+nearby_written model_answer_line(uint32_t table, uint8_t measure, uint8_t d, points probe, nearby_scope scope, uint8_t last,
                                  uint8_t count, room items, output out)
 {
     if (!head_holds(measure, d) || probe.length != d || !scope_holds(scope) || last > 1 || !items_hold(count, items))
@@ -98,7 +98,7 @@ nearby_written model_answer_line(uint32_t table, uint8_t measure, uint8_t d, pla
         return (nearby_written){ .refusal = 12 };
     sheet s = { .length = 0 };
     head_fields(&s, 2, table, measure, d);
-    place_fields(&s, probe);
+    coordinate_fields(&s, probe);
     scope_fields(&s, scope);
     field(&s, 1, last);
     field(&s, 1, count);
@@ -110,7 +110,7 @@ nearby_written model_answer_line(uint32_t table, uint8_t measure, uint8_t d, pla
     return hand_over(&s, out);
 }
 
-nearby_written model_claim_line(uint32_t table, uint8_t measure, uint8_t d, uint32_t reference, places coordinates, output out)
+nearby_written model_claim_line(uint32_t table, uint8_t measure, uint8_t d, uint32_t reference, points coordinates, output out)
 {
     if (!head_holds(measure, d) || coordinates.length != d)
         return (nearby_written){ .refusal = 10 };
@@ -119,7 +119,7 @@ nearby_written model_claim_line(uint32_t table, uint8_t measure, uint8_t d, uint
     sheet s = { .length = 0 };
     head_fields(&s, 3, table, measure, d);
     field(&s, 4, reference);
-    place_fields(&s, coordinates);
+    coordinate_fields(&s, coordinates);
     return hand_over(&s, out);
 }
 
@@ -166,7 +166,7 @@ static uint64_t take_field(frame *f, int bytes)
     return value;
 }
 
-static void take_places(frame *f, size_t d, int32_t *out)
+static void take_coordinates(frame *f, size_t d, int32_t *out)
 {
     for (size_t i = 0; i < d; i++) {
         uint64_t value = take_field(f, 4);
@@ -211,7 +211,7 @@ nearby_ask_read model_read_ask(text line)
     uint8_t refusal = take_head(line, 1, &f, &a->table, &a->measure, &a->d);
     if (refusal != 0)
         return (nearby_ask_read){ .refusal = refusal };
-    take_places(&f, a->d, a->probe);
+    take_coordinates(&f, a->d, a->probe);
     a->scope = take_scope(&f);
     a->size = (uint8_t)take_field(&f, 1);
     return ended(&f) && ask_holds(a->scope, a->size) ? read : (nearby_ask_read){ .refusal = 10 };
@@ -226,7 +226,7 @@ nearby_answer_read model_read_answer(text line)
     uint8_t refusal = take_head(line, 2, &f, &a->table, &a->measure, &a->d);
     if (refusal != 0)
         return (nearby_answer_read){ .refusal = refusal };
-    take_places(&f, a->d, a->probe);
+    take_coordinates(&f, a->d, a->probe);
     a->scope = take_scope(&f);
     a->last = (uint8_t)take_field(&f, 1);
     a->count = (uint8_t)take_field(&f, 1);
@@ -249,6 +249,6 @@ nearby_claim_read model_read_claim(text line)
     if (refusal != 0)
         return (nearby_claim_read){ .refusal = refusal };
     c->reference = (uint32_t)take_field(&f, 4);
-    take_places(&f, c->d, c->coordinates);
+    take_coordinates(&f, c->d, c->coordinates);
     return ended(&f) ? read : (nearby_claim_read){ .refusal = 10 };
 }

@@ -5,10 +5,10 @@
 
 static bool opened_in_range(uint8_t measure, size_t d)
 {
-    return measure >= 1 && measure <= 3 && d >= 1 && d <= NEARBY_MOST_PLACES;
+    return measure >= 1 && measure <= 3 && d >= 1 && d <= NEARBY_MOST_COORDINATES;
 }
 
-nearby_listed model_open(uint32_t table, uint8_t measure, size_t d, places probe, uint64_t reach)
+nearby_listed model_open(uint32_t table, uint8_t measure, size_t d, points probe, uint64_t reach)
 {
     nearby_listed made = { 0 };
     made.refusal = !opened_in_range(measure, d) ? 1 : probe.length != d ? 5 : 0;
@@ -45,7 +45,7 @@ static bool list_sound(const nearby_list *l, room items)
 {
     if (!opened_in_range(l->measure, l->d) || l->snapshot > NEARBY_MOST_CLAIMS || l->count > items.length / NEARBY_ITEM)
         return false;
-    for (size_t i = l->d; i < NEARBY_MOST_PLACES; i++)
+    for (size_t i = l->d; i < NEARBY_MOST_COORDINATES; i++)
         if (l->probe[i] != 0)
             return false;
     if (!l->started && (l->count != 0 || l->snapshot != 0 || l->complete))
@@ -82,7 +82,7 @@ nearby_written model_write_ask(nearby_list l, room items, size_t size, output ou
         refusal = 12;
     if (refusal != 0)
         return (nearby_written){ .refusal = refusal };
-    return model_ask_line(l.table, l.measure, (uint8_t)l.d, (places){ l.probe, l.d }, present_scope(&l, items.at), (uint8_t)size, out);
+    return model_ask_line(l.table, l.measure, (uint8_t)l.d, (points){ l.probe, l.d }, present_scope(&l, items.at), (uint8_t)size, out);
 }
 
 static bool to_present_ask(const nearby_list *l, const nearby_answer_fields *a, nearby_scope present)

@@ -52,7 +52,7 @@ size_t model_near(const store *s, const int32_t *probe, uint64_t reach, size_t s
     return count;
 }
 
-static uint8_t question_refusal(const store *s, places probe)
+static uint8_t question_refusal(const store *s, points probe)
 {
     uint8_t refusal = model_test(s);
     return refusal != 0 ? refusal : probe.length != s->table.d ? 5 : 0;
@@ -63,7 +63,7 @@ static nearby_item item_from(measured m)
     return (nearby_item){ 0, 1, m.number, m.reference, m.distance };
 }
 
-nearby_item model_nearest(const store *s, places probe, uint64_t reach)
+nearby_item model_nearest(const store *s, points probe, uint64_t reach)
 {
     uint8_t refusal = question_refusal(s, probe);
     if (refusal != 0)
@@ -75,7 +75,7 @@ nearby_item model_nearest(const store *s, places probe, uint64_t reach)
     return found;
 }
 
-nearby_item model_farthest(const store *s, places probe)
+nearby_item model_farthest(const store *s, points probe)
 {
     uint8_t refusal = question_refusal(s, probe);
     if (refusal != 0 || s->table.count == 0)
@@ -122,7 +122,7 @@ static nearby_filled fill_page(const store *s, const int32_t *probe, uint64_t re
     return (nearby_filled){ 0, given < size, given };
 }
 
-nearby_filled model_page(const store *s, places probe, uint64_t reach, nearby_start start, size_t size, room out)
+nearby_filled model_page(const store *s, points probe, uint64_t reach, nearby_start start, size_t size, room out)
 {
     uint8_t refusal = question_refusal(s, probe);
     if (refusal == 0 && (size < 1 || size > NEARBY_MOST_PAGE))
@@ -171,7 +171,7 @@ nearby_written model_answer(const store *s, text line, output out)
     nearby_scope scope = ask->scope;
     if (scope.from == 0)
         scope.snapshot = (uint16_t)s->table.count;
-    return model_answer_line(ask->table, ask->measure, ask->d, (places){ ask->probe, ask->d }, scope, page.last,
+    return model_answer_line(ask->table, ask->measure, ask->d, (points){ ask->probe, ask->d }, scope, page.last,
                              (uint8_t)page.count, (room){ items, page.count * NEARBY_ITEM }, out);
 }
 
@@ -196,7 +196,7 @@ static void put_found(nearby_item item, uint64_t *row)
     row[3] = item.distance;
 }
 
-static uint8_t rows_refusal(const store *s, places probes, size_t n, room out)
+static uint8_t rows_refusal(const store *s, points probes, size_t n, room out)
 {
     uint8_t refusal = model_test(s);
     if (refusal != 0)
@@ -204,23 +204,23 @@ static uint8_t rows_refusal(const store *s, places probes, size_t n, room out)
     return !each(probes.length, s->table.d, n) ? 5 : too_small(out.length, 4, n) ? 12 : 0;
 }
 
-uint8_t model_many_nearest(const store *s, places probes, room reaches, room out)
+uint8_t model_many_nearest(const store *s, points probes, room reaches, room out)
 {
     uint8_t refusal = rows_refusal(s, probes, reaches.length, out);
     for (size_t i = 0; refusal == 0 && i < reaches.length; i++)
-        put_found(model_nearest(s, (places){ probes.at + i * s->table.d, s->table.d }, reaches.at[i]), out.at + 4 * i);
+        put_found(model_nearest(s, (points){ probes.at + i * s->table.d, s->table.d }, reaches.at[i]), out.at + 4 * i);
     return refusal;
 }
 
-uint8_t model_many_farthest(const store *s, places probes, size_t n, room out)
+uint8_t model_many_farthest(const store *s, points probes, size_t n, room out)
 {
     uint8_t refusal = rows_refusal(s, probes, n, out);
     for (size_t i = 0; refusal == 0 && i < n; i++)
-        put_found(model_farthest(s, (places){ probes.at + i * s->table.d, s->table.d }), out.at + 4 * i);
+        put_found(model_farthest(s, (points){ probes.at + i * s->table.d, s->table.d }), out.at + 4 * i);
     return refusal;
 }
 
-static uint8_t pages_refusal(const store *s, places probes, size_t n, room starts, size_t size, room outcomes, room items)
+static uint8_t pages_refusal(const store *s, points probes, size_t n, room starts, size_t size, room outcomes, room items)
 {
     uint8_t refusal = model_test(s);
     if (refusal != 0)
@@ -232,13 +232,13 @@ static uint8_t pages_refusal(const store *s, places probes, size_t n, room start
     return too_small(outcomes.length, 3, n) || too_small(items.length, size * NEARBY_ITEM, n) ? 12 : 0;
 }
 
-uint8_t model_many_pages(const store *s, places probes, room reaches, room starts, size_t size, room outcomes, room items)
+uint8_t model_many_pages(const store *s, points probes, room reaches, room starts, size_t size, room outcomes, room items)
 {
     uint8_t refusal = pages_refusal(s, probes, reaches.length, starts, size, outcomes, items);
     for (size_t i = 0; refusal == 0 && i < reaches.length; i++) {
         const uint64_t *p = starts.at + 4 * i;
         nearby_start start = { p[0] != 0, p[1], p[2], p[3] };
-        nearby_filled page = model_page(s, (places){ probes.at + i * s->table.d, s->table.d }, reaches.at[i], start, size,
+        nearby_filled page = model_page(s, (points){ probes.at + i * s->table.d, s->table.d }, reaches.at[i], start, size,
                                         (room){ items.at + i * size * NEARBY_ITEM, size * NEARBY_ITEM });
         outcomes.at[3 * i] = page.refusal;
         outcomes.at[3 * i + 1] = page.count;

@@ -80,14 +80,14 @@ static void node_as_numbers(const node *n, uint64_t *out)
     out[5] = n->below[1] ? n->below[1]->number + 1 : 0;
 }
 
-size_t model_build(uint8_t measure, size_t d, const int32_t *coordinates, size_t n, uint64_t *rooms)
+size_t model_build(uint8_t measure, size_t d, const int32_t *coordinates, size_t n, uint64_t *nodes)
 {
     tree t = { measure, d, coordinates, malloc((n + 1) * sizeof(node)), 0 };
     node *root = NULL;
     for (size_t claim = 0; claim < n; claim++)
         enter_claim(&t, &root, claim);
     for (size_t i = 0; i < t.used; i++)
-        node_as_numbers(&t.nodes[i], rooms + i * NEARBY_ROOM);
+        node_as_numbers(&t.nodes[i], nodes + i * NEARBY_NODE);
     free(t.nodes);
     return t.used;
 }
@@ -96,7 +96,7 @@ size_t model_build(uint8_t measure, size_t d, const int32_t *coordinates, size_t
 
 static bool in_range(uint8_t measure, size_t d)
 {
-    return measure >= 1 && measure <= 3 && d >= 1 && d <= NEARBY_MOST_PLACES;
+    return measure >= 1 && measure <= 3 && d >= 1 && d <= NEARBY_MOST_COORDINATES;
 }
 
 static bool memory_fits(const store *s)
@@ -104,25 +104,25 @@ static bool memory_fits(const store *s)
     const nearby_table *t = &s->table;
     return in_range(t->measure, t->d) && t->capacity >= 1 && t->capacity <= NEARBY_MOST_CLAIMS
         && s->references_length >= t->capacity && s->coordinates_length >= t->capacity * t->d
-        && s->rooms_length >= t->capacity * NEARBY_ROOM;
+        && s->nodes_length >= t->capacity * NEARBY_NODE;
 }
 
-static bool rooms_hold(const store *s)
+static bool nodes_hold(const store *s)
 {
     const nearby_table *t = &s->table;
     if (t->count > t->capacity)
         return false;
-    uint64_t *fresh = calloc(t->count + 1, NEARBY_ROOM * sizeof(uint64_t));
+    uint64_t *fresh = calloc(t->count + 1, NEARBY_NODE * sizeof(uint64_t));
     size_t used = model_build(t->measure, t->d, s->coordinates, t->count, fresh);
     bool holds = used == t->used
-        && (used == 0 || memcmp(fresh, s->rooms, used * NEARBY_ROOM * sizeof(uint64_t)) == 0);
+        && (used == 0 || memcmp(fresh, s->nodes, used * NEARBY_NODE * sizeof(uint64_t)) == 0);
     free(fresh);
     return holds;
 }
 
 uint8_t model_test(const store *s)
 {
-    return !memory_fits(s) ? 1 : !rooms_hold(s) ? 2 : 0;
+    return !memory_fits(s) ? 1 : !nodes_hold(s) ? 2 : 0;
 }
 
 nearby_tabled model_make(uint32_t number, uint8_t measure, size_t d, size_t capacity, const store *lent)
@@ -132,7 +132,7 @@ nearby_tabled model_make(uint32_t number, uint8_t measure, size_t d, size_t capa
     return memory_fits(&s) ? (nearby_tabled){ 0, s.table } : (nearby_tabled){ .refusal = 1 };
 }
 
-static uint8_t enter_refusal(const store *s, size_t given_length, places run)
+static uint8_t enter_refusal(const store *s, size_t given_length, points run)
 {
     uint8_t refusal = model_test(s);
     if (refusal != 0)
@@ -142,7 +142,7 @@ static uint8_t enter_refusal(const store *s, size_t given_length, places run)
     return given_length > s->table.capacity - s->table.count ? 3 : 0;
 }
 
-nearby_tabled model_enter(store *s, const uint32_t *given, size_t given_length, places run)
+nearby_tabled model_enter(store *s, const uint32_t *given, size_t given_length, points run)
 {
     uint8_t refusal = enter_refusal(s, given_length, run);
     if (refusal != 0)
@@ -153,6 +153,6 @@ nearby_tabled model_enter(store *s, const uint32_t *given, size_t given_length, 
     for (size_t i = 0; i < run.length; i++)
         s->coordinates[t->count * t->d + i] = run.at[i];
     t->count += given_length;
-    t->used = model_build(t->measure, t->d, s->coordinates, t->count, s->rooms);
+    t->used = model_build(t->measure, t->d, s->coordinates, t->count, s->nodes);
     return (nearby_tabled){ 0, *t };
 }

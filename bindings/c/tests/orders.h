@@ -6,7 +6,7 @@
 
 enum { MOST_NUMBERS = 10 };
 
-/* The numbers of each call, as section 9 of the rules lists them, and a 0 at the end. 4 is left out: in a sound table a node room is free
+/* The numbers of each call, as section 9 of the rules lists them, and a 0 at the end. 4 is left out: in a sound table a node is free
  * wherever a claim has room, so nothing can reach it. */
 extern const uint8_t call_numbers[CALLS][MOST_NUMBERS];
 

@@ -9,7 +9,7 @@
 static void any_probe(seeded *from, const store *s, style how, int32_t *probe)
 {
     const nearby_table *t = &s->table;
-    put_places(from, one_in(from, 4) ? ANYWHERE : how, probe, t->d);
+    put_coordinates(from, one_in(from, 4) ? ANYWHERE : how, probe, t->d);
     if (t->count > 0 && one_in(from, 4))
         memcpy(probe, s->coordinates + below(from, t->count) * t->d, t->d * sizeof(int32_t));
 }
@@ -36,7 +36,7 @@ static void ask_tables(uint64_t number, const size_t *counts, size_t length, int
 
 static void ask_ends(seeded *from, const store *s, const int32_t *probe)
 {
-    places p = { probe, s->table.d };
+    points p = { probe, s->table.d };
     nearby_item first = try_nearest(s, p, UINT64_MAX);
     CHECK(first.found == (s->table.count > 0));
     try_nearest(s, p, any_reach(from, s, probe));
@@ -68,7 +68,7 @@ static void page_through(const store *s, const int32_t *probe, uint64_t reach, s
     nearby_start at = { 0 };
     nearby_filled page = { 0 };
     for (size_t turns = 0; turns <= within && !page.last; turns++) {
-        page = try_page(s, (places){ probe, s->table.d }, reach, at, size, (room){ items, size * NEARBY_ITEM });
+        page = try_page(s, (points){ probe, s->table.d }, reach, at, size, (room){ items, size * NEARBY_ITEM });
         if (!CHECK(page.refusal == 0 && seen + page.count <= within))
             break;
         CHECK(memcmp(items, all + seen * NEARBY_ITEM, page.count * NEARBY_ITEM * sizeof(uint64_t)) == 0);
@@ -98,7 +98,7 @@ static void ask_after_marks(seeded *from, const store *s, const int32_t *probe)
 {
     uint64_t items[NEARBY_MOST_PAGE * NEARBY_ITEM] = { 0 };
     const nearby_table *t = &s->table;
-    places p = { probe, t->d };
+    points p = { probe, t->d };
     uint64_t reach = any_reach(from, s, probe), snapshot = below(from, t->count + 2);
     for (uint64_t claim = 0; claim < t->count + 1; claim++) {
         uint64_t apart = claim < t->count ? model_distance(t->measure, t->d, s->coordinates + claim * t->d, probe) : 0;
@@ -130,7 +130,7 @@ static void pages_in_every_snapshot(void)
             for (uint64_t claim = 0; claim < snapshot; claim++) {
                 uint64_t apart = model_distance(s.table.measure, 2, s.coordinates + claim * 2, probe);
                 nearby_start start = { 1, snapshot, apart, claim };
-                nearby_filled page = try_page(&s, (places){ probe, 2 }, UINT64_MAX, start, 16, (room){ items, 48 });
+                nearby_filled page = try_page(&s, (points){ probe, 2 }, UINT64_MAX, start, 16, (room){ items, 48 });
                 CHECK(page.refusal == 0);
             }
         free_store(&s);
@@ -141,7 +141,7 @@ static void pages_in_every_snapshot(void)
 static void first_pages(const store *s, const int32_t *probe)
 {
     uint64_t items[NEARBY_MOST_PAGE * NEARBY_ITEM];
-    places p = { probe, s->table.d };
+    points p = { probe, s->table.d };
     nearby_start at = { 0 };
     for (int i = 0; i < 3; i++) {
         nearby_filled page = try_page(s, p, UINT64_MAX, at, NEARBY_MOST_PAGE, (room){ items, LENGTH(items) });
@@ -177,8 +177,8 @@ static void start_is_no_mark(void)
     store s = full_store(&from, 1, 3, 4, 4, ALIKE);
     const int32_t here[] = { 4, 4, 4 };
     uint64_t items[12];
-    CHECK(try_page(&s, (places){ here, 3 }, 0, (nearby_start){ 0, 9, 9, 9 }, 4, (room){ items, 12 }).count == 4 && items[0] == 0);
-    CHECK(try_page(&s, (places){ here, 3 }, 0, (nearby_start){ 1, 4, 0, 0 }, 4, (room){ items, 12 }).count == 3 && items[0] == 1);
+    CHECK(try_page(&s, (points){ here, 3 }, 0, (nearby_start){ 0, 9, 9, 9 }, 4, (room){ items, 12 }).count == 4 && items[0] == 0);
+    CHECK(try_page(&s, (points){ here, 3 }, 0, (nearby_start){ 1, 4, 0, 0 }, 4, (room){ items, 12 }).count == 3 && items[0] == 1);
     free_store(&s);
 }
 
@@ -191,7 +191,7 @@ static void probes_and_sizes_amiss(void)
     for (size_t d = 1; d <= 8; d++) {
         store s = full_store(&from, 3, d, 30, 20, TIED);
         for (size_t length = 0; length <= 10; length++) {
-            places p = { probe, length };
+            points p = { probe, length };
             CHECK((try_nearest(&s, p, 3).refusal == 5) == (length != d));
             CHECK((try_farthest(&s, p).refusal == 5) == (length != d));
             for (size_t i = 0; i < LENGTH(sizes); i++)
@@ -199,7 +199,7 @@ static void probes_and_sizes_amiss(void)
         }
         for (size_t size = 1; size <= 16; size++)
             for (size_t length = 0; length <= 60; length++)
-                try_page(&s, (places){ probe, d }, UINT64_MAX, (nearby_start){ 0 }, size, (room){ items, length });
+                try_page(&s, (points){ probe, d }, UINT64_MAX, (nearby_start){ 0 }, size, (room){ items, length });
         free_store(&s);
     }
 }

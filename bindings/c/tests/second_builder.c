@@ -11,7 +11,7 @@ typedef struct {
     size_t right;         /* the right claim plus one, or 0 */
     uint64_t far[2];
     size_t below[2];      /* the nodes below plus one, or 0 */
-    size_t room;          /* the node's number: so many nodes have a smaller left claim */
+    size_t number;        /* the node's number: so many nodes have a smaller left claim */
 } waiting;
 
 typedef struct {
@@ -57,30 +57,30 @@ static size_t number_nodes(waiting *claims, size_t n)
 {
     size_t nodes = 0;
     for (size_t i = 0; i < n; i++) {
-        claims[i].room = nodes;
+        claims[i].number = nodes;
         nodes += claims[i].leads;
     }
     return nodes;
 }
 
-static uint64_t room_below(const waiting *claims, size_t below)
+static uint64_t node_below(const waiting *claims, size_t below)
 {
-    return below == 0 ? 0 : claims[below - 1].room + 1;
+    return below == 0 ? 0 : claims[below - 1].number + 1;
 }
 
-static void put_node(const waiting *claims, size_t at, uint64_t *rooms)
+static void put_node(const waiting *claims, size_t at, uint64_t *nodes)
 {
     const waiting *node = &claims[at];
-    uint64_t *out = rooms + node->room * NEARBY_ROOM;
+    uint64_t *out = nodes + node->number * NEARBY_NODE;
     out[0] = at + 1;
     out[1] = node->right;
     out[2] = node->far[0];
     out[3] = node->far[1];
-    out[4] = room_below(claims, node->below[0]);
-    out[5] = room_below(claims, node->below[1]);
+    out[4] = node_below(claims, node->below[0]);
+    out[5] = node_below(claims, node->below[1]);
 }
 
-size_t second_build(uint8_t measure, size_t d, const int32_t *coordinates, size_t n, uint64_t *rooms)
+size_t second_build(uint8_t measure, size_t d, const int32_t *coordinates, size_t n, uint64_t *nodes)
 {
     /* All claims wait at claim 0, which leads the root. */
     queue q = { measure, d, coordinates, calloc(n + 1, sizeof(waiting)) };
@@ -92,7 +92,7 @@ size_t second_build(uint8_t measure, size_t d, const int32_t *coordinates, size_
     size_t used = number_nodes(q.claims, n);
     for (size_t at = 0; at < n; at++)
         if (q.claims[at].leads)
-            put_node(q.claims, at, rooms);
+            put_node(q.claims, at, nodes);
     free(q.claims);
     return used;
 }

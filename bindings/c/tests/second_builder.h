@@ -8,7 +8,7 @@
 #include <stddef.h>
 #include <stdint.h>
 
-/* The rooms of n claims, six numbers each; gives how many. */
-size_t second_build(uint8_t measure, size_t d, const int32_t *coordinates, size_t n, uint64_t *rooms);
+/* The nodes of n claims, six numbers each; gives how many. */
+size_t second_build(uint8_t measure, size_t d, const int32_t *coordinates, size_t n, uint64_t *nodes);
 
 #endif

@@ -12,7 +12,7 @@ static int32_t any_coordinate(seeded *from, style how)
     }
 }
 
-void put_places(seeded *from, style how, int32_t *out, size_t length)
+void put_coordinates(seeded *from, style how, int32_t *out, size_t length)
 {
     for (size_t i = 0; i < length; i++)
         out[i] = any_coordinate(from, how);
@@ -22,15 +22,15 @@ store lend_store(seeded *from, size_t d, size_t capacity, size_t longer)
 {
     store s = { .references_length = capacity + longer,
                 .coordinates_length = capacity * d + longer,
-                .rooms_length = capacity * NEARBY_ROOM + longer };
+                .nodes_length = capacity * NEARBY_NODE + longer };
     s.references = brink(s.references_length * sizeof(uint32_t));
     s.coordinates = brink(s.coordinates_length * sizeof(int32_t));
-    s.rooms = brink(s.rooms_length * sizeof(uint64_t));
+    s.nodes = brink(s.nodes_length * sizeof(uint64_t));
     for (size_t i = 0; i < s.references_length; i++)
         s.references[i] = (uint32_t)next_number(from);
-    put_places(from, ANYWHERE, s.coordinates, s.coordinates_length);
-    for (size_t i = 0; i < s.rooms_length; i++)
-        s.rooms[i] = next_number(from);
+    put_coordinates(from, ANYWHERE, s.coordinates, s.coordinates_length);
+    for (size_t i = 0; i < s.nodes_length; i++)
+        s.nodes[i] = next_number(from);
     return s;
 }
 
@@ -38,7 +38,7 @@ void free_store(store *s)
 {
     brink_free(s->references, s->references_length * sizeof(uint32_t));
     brink_free(s->coordinates, s->coordinates_length * sizeof(int32_t));
-    brink_free(s->rooms, s->rooms_length * sizeof(uint64_t));
+    brink_free(s->nodes, s->nodes_length * sizeof(uint64_t));
 }
 
 void enter_run(seeded *from, store *s, size_t n, style how)
@@ -48,8 +48,8 @@ void enter_run(seeded *from, store *s, size_t n, style how)
     int32_t *run = malloc((n + 1) * d * sizeof(int32_t));
     for (size_t i = 0; i < n; i++)
         given[i] = (uint32_t)next_number(from);
-    put_places(from, how, run, n * d);
-    CHECK(try_enter(s, given, n, (places){ run, n * d }).refusal == 0);
+    put_coordinates(from, how, run, n * d);
+    CHECK(try_enter(s, given, n, (points){ run, n * d }).refusal == 0);
     free(given);
     free(run);
 }
@@ -74,7 +74,7 @@ store marked_store(seeded *from, size_t capacity)
     s.table = try_make(7, NEARBY_CITY_BLOCK, 1, capacity, &s).table;
     uint32_t given[] = { 0x65, 0x66, 0x67, 0x68, 0x69 };
     int32_t run[] = { 2, 3, 9, 6, 5 };
-    CHECK(try_enter(&s, given, 5, (places){ run, 5 }).refusal == 0);
+    CHECK(try_enter(&s, given, 5, (points){ run, 5 }).refusal == 0);
     return s;
 }
 

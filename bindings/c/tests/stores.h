@@ -7,7 +7,7 @@
 /* How claims lie: close together with many ties, anywhere, all at one place, or at the ends of the coordinates' range. */
 typedef enum { TIED, ANYWHERE, ALIKE, AT_THE_ENDS, STYLES } style;
 
-void put_places(seeded *from, style how, int32_t *out, size_t length);
+void put_coordinates(seeded *from, style how, int32_t *out, size_t length);
 
 /* Memory for a table, filled with any numbers, longer than needed by so many elements; its header is all 0. */
 store lend_store(seeded *from, size_t d, size_t capacity, size_t longer);

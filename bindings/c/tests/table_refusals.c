@@ -11,7 +11,7 @@
 /* Ranges, and lengths of lent memory; each row that is refused differs in one thing from a row that is not. */
 static const struct {
     uint8_t measure;
-    size_t d, capacity, references, coordinates, rooms;
+    size_t d, capacity, references, coordinates, nodes;
     uint8_t number;
 } making[] = {
     { 1, 2, 8, 8, 16, 48, 0 },
@@ -32,13 +32,13 @@ static const struct {
 static void refused_to_make(void)
 {
     seeded from = seed(71);
-    store lent = lend_store(&from, NEARBY_MOST_PLACES + 1, NEARBY_MOST_CLAIMS + 1, 0);
+    store lent = lend_store(&from, NEARBY_MOST_COORDINATES + 1, NEARBY_MOST_CLAIMS + 1, 0);
     for (size_t i = 0; i < LENGTH(making); i++) {
         store s = lent;
         s.table = (nearby_table){ 7, making[i].measure, making[i].d, making[i].capacity, 0, 0 };
         s.references_length = making[i].references;
         s.coordinates_length = making[i].coordinates;
-        s.rooms_length = making[i].rooms;
+        s.nodes_length = making[i].nodes;
         CHECK(try_make(7, making[i].measure, making[i].d, making[i].capacity, &s).refusal == making[i].number);
         CHECK(try_test(&s) == making[i].number);
     }
@@ -55,36 +55,36 @@ typedef struct {
 static const refusal_case testing[] = {
     { { MEASURE_0 }, 1 },
     { { CAPACITY_OVER_THE_MEMORY }, 1 },
-    { { ROOM_NUMBER_CHANGED }, 2 },
+    { { NODE_NUMBER_CHANGED }, 2 },
     { { COUNT_OVER_CAPACITY }, 2 },
-    { { MEASURE_0, ROOM_NUMBER_CHANGED }, 1 },
+    { { MEASURE_0, NODE_NUMBER_CHANGED }, 1 },
 };
 
 static const refusal_case entering[] = {
     { { MEASURE_0 }, 1 },
     { { CAPACITY_OVER_THE_MEMORY }, 1 },
-    { { ROOM_NUMBER_CHANGED }, 2 },
+    { { NODE_NUMBER_CHANGED }, 2 },
     { { COUNT_OVER_CAPACITY }, 2 },
     { { COORDINATE_TOO_MANY }, 5 },
     { { COORDINATE_MISSING }, 5 },
     { { RUN_OVER_CAPACITY }, 3 },
-    { { MEASURE_0, ROOM_NUMBER_CHANGED }, 1 },
-    { { ROOM_NUMBER_CHANGED, COORDINATE_TOO_MANY }, 2 },
+    { { MEASURE_0, NODE_NUMBER_CHANGED }, 1 },
+    { { NODE_NUMBER_CHANGED, COORDINATE_TOO_MANY }, 2 },
     { { COORDINATE_MISSING, RUN_OVER_CAPACITY }, 5 },
 };
 
 static const refusal_case nearest_or_farthest[] = {
     { { MEASURE_0 }, 1 },
-    { { ROOM_NUMBER_CHANGED }, 2 },
+    { { NODE_NUMBER_CHANGED }, 2 },
     { { COORDINATE_TOO_MANY }, 5 },
     { { COORDINATE_MISSING }, 5 },
-    { { MEASURE_0, ROOM_NUMBER_CHANGED }, 1 },
-    { { ROOM_NUMBER_CHANGED, COORDINATE_TOO_MANY }, 2 },
+    { { MEASURE_0, NODE_NUMBER_CHANGED }, 1 },
+    { { NODE_NUMBER_CHANGED, COORDINATE_TOO_MANY }, 2 },
 };
 
 static const refusal_case paging[] = {
     { { MEASURE_0 }, 1 },
-    { { ROOM_NUMBER_CHANGED }, 2 },
+    { { NODE_NUMBER_CHANGED }, 2 },
     { { COORDINATE_TOO_MANY }, 5 },
     { { SIZE_0 }, 6 },
     { { SIZE_17 }, 6 },
@@ -95,8 +95,8 @@ static const refusal_case paging[] = {
     { { MARK_NUMBER_5 }, 8 },
     { { MARK_NUMBER_6 }, 8 },
     { { ROOM_SHORT }, 12 },
-    { { MEASURE_0, ROOM_NUMBER_CHANGED }, 1 },
-    { { ROOM_NUMBER_CHANGED, COORDINATE_TOO_MANY }, 2 },
+    { { MEASURE_0, NODE_NUMBER_CHANGED }, 1 },
+    { { NODE_NUMBER_CHANGED, COORDINATE_TOO_MANY }, 2 },
     { { COORDINATE_TOO_MANY, SIZE_0 }, 5 },
     { { SIZE_0, SNAPSHOT_6 }, 6 },
     { { SIZE_0, MARK_DISTANCE_WRONG }, 6 },
@@ -109,7 +109,7 @@ static const refusal_case paging[] = {
 static const refusal_case answering[] = {
     { { OUTPUT_SHORT }, 12 },
     { { MEASURE_0 }, 1 },
-    { { ROOM_NUMBER_CHANGED }, 2 },
+    { { NODE_NUMBER_CHANGED }, 2 },
     { { NO_LINE_END }, 9 },
     { { ODD_DIGITS }, 9 },
     { { NOT_AN_ASK }, 10 },
@@ -124,9 +124,9 @@ static const refusal_case answering[] = {
     { { SNAPSHOT_4 }, 8 },
     { { MARK_NUMBER_5 }, 8 },
     { { OUTPUT_SHORT, MEASURE_0 }, 12 },
-    { { OUTPUT_SHORT, ROOM_NUMBER_CHANGED }, 12 },
-    { { MEASURE_0, ROOM_NUMBER_CHANGED }, 1 },
-    { { ROOM_NUMBER_CHANGED, NO_LINE_END }, 2 },
+    { { OUTPUT_SHORT, NODE_NUMBER_CHANGED }, 12 },
+    { { MEASURE_0, NODE_NUMBER_CHANGED }, 1 },
+    { { NODE_NUMBER_CHANGED, NO_LINE_END }, 2 },
     { { NO_LINE_END, NOT_AN_ASK }, 9 },
     { { SIZE_0, TABLE_8 }, 10 },
     { { TABLE_8, SNAPSHOT_6 }, 11 },
@@ -135,18 +135,18 @@ static const refusal_case answering[] = {
 
 static const refusal_case many_nearest_or_farthest[] = {
     { { MEASURE_0 }, 1 },
-    { { ROOM_NUMBER_CHANGED }, 2 },
+    { { NODE_NUMBER_CHANGED }, 2 },
     { { COORDINATE_TOO_MANY }, 5 },
     { { COORDINATE_MISSING }, 5 },
     { { ROOM_SHORT }, 12 },
-    { { MEASURE_0, ROOM_NUMBER_CHANGED }, 1 },
-    { { ROOM_NUMBER_CHANGED, COORDINATE_TOO_MANY }, 2 },
+    { { MEASURE_0, NODE_NUMBER_CHANGED }, 1 },
+    { { NODE_NUMBER_CHANGED, COORDINATE_TOO_MANY }, 2 },
     { { COORDINATE_TOO_MANY, ROOM_SHORT }, 5 },
 };
 
 static const refusal_case many_paging[] = {
     { { MEASURE_0 }, 1 },
-    { { ROOM_NUMBER_CHANGED }, 2 },
+    { { NODE_NUMBER_CHANGED }, 2 },
     { { COORDINATE_TOO_MANY }, 5 },
     { { START_NUMBER_MISSING }, 5 },
     { { SIZE_0 }, 6 },
@@ -157,8 +157,8 @@ static const refusal_case many_paging[] = {
     { { MARK_DISTANCE_WRONG }, 8 },
     { { MARK_OVER_REACH }, 8 },
     { { MARK_NUMBER_5 }, 8 },
-    { { MEASURE_0, ROOM_NUMBER_CHANGED }, 1 },
-    { { ROOM_NUMBER_CHANGED, START_NUMBER_MISSING }, 2 },
+    { { MEASURE_0, NODE_NUMBER_CHANGED }, 1 },
+    { { NODE_NUMBER_CHANGED, START_NUMBER_MISSING }, 2 },
     { { START_NUMBER_MISSING, SIZE_0 }, 5 },
     { { SIZE_17, ROOM_SHORT }, 6 },
     { { OUTCOMES_SHORT, SNAPSHOT_6 }, 12 },

@@ -28,7 +28,7 @@ void put_fault(scene *c, fault f)
     case NO_FAULT: break;
     case MEASURE_0: c->s.table.measure = 0; break;
     case CAPACITY_OVER_THE_MEMORY: c->s.table.capacity = 9; break;
-    case ROOM_NUMBER_CHANGED: c->s.rooms[3] = 7; break;
+    case NODE_NUMBER_CHANGED: c->s.nodes[3] = 7; break;
     case COUNT_OVER_CAPACITY: c->s.table.capacity = 4; break;
     case COORDINATE_TOO_MANY: c->run_length++, c->probe_length++, c->probes_length++; break;
     case COORDINATE_MISSING: c->run_length--, c->probe_length--, c->probes_length--; break;
@@ -54,7 +54,7 @@ void put_fault(scene *c, fault f)
     }
 }
 
-static uint8_t call_page(scene *c, places probe)
+static uint8_t call_page(scene *c, points probe)
 {
     uint64_t items[LARGE_SIZE * NEARBY_ITEM];
     memset(items, HELD, sizeof items);
@@ -84,14 +84,14 @@ static uint8_t call_answer(scene *c)
     return try_answer(&c->s, (text){ (uint8_t *)line, length }, (output){ out, c->out_length }).refusal;
 }
 
-static uint8_t call_many_nearest(scene *c, places probes)
+static uint8_t call_many_nearest(scene *c, points probes)
 {
     uint64_t reaches[ASKED] = { 5, 1, 0 }, rows[4 * ASKED];
     memset(rows, HELD, sizeof rows);
     return try_many_nearest(&c->s, probes, (room){ reaches, ASKED }, (room){ rows, c->rows_length });
 }
 
-static uint8_t call_many_farthest(scene *c, places probes)
+static uint8_t call_many_farthest(scene *c, points probes)
 {
     uint64_t rows[4 * ASKED];
     memset(rows, HELD, sizeof rows);
@@ -99,7 +99,7 @@ static uint8_t call_many_farthest(scene *c, places probes)
 }
 
 /* The places before and behind the scene's are in order, and so are their rows. */
-static uint8_t call_many_pages(scene *c, places probes)
+static uint8_t call_many_pages(scene *c, points probes)
 {
     const nearby_start *p = &c->start;
     uint64_t reaches[ASKED] = { 5, c->reach, 5 };
@@ -136,7 +136,7 @@ static uint8_t call_many_answers(scene *c)
 
 uint8_t call_scene(call which, scene *c)
 {
-    places run = { fours, c->run_length }, probe = { fours, c->probe_length }, probes = { fours, c->probes_length };
+    points run = { fours, c->run_length }, probe = { fours, c->probe_length }, probes = { fours, c->probes_length };
     switch (which) {
     case TEST: return try_test(&c->s);
     case ENTER: return try_enter(&c->s, given, c->given_length, run).refusal;

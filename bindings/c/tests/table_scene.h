@@ -27,7 +27,7 @@ scene set_scene(seeded *from);
 typedef enum {
     NO_FAULT,
     /* the table */
-    MEASURE_0, CAPACITY_OVER_THE_MEMORY, ROOM_NUMBER_CHANGED, COUNT_OVER_CAPACITY,
+    MEASURE_0, CAPACITY_OVER_THE_MEMORY, NODE_NUMBER_CHANGED, COUNT_OVER_CAPACITY,
     /* the run, and lengths that go with d or with the number of questions */
     COORDINATE_TOO_MANY, COORDINATE_MISSING, START_NUMBER_MISSING, RUN_OVER_CAPACITY,
     /* the page */

@@ -1,6 +1,6 @@
 /*
- * Full tables, entered in runs: after each run the rooms in use are compared with those of the second builder; runs that do not fit
- * are refused; each number in use is damaged, and each damage found; the rooms behind are filled anew, which changes nothing.
+ * Full tables, entered in runs: after each run the nodes in use are compared with those of the second builder; runs that do not fit
+ * are refused; each number in use is damaged, and each damage found; the nodes behind are filled anew, which changes nothing.
  */
 #include "second_builder.h"
 #include "stores.h"
@@ -34,21 +34,21 @@ static int32_t coordinate_of(seeded *from, int way, size_t claim)
 static void lay_claims(seeded *from, trial x, int32_t *out)
 {
     if (x.way < STYLES) {
-        put_places(from, (style)x.way, out, x.n * x.d);
+        put_coordinates(from, (style)x.way, out, x.n * x.d);
         return;
     }
     for (size_t i = 0; i < x.n * x.d; i++)
         out[i] = coordinate_of(from, x.way, i / x.d);
 }
 
-/* Whether the rooms in use are the second builder's. */
+/* Whether the nodes in use are the second builder's. */
 static bool as_second_built(const store *s)
 {
     const nearby_table *t = &s->table;
-    uint64_t *rooms = malloc((t->count + 1) * NEARBY_ROOM * sizeof(uint64_t));
-    size_t used = second_build(t->measure, t->d, s->coordinates, t->count, rooms);
-    bool same = used == t->used && memcmp(rooms, s->rooms, used * NEARBY_ROOM * sizeof(uint64_t)) == 0;
-    free(rooms);
+    uint64_t *nodes = malloc((t->count + 1) * NEARBY_NODE * sizeof(uint64_t));
+    size_t used = second_build(t->measure, t->d, s->coordinates, t->count, nodes);
+    bool same = used == t->used && memcmp(nodes, s->nodes, used * NEARBY_NODE * sizeof(uint64_t)) == 0;
+    free(nodes);
     return same;
 }
 
@@ -63,7 +63,7 @@ static void enter_runs(seeded *from, store *s, trial x, score *sum)
     lay_claims(from, x, run);
     for (size_t i = 0; i < LENGTH(ends); i++) {
         size_t at = s->table.count, more = ends[i] - at;
-        sum->runs += try_enter(s, given + at, more, (places){ run + at * x.d, more * x.d }).refusal == 0;
+        sum->runs += try_enter(s, given + at, more, (points){ run + at * x.d, more * x.d }).refusal == 0;
         sum->equal += s->table.count == ends[i] && as_second_built(s);
     }
     free(given);
@@ -74,19 +74,19 @@ static void enter_runs(seeded *from, store *s, trial x, score *sum)
 static void refuse_runs(store *s, score *sum)
 {
     const uint32_t given[] = { 9 };
-    const int32_t run[NEARBY_MOST_PLACES + 1] = { 0 };
-    sum->refused += try_enter(s, given, 1, (places){ run, s->table.d }).refusal == 3;
-    sum->refused += try_enter(s, given, 1, (places){ run, s->table.d + 1 }).refusal == 5;
+    const int32_t run[NEARBY_MOST_COORDINATES + 1] = { 0 };
+    sum->refused += try_enter(s, given, 1, (points){ run, s->table.d }).refusal == 3;
+    sum->refused += try_enter(s, given, 1, (points){ run, s->table.d + 1 }).refusal == 5;
 }
 
-/* One number of the rooms changed, and changed back. Testing the table finds it, and so does an empty run. */
+/* One number of the nodes changed, and changed back. Testing the table finds it, and so does an empty run. */
 static void damage(store *s, size_t at, uint64_t to, score *sum)
 {
-    uint64_t was = s->rooms[at];
-    s->rooms[at] = to;
+    uint64_t was = s->nodes[at];
+    s->nodes[at] = to;
     sum->damages++;
-    sum->found += try_test(s) == 2 && try_enter(s, NULL, 0, (places){ NULL, 0 }).refusal == 2;
-    s->rooms[at] = was;
+    sum->found += try_test(s) == 2 && try_enter(s, NULL, 0, (points){ NULL, 0 }).refusal == 2;
+    s->nodes[at] = was;
 }
 
 /* A table with more claims is damaged in its last number alone, since each damage costs as much as building it. */
@@ -95,18 +95,18 @@ enum { SMALL = 40 };
 /* Each number in use, raised by one and then made any other. */
 static void damage_rooms(seeded *from, store *s, score *sum)
 {
-    size_t length = s->table.used * NEARBY_ROOM;
+    size_t length = s->table.used * NEARBY_NODE;
     for (size_t i = s->table.count <= SMALL ? 0 : length - 1; i < length; i++) {
-        damage(s, i, s->rooms[i] + 1, sum);
-        damage(s, i, s->rooms[i] + 1 + below(from, UINT64_MAX), sum);
+        damage(s, i, s->nodes[i] + 1, sum);
+        damage(s, i, s->nodes[i] + 1 + below(from, UINT64_MAX), sum);
     }
 }
 
-/* What the rooms behind those in use hold is nobody's matter. */
+/* What the nodes behind those in use hold is nobody's matter. */
 static void fill_unused(seeded *from, store *s, score *sum)
 {
-    for (size_t i = s->table.used * NEARBY_ROOM; i < s->rooms_length; i++)
-        s->rooms[i] = next_number(from);
+    for (size_t i = s->table.used * NEARBY_NODE; i < s->nodes_length; i++)
+        s->nodes[i] = next_number(from);
     sum->kept += try_test(s) == 0 && as_second_built(s);
 }
 
@@ -126,7 +126,7 @@ static void run_trial(seeded *from, trial x, score *sum)
 static void run_trials(seeded *from, const size_t *counts, size_t length, score *sum)
 {
     for (uint8_t measure = 1; measure <= 3; measure++)
-        for (size_t d = 1; d <= NEARBY_MOST_PLACES; d++)
+        for (size_t d = 1; d <= NEARBY_MOST_COORDINATES; d++)
             for (int way = 0; way < WAYS; way++)
                 for (size_t i = 0; i < length; i++)
                     run_trial(from, (trial){ measure, d, counts[i], way }, sum);
@@ -140,7 +140,7 @@ static void check_score(score is, size_t tables)
 }
 
 /* 3 measures, 8 d, 7 ways and 6 counts are 1,008 tables. A room has two claims at most, so the six counts take at least
- * 1 + 1 + 2 + 4 + 20 + 20 = 48 rooms of 6 numbers, damaged twice each: 168 * 48 * 12 = 96,768. */
+ * 1 + 1 + 2 + 4 + 20 + 20 = 48 nodes of 6 numbers, damaged twice each: 168 * 48 * 12 = 96,768. */
 static void small_tables(void)
 {
     seeded from = seed(61);

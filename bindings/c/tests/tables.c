@@ -11,7 +11,7 @@ static void all_of_a_run_or_nothing(void)
         for (size_t n = 0; n <= capacity; n++)
             for (size_t more = 0; more <= 12; more++) {
                 store s = full_store(&from, 1, 2, capacity, n, TIED);
-                nearby_tabled entered = try_enter(&s, given, more, (places){ run, 2 * more });
+                nearby_tabled entered = try_enter(&s, given, more, (points){ run, 2 * more });
                 CHECK(entered.refusal == (n + more > capacity ? 3 : 0));
                 free_store(&s);
             }
@@ -27,7 +27,7 @@ static void runs_with_coordinates_amiss(void)
         for (size_t n = 0; n <= 4; n++)
             for (size_t length = 0; length <= 40; length++)
                 if (length != n * d)
-                    CHECK(try_enter(&s, given, n, (places){ run, length }).refusal == 5);
+                    CHECK(try_enter(&s, given, n, (points){ run, length }).refusal == 5);
         CHECK(try_test(&s) == 0);
         free_store(&s);
     }
@@ -41,7 +41,7 @@ static void all_calls(const store *s)
     uint8_t out[NEARBY_ANSWER_LINE] = { 0 };
     const uint8_t line[] = "00\n";
     const text asked = { line, 3 };
-    places p = { probe, s->table.d <= 8 ? s->table.d : 8 };
+    points p = { probe, s->table.d <= 8 ? s->table.d : 8 };
     store entered = *s;
     try_test(s);
     try_nearest(s, p, UINT64_MAX);
@@ -52,26 +52,26 @@ static void all_calls(const store *s)
     try_many_farthest(s, p, 1, (room){ items, 48 });
     try_many_pages(s, p, (room){ reach, 1 }, (room){ start, 4 }, 16, (room){ outcomes, 3 }, (room){ items, 48 });
     try_many_answers(s, asked, (room){ outcomes, 3 }, (output){ out, sizeof out });
-    try_enter(&entered, NULL, 0, (places){ NULL, 0 });
+    try_enter(&entered, NULL, 0, (points){ NULL, 0 });
 }
 
-/* Every call with one number of the rooms changed: one in use is never changed without 2, one behind them is never read. */
-static void rooms_damaged(void)
+/* Every call with one number of the nodes changed: one in use is never changed without 2, one behind them is never read. */
+static void nodes_damaged(void)
 {
     seeded from = seed(6);
     for (int round = 0; round < 24; round++) {
         size_t n = 1 + below(&from, 24);
         store s = full_store(&from, (uint8_t)(1 + round % 3), 1 + below(&from, 8), n + 2, n, (style)(round % STYLES));
-        for (size_t i = 0; i < s.rooms_length; i++) {
-            uint64_t was = s.rooms[i];
+        for (size_t i = 0; i < s.nodes_length; i++) {
+            uint64_t was = s.nodes[i];
             const uint64_t damage[] = { was + 1, was - 1, 0, UINT64_MAX, was ^ (1ull << below(&from, 64)), next_number(&from) };
             for (size_t k = 0; k < LENGTH(damage); k++) {
-                s.rooms[i] = damage[k];
-                bool changed = damage[k] != was && i < s.table.used * NEARBY_ROOM;
+                s.nodes[i] = damage[k];
+                bool changed = damage[k] != was && i < s.table.used * NEARBY_NODE;
                 CHECK(try_test(&s) == (changed ? 2 : 0));
                 if (k == i % LENGTH(damage))
                     all_calls(&s);
-                s.rooms[i] = was;
+                s.nodes[i] = was;
             }
         }
         free_store(&s);
@@ -143,7 +143,7 @@ static void memory_too_small(void)
         for (int which = 0; which < 3; which++)
             for (size_t cut = 0; cut < 2; cut++) {
                 store t = s;
-                size_t *length = which == 0 ? &t.references_length : which == 1 ? &t.coordinates_length : &t.rooms_length;
+                size_t *length = which == 0 ? &t.references_length : which == 1 ? &t.coordinates_length : &t.nodes_length;
                 *length = cut == 0 ? *length - 1 : 0;
                 CHECK(try_make(3, 1, d, 10, &t).refusal == 1 && try_test(&t) == 1);
                 all_calls(&t);
@@ -156,7 +156,7 @@ void table_tests(void)
 {
     run_test("tables: all of a run or nothing", all_of_a_run_or_nothing);
     run_test("tables: runs with coordinates amiss", runs_with_coordinates_amiss);
-    run_test("tables: damaged rooms", rooms_damaged);
+    run_test("tables: damaged nodes", nodes_damaged);
     run_test("tables: damaged claims", claims_damaged);
     run_test("tables: damaged headers", headers_damaged);
     run_test("tables: memory too small", memory_too_small);

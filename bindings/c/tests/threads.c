@@ -17,7 +17,7 @@ typedef struct {
 } work;
 
 #define LENT(s) \
-    (s)->table, (s)->references, (s)->references_length, (s)->coordinates, (s)->coordinates_length, (s)->rooms, (s)->rooms_length
+    (s)->table, (s)->references, (s)->references_length, (s)->coordinates, (s)->coordinates_length, (s)->nodes, (s)->nodes_length
 
 static void *ask_away(void *given)
 {
@@ -26,10 +26,10 @@ static void *ask_away(void *given)
     size_t d = w->s->table.d;
     for (int i = 0; i < ASKED; i++) {
         int32_t probe[8];
-        put_places(&from, TIED, probe, d);
+        put_coordinates(&from, TIED, probe, d);
         uint64_t reach = any_reach(&from, w->s, probe), is[48] = { 0 }, must[48] = { 0 };
         nearby_filled page = nearby_page(LENT(w->s), probe, d, reach, (nearby_start){ 0 }, 16, is, 48);
-        nearby_filled told = model_page(w->s, (places){ probe, d }, reach, (nearby_start){ 0 }, 16, (room){ must, 48 });
+        nearby_filled told = model_page(w->s, (points){ probe, d }, reach, (nearby_start){ 0 }, 16, (room){ must, 48 });
         w->wrong += page.count != told.count || page.last != told.last || memcmp(is, must, sizeof is) != 0;
     }
     return NULL;

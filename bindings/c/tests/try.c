@@ -42,7 +42,7 @@ static void check_kept(kept k)
     free(k.copy);
 }
 
-static kept keep_places(places p) { return keep(p.at, p.length * sizeof(int32_t)); }
+static kept keep_points(points p) { return keep(p.at, p.length * sizeof(int32_t)); }
 static kept keep_text(text t) { return keep(t.at, t.length); }
 static kept keep_room(room r) { return keep(r.at, r.length * sizeof(uint64_t)); }
 static kept keep_output(output o) { return keep(o.at, o.length); }
@@ -52,21 +52,21 @@ static room room_of(const kept *k) { return (room){ k->copy, k->bytes / sizeof(u
 static output output_of(const kept *k) { return (output){ k->copy, k->bytes }; }
 
 typedef struct {
-    kept references, coordinates, rooms;
+    kept references, coordinates, nodes;
 } kept_store;
 
 static kept_store keep_store(const store *s)
 {
     return (kept_store){ keep(s->references, s->references_length * sizeof(uint32_t)),
                          keep(s->coordinates, s->coordinates_length * sizeof(int32_t)),
-                         keep(s->rooms, s->rooms_length * sizeof(uint64_t)) };
+                         keep(s->nodes, s->nodes_length * sizeof(uint64_t)) };
 }
 
 static void check_store(kept_store k)
 {
     check_kept(k.references);
     check_kept(k.coordinates);
-    check_kept(k.rooms);
+    check_kept(k.nodes);
 }
 
 static store store_of(const store *s, const kept_store *k)
@@ -74,12 +74,12 @@ static store store_of(const store *s, const kept_store *k)
     store copy = *s;
     copy.references = k->references.copy;
     copy.coordinates = k->coordinates.copy;
-    copy.rooms = k->rooms.copy;
+    copy.nodes = k->nodes.copy;
     return copy;
 }
 
 #define LENT(s) \
-    (s)->table, (s)->references, (s)->references_length, (s)->coordinates, (s)->coordinates_length, (s)->rooms, (s)->rooms_length
+    (s)->table, (s)->references, (s)->references_length, (s)->coordinates, (s)->coordinates_length, (s)->nodes, (s)->nodes_length
 
 /* ---- The same results; structs have padding, so each field is compared ---- */
 
@@ -118,7 +118,7 @@ nearby_tabled try_make(uint32_t number, uint8_t measure, size_t d, size_t capaci
 {
     kept_store k = keep_store(lent);
     nearby_tabled is = nearby_make_table(number, measure, d, capacity, lent->references, lent->references_length, lent->coordinates,
-                                         lent->coordinates_length, lent->rooms, lent->rooms_length);
+                                         lent->coordinates_length, lent->nodes, lent->nodes_length);
     nearby_tabled must = model_make(number, measure, d, capacity, lent);
     CHECK(is.refusal == must.refusal && same_table(is.table, must.table));
     check_store(k);
@@ -136,10 +136,10 @@ uint8_t try_test(const store *s)
     return is;
 }
 
-nearby_tabled try_enter(store *s, const uint32_t *given, size_t given_length, places run)
+nearby_tabled try_enter(store *s, const uint32_t *given, size_t given_length, points run)
 {
     kept_store k = keep_store(s);
-    kept k_given = keep(given, given_length * sizeof(uint32_t)), k_run = keep_places(run);
+    kept k_given = keep(given, given_length * sizeof(uint32_t)), k_run = keep_points(run);
     store copy = store_of(s, &k);
     nearby_tabled is = nearby_enter(LENT(s), given, given_length, run.at, run.length);
     nearby_tabled must = model_enter(&copy, given, given_length, run);
@@ -153,10 +153,10 @@ nearby_tabled try_enter(store *s, const uint32_t *given, size_t given_length, pl
     return is;
 }
 
-nearby_item try_nearest(const store *s, places probe, uint64_t reach)
+nearby_item try_nearest(const store *s, points probe, uint64_t reach)
 {
     kept_store k = keep_store(s);
-    kept k_probe = keep_places(probe);
+    kept k_probe = keep_points(probe);
     nearby_item is = nearby_nearest(LENT(s), probe.at, probe.length, reach);
     CHECK(same_item(is, model_nearest(s, probe, reach)));
     check_store(k);
@@ -165,10 +165,10 @@ nearby_item try_nearest(const store *s, places probe, uint64_t reach)
     return is;
 }
 
-nearby_item try_farthest(const store *s, places probe)
+nearby_item try_farthest(const store *s, points probe)
 {
     kept_store k = keep_store(s);
-    kept k_probe = keep_places(probe);
+    kept k_probe = keep_points(probe);
     nearby_item is = nearby_farthest(LENT(s), probe.at, probe.length);
     CHECK(same_item(is, model_farthest(s, probe)));
     check_store(k);
@@ -177,10 +177,10 @@ nearby_item try_farthest(const store *s, places probe)
     return is;
 }
 
-nearby_filled try_page(const store *s, places probe, uint64_t reach, nearby_start start, size_t size, room out)
+nearby_filled try_page(const store *s, points probe, uint64_t reach, nearby_start start, size_t size, room out)
 {
     kept_store k = keep_store(s);
-    kept k_probe = keep_places(probe), k_out = keep_room(out);
+    kept k_probe = keep_points(probe), k_out = keep_room(out);
     nearby_filled is = nearby_page(LENT(s), probe.at, probe.length, reach, start, size, out.at, out.length);
     nearby_filled must = model_page(s, probe, reach, start, size, room_of(&k_out));
     CHECK(is.refusal == must.refusal && is.count == must.count && is.last == must.last);
@@ -206,9 +206,9 @@ nearby_written try_answer(const store *s, text line, output out)
 
 /* ---- Lists ---- */
 
-nearby_listed try_open(uint32_t table, uint8_t measure, size_t d, places probe, uint64_t reach)
+nearby_listed try_open(uint32_t table, uint8_t measure, size_t d, points probe, uint64_t reach)
 {
-    kept k = keep_places(probe);
+    kept k = keep_points(probe);
     nearby_listed is = nearby_open_list(table, measure, d, probe.at, probe.length, reach);
     nearby_listed must = model_open(table, measure, d, probe, reach);
     CHECK(is.refusal == must.refusal && same_list(&is.list, &must.list));
@@ -242,9 +242,9 @@ nearby_listed try_take(nearby_list list, room items, text line)
 
 /* ---- Bare lines ---- */
 
-nearby_written try_ask_line(uint32_t table, uint8_t measure, uint8_t d, places probe, nearby_scope scope, uint8_t size, output out)
+nearby_written try_ask_line(uint32_t table, uint8_t measure, uint8_t d, points probe, nearby_scope scope, uint8_t size, output out)
 {
-    kept k_probe = keep_places(probe), k_out = keep_output(out);
+    kept k_probe = keep_points(probe), k_out = keep_output(out);
     nearby_written is = nearby_write_ask_line(table, measure, d, probe.at, probe.length, scope, size, out.at, out.length);
     CHECK(same_written(is, model_ask_line(table, measure, d, probe, scope, size, output_of(&k_out))));
     check_kept(k_probe);
@@ -253,10 +253,10 @@ nearby_written try_ask_line(uint32_t table, uint8_t measure, uint8_t d, places p
     return is;
 }
 
-nearby_written try_answer_line(uint32_t table, uint8_t measure, uint8_t d, places probe, nearby_scope scope, uint8_t last,
+nearby_written try_answer_line(uint32_t table, uint8_t measure, uint8_t d, points probe, nearby_scope scope, uint8_t last,
                                uint8_t count, room items, output out)
 {
-    kept k_probe = keep_places(probe), k_items = keep_room(items), k_out = keep_output(out);
+    kept k_probe = keep_points(probe), k_items = keep_room(items), k_out = keep_output(out);
     nearby_written is = nearby_write_answer_line(table, measure, d, probe.at, probe.length, scope, last, count, items.at, items.length,
                                                  out.at, out.length);
     CHECK(same_written(is, model_answer_line(table, measure, d, probe, scope, last, count, items, output_of(&k_out))));
@@ -267,12 +267,12 @@ nearby_written try_answer_line(uint32_t table, uint8_t measure, uint8_t d, place
     return is;
 }
 
-nearby_written try_claim_line(uint32_t table, uint8_t measure, uint8_t d, uint32_t reference, places coordinates, output out)
+nearby_written try_claim_line(uint32_t table, uint8_t measure, uint8_t d, uint32_t reference, points coordinates, output out)
 {
-    kept k_places = keep_places(coordinates), k_out = keep_output(out);
+    kept k_points = keep_points(coordinates), k_out = keep_output(out);
     nearby_written is = nearby_write_claim_line(table, measure, d, reference, coordinates.at, coordinates.length, out.at, out.length);
     CHECK(same_written(is, model_claim_line(table, measure, d, reference, coordinates, output_of(&k_out))));
-    check_kept(k_places);
+    check_kept(k_points);
     check_kept(k_out);
     note(CLAIM_LINE, is.refusal);
     return is;
@@ -317,10 +317,10 @@ nearby_claim_read try_read_claim(text line)
 
 /* ---- Many at once ---- */
 
-uint8_t try_many_nearest(const store *s, places probes, room reaches, room out)
+uint8_t try_many_nearest(const store *s, points probes, room reaches, room out)
 {
     kept_store k = keep_store(s);
-    kept k_probes = keep_places(probes), k_reaches = keep_room(reaches), k_out = keep_room(out);
+    kept k_probes = keep_points(probes), k_reaches = keep_room(reaches), k_out = keep_room(out);
     uint8_t is = nearby_many_nearest(LENT(s), probes.at, probes.length, reaches.at, reaches.length, out.at, out.length);
     CHECK(is == model_many_nearest(s, probes, reaches, room_of(&k_out)));
     check_store(k);
@@ -331,10 +331,10 @@ uint8_t try_many_nearest(const store *s, places probes, room reaches, room out)
     return is;
 }
 
-uint8_t try_many_farthest(const store *s, places probes, size_t n, room out)
+uint8_t try_many_farthest(const store *s, points probes, size_t n, room out)
 {
     kept_store k = keep_store(s);
-    kept k_probes = keep_places(probes), k_out = keep_room(out);
+    kept k_probes = keep_points(probes), k_out = keep_room(out);
     uint8_t is = nearby_many_farthest(LENT(s), probes.at, probes.length, n, out.at, out.length);
     CHECK(is == model_many_farthest(s, probes, n, room_of(&k_out)));
     check_store(k);
@@ -344,10 +344,10 @@ uint8_t try_many_farthest(const store *s, places probes, size_t n, room out)
     return is;
 }
 
-uint8_t try_many_pages(const store *s, places probes, room reaches, room starts, size_t size, room outcomes, room items)
+uint8_t try_many_pages(const store *s, points probes, room reaches, room starts, size_t size, room outcomes, room items)
 {
     kept_store k = keep_store(s);
-    kept k_probes = keep_places(probes), k_reaches = keep_room(reaches), k_starts = keep_room(starts);
+    kept k_probes = keep_points(probes), k_reaches = keep_room(reaches), k_starts = keep_room(starts);
     kept k_outcomes = keep_room(outcomes), k_items = keep_room(items);
     uint8_t is = nearby_many_pages(LENT(s), probes.at, probes.length, reaches.at, reaches.length, starts.at, starts.length, size,
                                    outcomes.at, outcomes.length, items.at, items.length);

@@ -56,12 +56,12 @@ pub const ANSWER_LINE: usize = 573;
 /// Characters of the longest claim line, its 0A counted.
 pub const CLAIM_LINE: usize = 87;
 /// The largest number of coordinates, d.
-pub const MOST_PLACES: usize = 8;
+pub const MOST_COORDINATES: usize = 8;
 /// The largest capacity of a table, and the most items of a list.
 pub const MOST_CLAIMS: usize = 4096;
 /// The largest page size.
 pub const MOST_PAGE: usize = 16;
-/// Numbers in a node room of a table's memory.
-pub const ROOM: usize = 6;
+/// Numbers in a node of a table's memory.
+pub const NODE: usize = 6;
 /// Numbers in an item of a list's or a page's memory.
 pub const ITEM: usize = 3;

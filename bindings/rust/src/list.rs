@@ -19,7 +19,7 @@ use crate::{raw, ASK_LINE, ITEM, MOST_CLAIMS};
 /// // The same line once more is no longer to the present ask.
 /// assert_eq!(list.take(&answer), Err(Refusal::NotToPresentAsk));
 ///
-/// // The room has two places: the third claim needs more.
+/// // The room is for two items: the third claim needs more.
 /// let answer = table.answer(&list.write_ask(2)?)?;
 /// assert_eq!(list.take(&answer), Err(Refusal::ListRoomTooSmall));
 /// list.grow(16);

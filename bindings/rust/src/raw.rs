@@ -7,9 +7,9 @@
 //! ```
 //! use nearby::raw;
 //!
-//! let (references, coordinates, rooms) = ([0u32; 4], [0i32; 8], [0u64; 24]);
+//! let (references, coordinates, nodes) = ([0u32; 4], [0i32; 8], [0u64; 24]);
 //! let made = unsafe {
-//!     raw::nearby_make_table(7, 1, 2, 4, references.as_ptr(), 4, coordinates.as_ptr(), 8, rooms.as_ptr(), 24)
+//!     raw::nearby_make_table(7, 1, 2, 4, references.as_ptr(), 4, coordinates.as_ptr(), 8, nodes.as_ptr(), 24)
 //! };
 //! assert_eq!((made.refusal, made.table.capacity), (0, 4));
 //! ```
@@ -28,7 +28,7 @@ pub struct Table {
     pub capacity: usize,
     /// How many claims were entered.
     pub count: usize,
-    /// How many node rooms are in use.
+    /// How many nodes are in use.
     pub used: usize,
 }
 
@@ -122,7 +122,7 @@ pub struct List {
     pub complete: u8,
     /// How many coordinates the probe has.
     pub d: usize,
-    /// The probe; unused places are 0.
+    /// The probe; unused slots are 0.
     pub probe: [i32; 8],
     /// The reach.
     pub reach: u64,
@@ -168,7 +168,7 @@ pub struct Ask {
     pub measure: u8,
     /// How many coordinates the probe has.
     pub d: u8,
-    /// The probe; unused places are 0.
+    /// The probe; unused slots are 0.
     pub probe: [i32; 8],
     /// What is asked for.
     pub scope: Scope,
@@ -186,7 +186,7 @@ pub struct AnswerFields {
     pub measure: u8,
     /// How many coordinates the probe has.
     pub d: u8,
-    /// The probe; unused places are 0.
+    /// The probe; unused slots are 0.
     pub probe: [i32; 8],
     /// What was asked for.
     pub scope: Scope,
@@ -194,7 +194,7 @@ pub struct AnswerFields {
     pub last: u8,
     /// How many items.
     pub count: u8,
-    /// The items, three numbers each; unused places are 0.
+    /// The items, three numbers each; unused slots are 0.
     pub items: [u64; 48],
 }
 
@@ -210,7 +210,7 @@ pub struct Claim {
     pub d: u8,
     /// Its reference.
     pub reference: u32,
-    /// Its coordinates; unused places are 0.
+    /// Its coordinates; unused slots are 0.
     pub coordinates: [i32; 8],
 }
 
@@ -252,7 +252,7 @@ macro_rules! on_table {
                 table: Table,
                 references: *const u32, references_length: usize,
                 coordinates: *const i32, coordinates_length: usize,
-                rooms: *const u64, rooms_length: usize,
+                nodes: *const u64, nodes_length: usize,
                 $($argument: $kind),*
             ) -> $result;)*
         }
@@ -300,8 +300,8 @@ extern "C" {
         references_length: usize,
         coordinates: *const i32,
         coordinates_length: usize,
-        rooms: *const u64,
-        rooms_length: usize,
+        nodes: *const u64,
+        nodes_length: usize,
     ) -> Tabled;
 
     /// Enters a run of claims, whole or not at all. Refusals 1, 2, 5, 3, 4.
@@ -311,12 +311,12 @@ extern "C" {
         references_length: usize,
         coordinates: *mut i32,
         coordinates_length: usize,
-        rooms: *mut u64,
-        rooms_length: usize,
+        nodes: *mut u64,
+        nodes_length: usize,
         given: *const u32,
         given_length: usize,
-        places: *const i32,
-        places_length: usize,
+        points: *const i32,
+        points_length: usize,
     ) -> Tabled;
 
     /// Opens a list. Refusals 1, 5.

@@ -1,6 +1,6 @@
 use crate::items::{Item, Measure, Page, Place};
 use crate::refusal::{heeded, Refusal};
-use crate::{raw, ANSWER_LINE, ITEM, MOST_CLAIMS, MOST_PAGE, MOST_PLACES, ROOM};
+use crate::{raw, ANSWER_LINE, ITEM, MOST_CLAIMS, MOST_PAGE, MOST_COORDINATES, NODE};
 
 /// Ask lines that are answered in one call of the library: enough that the table's test costs little beside them.
 const LINES_AT_ONCE: usize = 4096;
@@ -27,7 +27,7 @@ pub struct Table {
     measure: Measure,
     references: Vec<u32>,
     coordinates: Vec<i32>,
-    rooms: Vec<u64>,
+    nodes: Vec<u64>,
 }
 
 /// A claim as it was entered.
@@ -50,7 +50,7 @@ macro_rules! ask {
                 t.header,
                 t.references.as_ptr(), t.references.len(),
                 t.coordinates.as_ptr(), t.coordinates.len(),
-                t.rooms.as_ptr(), t.rooms.len()
+                t.nodes.as_ptr(), t.nodes.len()
                 $(, $argument)*
             )
         }
@@ -63,10 +63,10 @@ impl Table {
     /// Refused with [`Refusal::OutOfRange`] alone.
     pub fn new(number: u32, measure: Measure, d: usize, capacity: usize) -> Result<Table, Refusal> {
         // Tested before memory is asked for; the library tests it again.
-        if d > MOST_PLACES || capacity > MOST_CLAIMS {
+        if d > MOST_COORDINATES || capacity > MOST_CLAIMS {
             return Err(Refusal::OutOfRange);
         }
-        let (references, coordinates, rooms) = (vec![0; capacity], vec![0; capacity * d], vec![0; capacity * ROOM]);
+        let (references, coordinates, nodes) = (vec![0; capacity], vec![0; capacity * d], vec![0; capacity * NODE]);
         // Safety: the three slices are alive and only read.
         let made = unsafe {
             raw::nearby_make_table(
@@ -78,12 +78,12 @@ impl Table {
                 references.len(),
                 coordinates.as_ptr(),
                 coordinates.len(),
-                rooms.as_ptr(),
-                rooms.len(),
+                nodes.as_ptr(),
+                nodes.len(),
             )
         };
         heeded(made.refusal)?;
-        Ok(Table { header: made.table, measure, references, coordinates, rooms })
+        Ok(Table { header: made.table, measure, references, coordinates, nodes })
     }
 
     /// A table out of its parts, as [`into_parts`](Table::into_parts) gave them: a table that was kept somewhere comes back this way.
@@ -95,9 +95,9 @@ impl Table {
     ///
     /// let mut table = Table::new(7, Measure::Hamming, 1, 10)?;
     /// table.enter(&[1, 2], &[5, 6])?;
-    /// let (header, references, coordinates, mut rooms) = table.into_parts();
-    /// rooms[0] = 9;
-    /// let damaged = Table::from_parts(header, references, coordinates, rooms);
+    /// let (header, references, coordinates, mut nodes) = table.into_parts();
+    /// nodes[0] = 9;
+    /// let damaged = Table::from_parts(header, references, coordinates, nodes);
     /// assert_eq!(damaged.unwrap_err(), Refusal::NotSound);
     /// # Ok::<(), Refusal>(())
     /// ```
@@ -105,17 +105,17 @@ impl Table {
         header: raw::Table,
         references: Vec<u32>,
         coordinates: Vec<i32>,
-        rooms: Vec<u64>,
+        nodes: Vec<u64>,
     ) -> Result<Table, Refusal> {
         let measure = Measure::from_number(header.measure).ok_or(Refusal::OutOfRange)?;
-        let table = Table { header, measure, references, coordinates, rooms };
+        let table = Table { header, measure, references, coordinates, nodes };
         heeded(ask!(&table, nearby_test_table))?;
         Ok(table)
     }
 
-    /// The header, the references, the coordinates and the rooms.
+    /// The header, the references, the coordinates and the nodes.
     pub fn into_parts(self) -> (raw::Table, Vec<u32>, Vec<i32>, Vec<u64>) {
-        (self.header, self.references, self.coordinates, self.rooms)
+        (self.header, self.references, self.coordinates, self.nodes)
     }
 
     /// The table's number.
@@ -154,16 +154,16 @@ impl Table {
             .then(|| Claim { reference: self.references[number], place: &self.coordinates[number * self.d()..][..self.d()] })
     }
 
-    /// The node rooms in use, six numbers each: left claim and right claim plus one, the two far distances, the two rooms below plus
+    /// The nodes in use, six numbers each: left claim and right claim plus one, the two far distances, the two nodes below plus
     /// one; 0 is no claim and no room.
-    pub fn rooms(&self) -> &[u64] {
-        &self.rooms[..self.header.used * ROOM]
+    pub fn nodes(&self) -> &[u64] {
+        &self.nodes[..self.header.used * NODE]
     }
 
     /// Enters a run of claims, whole or not at all: a reference and d coordinates for each.
     ///
     /// Refused with [`Refusal::WrongLength`] and [`Refusal::OverCapacity`].
-    pub fn enter(&mut self, references: &[u32], places: &[i32]) -> Result<(), Refusal> {
+    pub fn enter(&mut self, references: &[u32], points: &[i32]) -> Result<(), Refusal> {
         // Safety: the table's memory is borrowed mutably, in three slices that do not overlap; the run is alive and only read.
         let entered = unsafe {
             raw::nearby_enter(
@@ -172,12 +172,12 @@ impl Table {
                 self.references.len(),
                 self.coordinates.as_mut_ptr(),
                 self.coordinates.len(),
-                self.rooms.as_mut_ptr(),
-                self.rooms.len(),
+                self.nodes.as_mut_ptr(),
+                self.nodes.len(),
                 references.as_ptr(),
                 references.len(),
-                places.as_ptr(),
-                places.len(),
+                points.as_ptr(),
+                points.len(),
             )
         };
         heeded(entered.refusal)?;

@@ -2,7 +2,7 @@
 
 mod common;
 
-use common::{places, Seeded, Style};
+use common::{drawn, Seeded, Style};
 use nearby::{Answer, Ask, ClaimLine, Item, Mark, Measure, Place, Refusal};
 
 // ---- an independent writer
@@ -147,7 +147,7 @@ fn read_all(line: &[u8]) {
 
 fn some_coordinates(from: &mut Seeded) -> Vec<i32> {
     let (style, d) = (from.pick(&[Style::Anywhere, Style::AtTheEnds, Style::Tied]), 1 + from.below(8));
-    places(from, style, d)
+    drawn(from, style, d)
 }
 
 fn some_mark(from: &mut Seeded) -> Mark {

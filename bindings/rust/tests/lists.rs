@@ -2,7 +2,7 @@
 
 mod common;
 
-use common::{enter, filled, places, Claims, Seeded, Style, STYLES};
+use common::{drawn, enter, filled, Claims, Seeded, Style, STYLES};
 use nearby::{Answer, List, Mark, Measure, Refusal, Table};
 
 /// The list is the first so many of the claims within reach that the table held at its snapshot, and all of them when complete.
@@ -56,7 +56,7 @@ fn one_day(from: &mut Seeded, measure: Measure, style: Style) {
     let (mut table, mut claims) = filled(from, measure, d, capacity, n, style);
     let mut lists: Vec<List> = (0..3)
         .map(|_| {
-            let probe = places(from, style, d);
+            let probe = drawn(from, style, d);
             let (reach, room) = (claims.some_reach(from, &probe), from.below(4));
             List::open(table.number(), measure, &probe, reach, room).unwrap()
         })

@@ -5,7 +5,7 @@ mod common;
 use std::sync::Arc;
 use std::thread;
 
-use common::{filled, places, Claims, Seeded, Style, STYLES};
+use common::{drawn, filled, Claims, Seeded, Style, STYLES};
 use nearby::{Ask, Item, Mark, Measure, Page, Place, Refusal, Table};
 
 const EVERYWHERE: u64 = u64::MAX;
@@ -36,7 +36,7 @@ fn page_as_sorted(table: &Table, claims: &Claims, probe: &[i32], reach: u64, pla
 fn nearest_and_farthest_are_those_of_a_sort() {
     on_tables(11, &[0, 1, 2, 7, 60], |from, table, claims, style| {
         for _ in 0..6 {
-            let probe = places(from, style, claims.d);
+            let probe = drawn(from, style, claims.d);
             let reach = claims.some_reach(from, &probe);
             let near = claims.near(&probe, reach, claims.all.len());
             assert_eq!(table.nearest(&probe, reach), Ok(near.first().copied()));
@@ -48,7 +48,7 @@ fn nearest_and_farthest_are_those_of_a_sort() {
 #[test]
 fn pages_to_the_end_are_the_sorted_claims() {
     on_tables(12, &[0, 1, 16, 17, 50], |from, table, claims, style| {
-        let probe = places(from, style, claims.d);
+        let probe = drawn(from, style, claims.d);
         let reach = claims.some_reach(from, &probe);
         let (size, mut place, mut seen) = (1 + from.below(16), Some(Place::Start), Vec::new());
         while let Some(at) = place {
@@ -64,7 +64,7 @@ fn pages_to_the_end_are_the_sorted_claims() {
 fn pages_after_any_mark_in_any_snapshot() {
     on_tables(13, &[0, 1, 5, 30], |from, table, claims, style| {
         for _ in 0..12 {
-            let probe = places(from, style, claims.d);
+            let probe = drawn(from, style, claims.d);
             let reach = claims.some_reach(from, &probe);
             let place = claims.some_place(from, &probe);
             let _ = page_as_sorted(table, claims, &probe, reach, place, 1 + from.below(16));
@@ -91,7 +91,7 @@ fn large_tables() {
     let from = &mut Seeded(15);
     for (round, style) in STYLES.into_iter().enumerate() {
         let (table, claims) = filled(from, Measure::ALL[round % 3], 2, 4096, 4096, style);
-        let probe = places(from, style, 2);
+        let probe = drawn(from, style, 2);
         let near = claims.near(&probe, EVERYWHERE, 4096);
         assert_eq!(table.nearest(&probe, EVERYWHERE), Ok(near.first().copied()));
         assert_eq!(table.farthest(&probe), Ok(claims.farthest(&probe)));
@@ -125,7 +125,7 @@ fn probes_and_sizes_amiss() {
 fn many_are_what_single_ones_are() {
     on_tables(17, &[0, 1, 6, 40], |from, table, claims, style| {
         let n = from.below(6);
-        let probes = places(from, style, n * claims.d);
+        let probes = drawn(from, style, n * claims.d);
         let each = || probes.chunks_exact(claims.d);
         let reaches: Vec<u64> = each().map(|probe| claims.some_reach(from, probe)).collect();
         let starts: Vec<Place> = each().map(|probe| claims.some_place(from, probe)).collect();
@@ -162,7 +162,7 @@ fn many_with_lengths_amiss() {
 fn some_asks(from: &mut Seeded, claims: &Claims, lines: usize) -> Vec<u8> {
     let mut asks = Vec::new();
     for _ in 0..lines {
-        let probe = places(from, Style::Tied, claims.d);
+        let probe = drawn(from, Style::Tied, claims.d);
         let ask = Ask {
             table: claims.number ^ u32::from(from.one_in(9)),
             measure: claims.measure,

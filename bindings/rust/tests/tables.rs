@@ -1,8 +1,8 @@
-//! Tables: what their rooms hold, runs, and parts that were damaged.
+//! Tables: what their nodes hold, runs, and parts that were damaged.
 
 mod common;
 
-use common::{filled, places, rooms, Seeded, Style, STYLES};
+use common::{drawn, filled, nodes, Seeded, Style, STYLES};
 use nearby::{Measure, Refusal, Table};
 
 #[test]
@@ -13,7 +13,7 @@ fn rooms_are_what_an_independent_builder_gives() {
             for style in STYLES {
                 for n in [0, 1, 2, 3, 9, 60] {
                     let (table, claims) = filled(from, measure, d, n + 1, n, style);
-                    assert_eq!(table.rooms(), rooms(&claims), "{measure:?} d {d} {style:?} n {n}");
+                    assert_eq!(table.nodes(), nodes(&claims), "{measure:?} d {d} {style:?} n {n}");
                 }
             }
         }
@@ -25,7 +25,7 @@ fn rooms_of_the_largest_tables() {
     let from = &mut Seeded(2);
     for (measure, style) in Measure::ALL.into_iter().zip(STYLES) {
         let (table, claims) = filled(from, measure, 3, 4096, 4096, style);
-        assert_eq!(table.rooms(), rooms(&claims));
+        assert_eq!(table.nodes(), nodes(&claims));
     }
 }
 
@@ -58,13 +58,13 @@ fn tables_out_of_range() {
 fn all_of_a_run_is_entered_or_nothing() {
     let from = &mut Seeded(4);
     let (mut table, claims) = filled(from, Measure::CityBlock, 2, 20, 18, Style::Tied);
-    let before = (table.clone().into_parts(), rooms(&claims));
+    let before = (table.clone().into_parts(), nodes(&claims));
     assert_eq!(table.enter(&[1, 2, 3], &[0; 6]), Err(Refusal::OverCapacity));
     assert_eq!(table.enter(&[1, 2], &[0; 3]), Err(Refusal::WrongLength));
     assert_eq!(table.enter(&[1, 2, 3], &[0; 5]), Err(Refusal::WrongLength));
     assert_eq!(table.enter(&[], &[0; 2]), Err(Refusal::WrongLength));
     assert_eq!(table.enter(&[], &[]), Ok(()));
-    assert_eq!((table.clone().into_parts(), table.rooms().to_vec()), before);
+    assert_eq!((table.clone().into_parts(), table.nodes().to_vec()), before);
     assert_eq!(table.enter(&[1, 2], &[0; 4]), Ok(()));
     assert_eq!(table.enter(&[1], &[0; 2]), Err(Refusal::OverCapacity));
     assert_eq!(table.enter(&[], &[]), Ok(()));
@@ -76,13 +76,13 @@ fn damaged_rooms_are_no_table() {
     for round in 0..40 {
         let (n, d) = (1 + from.below(20), 1 + from.below(8));
         let (table, _) = filled(from, Measure::ALL[round % 3], d, n + 2, n, STYLES[round % 4]);
-        let used = table.rooms().len();
-        let (header, references, coordinates, rooms) = table.into_parts();
-        for at in 0..rooms.len() {
-            let mut damaged = rooms.clone();
-            damaged[at] = from.pick(&[rooms[at] ^ 1, rooms[at].wrapping_sub(1), u64::MAX, rooms[at] ^ (1 << 40)]);
+        let used = table.nodes().len();
+        let (header, references, coordinates, nodes) = table.into_parts();
+        for at in 0..nodes.len() {
+            let mut damaged = nodes.clone();
+            damaged[at] = from.pick(&[nodes[at] ^ 1, nodes[at].wrapping_sub(1), u64::MAX, nodes[at] ^ (1 << 40)]);
             let made = Table::from_parts(header, references.clone(), coordinates.clone(), damaged.clone());
-            let expected = (at < used && damaged[at] != rooms[at]).then_some(Refusal::NotSound);
+            let expected = (at < used && damaged[at] != nodes[at]).then_some(Refusal::NotSound);
             assert_eq!(made.err(), expected, "number {at} of {used}");
         }
     }
@@ -96,9 +96,9 @@ fn moved_claims_are_a_table_only_where_the_tree_is_the_same() {
         let (table, mut claims) = filled(from, Measure::ALL[round % 3], d, n, n, STYLES[round % 4]);
         let (header, references, mut coordinates, own) = table.into_parts();
         let at = from.below(coordinates.len());
-        coordinates[at] = places(from, Style::Tied, 1)[0];
+        coordinates[at] = drawn(from, Style::Tied, 1)[0];
         claims.all[at / claims.d].1[at % claims.d] = coordinates[at];
-        let same = own.starts_with(&rooms(&claims)) && rooms(&claims).len() == header.used * 6;
+        let same = own.starts_with(&nodes(&claims)) && nodes(&claims).len() == header.used * 6;
         let made = Table::from_parts(header, references, coordinates, own);
         assert_eq!(made.err(), (!same).then_some(Refusal::NotSound));
     }
@@ -108,9 +108,9 @@ fn moved_claims_are_a_table_only_where_the_tree_is_the_same() {
 fn damaged_headers_and_short_memory_are_no_table() {
     let from = &mut Seeded(7);
     let (table, _) = filled(from, Measure::Hamming, 2, 10, 8, Style::Tied);
-    let (header, references, coordinates, rooms) = table.into_parts();
+    let (header, references, coordinates, nodes) = table.into_parts();
     let made = |header, r: usize, c: usize, m: usize| {
-        Table::from_parts(header, references[..r].to_vec(), coordinates[..c].to_vec(), rooms[..m].to_vec()).err()
+        Table::from_parts(header, references[..r].to_vec(), coordinates[..c].to_vec(), nodes[..m].to_vec()).err()
     };
     assert_eq!(made(header, 10, 20, 60), None);
     for (r, c, m) in [(9, 20, 60), (10, 19, 60), (10, 20, 59), (0, 0, 0)] {

@@ -7,7 +7,7 @@ use Rattle.paper.specs.Orders.{itemOf}
 use Rattle.paper.specs.Ends.{Listing}
 use Rattle.paper.specs.Codec.{lines}
 use Rattle.orders.proofs.Meaning.{listed-has}
-use Rattle.endlines.proofs.RealLines.{lawful}
+use Rattle.journey.proofs.RealLines.{lawful}
 use Rattle.journey.specs.World.{World, theList, Reachable, Later, Nowhere, Unshared}
 use Rattle.journey.specs.Promise.{allOf, Truthful, MayAsk, Answered, Grows}
 use Rattle.journey.proofs.AnyLines as any

@@ -19,11 +19,11 @@ use Rattle.paper.specs.Lines.{askKind, answerKind, spoken, askOrder, headOk, be
 use Rattle.paper.specs.declared.lines.Scope.{Scope}
 use Rattle.paper.specs.declared.orders.Order.{Order}
 use Rattle.paper.specs.declared.queries.Query as queries
-use Rattle.digits.proofs.NumbersAndFrames.{and-false, and-both, Bytes, bytes-append, bytes-be, length-be}
-use Rattle.fields.specs.Fronts.{Begun}
-use Rattle.fields.proofs.PartLaws.{HeadOk, is-head, length-front, bytes-front, length-head, bytes-head, length-coordBytes, bytes-coordBytes, length-coordsIn}
-use Rattle.fields.proofs.ItemLaws.{length-items, bytes-items}
-use Rattle.fields.proofs.Round.{behind-eq, take-slots}
+use Rattle.line_digits.proofs.NumbersAndFrames.{and-false, and-both, Bytes, bytes-append, bytes-be, length-be}
+use Rattle.line_fields.specs.Fronts.{Begun}
+use Rattle.line_fields.proofs.PartLaws.{HeadOk, is-head, length-front, bytes-front, length-head, bytes-head, length-coordBytes, bytes-coordBytes, length-coordsIn}
+use Rattle.line_fields.proofs.ItemLaws.{length-items, bytes-items}
+use Rattle.line_fields.proofs.Round.{behind-eq, take-slots}
 use Rattle.paper.specs.Limits.{mostPage}
 
 and-true : (t : Bool) → t && true ≡ t

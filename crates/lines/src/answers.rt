@@ -8,7 +8,7 @@ ghost use Rattle.paper.specs.Frames.{be, num, lineOf, written};
 ghost use Rattle.paper.specs.Fields.{scopeIn, itemBytes, itemNumbers, numbersOk};
 ghost use Rattle.paper.specs.Orders.{queryIn};
 ghost use Rattle.paper.specs.Lines.{Writes, bareLine, answerFrame, answerRanges, answerFits, answerOk, answerAt, noAnswer, readAsAnswer};
-ghost use Rattle.digits.specs.Places.{frameIn, overlaid};
+ghost use Rattle.line_digits.specs.Places.{frameIn, overlaid};
 ghost use Rattle.lines.specs.Kinds.{IsAnswer};
 ghost use Rattle.paper.specs.Limits.{longestAnswer, mostPage, mostCoordinates};
 use checks::answer_kind;
@@ -27,7 +27,7 @@ use paper::queries::Query;
 fn answer_ranges(p: Scope, last: u64, count: u64) -> bool
     ensures { λ r. ⌜ r ≡ answerRanges p last count ⌝ }
 {
-    if fields::scope_ok(p) {
+    if line_fields::scope_ok(p) {
         if 1 < last {
             return false;
         }
@@ -40,9 +40,9 @@ fn answer_ranges(p: Scope, last: u64, count: u64) -> bool
 fn answer_fits(q: Query, p: Scope, last: u8, count: u8, items: &[u64]) -> bool
     ensures { λ r. ⌜ r ≡ answerFits (queryIn q) p last count (now (items .entry)) ⌝ }
 {
-    if fields::query_fits(q) {
+    if line_fields::query_fits(q) {
         if answer_ranges(p, last as u64, count as u64) {
-            return fields::items_fit(items, count);
+            return line_fields::items_fit(items, count);
         }
     }
     false
@@ -53,9 +53,9 @@ fn put_tail(out: &mut [u8], at: usize, last: u8, count: u8, items: &[u64])
     requires { ⌜ (length (now items) ≡ 3 * count) × ((count ≤ mostPage) × (2 * (at + 2 + 14 * count) ≤ length (now out))) ⌝ }
     ensures { λ _. ⌜ now (out .exit) ≡ overlaid (now (out .entry)) at (be 1 last ++ (be 1 count ++ itemBytes (now (items .entry)))) ⌝ }
 {
-    digits::put(out, at, 1, last as u64);
-    digits::put(out, at + 1, 1, count as u64);
-    fields::put_items(out, at + 2, items, count as usize);
+    line_digits::put(out, at, 1, last as u64);
+    line_digits::put(out, at + 1, 1, count as u64);
+    line_fields::put_items(out, at + 2, items, count as usize);
 }
 
 // Writes the answer's line into a room that is large enough, and gives its length.
@@ -65,14 +65,14 @@ fn fill_answer(q: Query, p: Scope, last: u8, count: u8, items: &[u64], out: &mut
 {
     let d = q.d;
     let order = q.order;
-    fields::put_front(out, answer_kind(order), q, p);
+    line_fields::put_front(out, answer_kind(order), q, p);
     put_tail(out, 28 + 4 * d, last, count, items);
     let n = 60 + 8 * d + 28 * count as usize;
     out[n] = 10;
     n + 1
 }
 
-// [5.6] [9.14] Writes an answer: the front of 28 + 4d bytes (fields::put_front), then last (1), item count (1), and 14 for each item. Refusals
+// [5.6] [9.14] Writes an answer: the front of 28 + 4d bytes (line_fields::put_front), then last (1), item count (1), and 14 for each item. Refusals
 // 10, 12.
 pub fn write_answer(q: Query, p: Scope, last: u8, count: u8, items: &[u64], out: &mut [u8]) -> Wrote
     ensures { λ r. ⌜ Writes (bareLine (answerFits (queryIn q) p last count (now (items .entry))) longestAnswer (answerFrame (queryIn q) p last count (now (items .entry))) (length (now (out .entry)))) (now (out .entry)) r (now (out .exit)) ⌝ }
@@ -92,9 +92,9 @@ fn tail_ok(src: &[u8], at: usize, count: u64) -> bool
     requires { ⌜ (21 ≤ at) × (at + 2 + 14 * count ≤ length (frameIn (now src))) ⌝ }
     ensures { λ r. ⌜ r ≡ answerRanges (scopeIn (drop (at - 21) (frameIn (now (src .entry))))) (num 1 (drop at (frameIn (now (src .entry))))) count && numbersOk (itemNumbers count (drop (at + 2) (frameIn (now (src .entry))))) ⌝ }
 {
-    let p = fields::scope_at(src, at - 21);
-    if answer_ranges(p, digits::number(src, at, 1), count) {
-        return fields::numbers_ok(src, at + 2, count as usize);
+    let p = line_fields::scope_at(src, at - 21);
+    if answer_ranges(p, line_digits::number(src, at, 1), count) {
+        return line_fields::numbers_ok(src, at + 2, count as usize);
     }
     false
 }
@@ -103,16 +103,16 @@ fn tail_ok(src: &[u8], at: usize, count: u64) -> bool
 fn answer_ok(src: &[u8], kind: u8) -> bool
     ensures { λ r. ⌜ r ≡ answerOk kind (frameIn (now (src .entry))) ⌝ }
 {
-    let n = digits::size(src);
+    let n = line_digits::size(src);
     if n < 34 {
         return false;
     }
-    if fields::head_ok(src, kind) {
-        let at = 28 + 4 * digits::number(src, 6, 1) as usize;
+    if line_fields::head_ok(src, kind) {
+        let at = 28 + 4 * line_digits::number(src, 6, 1) as usize;
         if n < at + 2 {
             return false;
         }
-        let count = digits::number(src, at + 1, 1);
+        let count = line_digits::number(src, at + 1, 1);
         if n == at + 2 + 14 * count as usize {
             return tail_ok(src, at, count);
         }
@@ -124,15 +124,15 @@ fn answer_at(order: Order, src: &[u8]) -> Answer
     requires { ⌜ IsAnswer (frameIn (now src)) ⌝ }
     ensures { λ r. ⌜ r ≡ answerAt order (frameIn (now (src .entry))) ⌝ }
 {
-    let query = fields::query_at(order, src);
+    let query = line_fields::query_at(order, src);
     let at = 28 + 4 * query.d;
-    let scope = fields::scope_at(src, at - 21);
-    let count = digits::number(src, at + 1, 1);
-    let items = fields::items_at(src, at + 2, count as usize);
+    let scope = line_fields::scope_at(src, at - 21);
+    let count = line_digits::number(src, at + 1, 1);
+    let items = line_fields::items_at(src, at + 2, count as usize);
     Answer {
         query,
         scope,
-        last: digits::number(src, at, 1) as u8,
+        last: line_digits::number(src, at, 1) as u8,
         count: count as u8,
         items,
     }
@@ -156,7 +156,7 @@ pub fn read_answer(order: Order, line: &[u8]) -> AnswerRead
     ensures { λ r. ⌜ r ≡ readAsAnswer order (now (line .entry)) ⌝ }
 {
     let mut frame = [0u8; LONGEST_FRAME];
-    let n = digits::frame_of(line, &mut frame);
+    let n = line_digits::frame_of(line, &mut frame);
     if n == 0 {
         return no_answer(9);
     }

@@ -6,7 +6,7 @@ ghost use lib.ListN.{length};
 ghost use Rattle.paper.specs.Frames.{lineOf, written};
 ghost use Rattle.paper.specs.Lines.{Writes, bareLine, askFrame, askRanges, askFits, askOk, isAsk, askAt, noAsk, readAsAsk};
 ghost use Rattle.paper.specs.Orders.{queryIn};
-ghost use Rattle.digits.specs.Places.{frameIn};
+ghost use Rattle.line_digits.specs.Places.{frameIn};
 ghost use Rattle.paper.specs.Limits.{longestAsk, mostCoordinates};
 use checks::ask_kind;
 use checks::ask_order;
@@ -23,7 +23,7 @@ use paper::queries::Query;
 fn ask_ranges(p: Scope, size: u64) -> bool
     ensures { λ r. ⌜ r ≡ askRanges p size ⌝ }
 {
-    if fields::scope_ok(p) {
+    if line_fields::scope_ok(p) {
         if !size_holds(size as usize) {
             return false;
         }
@@ -39,7 +39,7 @@ fn ask_ranges(p: Scope, size: u64) -> bool
 fn ask_fits(q: Query, p: Scope, size: u8) -> bool
     ensures { λ r. ⌜ r ≡ askFits (queryIn q) p size ⌝ }
 {
-    if fields::query_fits(q) {
+    if line_fields::query_fits(q) {
         return ask_ranges(p, size as u64);
     }
     false
@@ -52,14 +52,14 @@ fn fill_ask(q: Query, p: Scope, size: u8, out: &mut [u8]) -> usize
 {
     let d = q.d;
     let order = q.order;
-    fields::put_front(out, ask_kind(order), q, p);
-    digits::put(out, 28 + 4 * d, 1, size as u64);
+    line_fields::put_front(out, ask_kind(order), q, p);
+    line_digits::put(out, 28 + 4 * d, 1, size as u64);
     let n = 58 + 8 * d;
     out[n] = 10;
     n + 1
 }
 
-// [5.5] [9.14] Writes an ask: the front of 28 + 4d bytes (fields::put_front), then the page size (1). Refusals 10, 12.
+// [5.5] [9.14] Writes an ask: the front of 28 + 4d bytes (line_fields::put_front), then the page size (1). Refusals 10, 12.
 pub fn write_ask(q: Query, p: Scope, size: u8, out: &mut [u8]) -> Wrote
     ensures { λ r. ⌜ Writes (bareLine (askFits (queryIn q) p size) longestAsk (askFrame (queryIn q) p size) (length (now (out .entry)))) (now (out .entry)) r (now (out .exit)) ⌝ }
 {
@@ -77,16 +77,16 @@ pub fn write_ask(q: Query, p: Scope, size: u8, out: &mut [u8]) -> Wrote
 fn is_kind(src: &[u8], kind: u8) -> bool
     ensures { λ r. ⌜ r ≡ askOk kind (frameIn (now (src .entry))) ⌝ }
 {
-    let n = digits::size(src);
+    let n = line_digits::size(src);
     if n < 33 {
         return false;
     }
-    if fields::head_ok(src, kind) {
-        let d = digits::number(src, 6, 1);
+    if line_fields::head_ok(src, kind) {
+        let d = line_digits::number(src, 6, 1);
         if n as u64 == 29 + 4 * d {
             let at = 7 + 4 * d as usize;
-            let p = fields::scope_at(src, at);
-            return ask_ranges(p, digits::number(src, at + 21, 1));
+            let p = line_fields::scope_at(src, at);
+            return ask_ranges(p, line_digits::number(src, at + 21, 1));
         }
     }
     false
@@ -96,10 +96,10 @@ fn is_kind(src: &[u8], kind: u8) -> bool
 pub fn ask_ok(src: &[u8]) -> bool
     ensures { λ r. ⌜ r ≡ isAsk (frameIn (now (src .entry))) ⌝ }
 {
-    if digits::size(src) == 0 {
+    if line_digits::size(src) == 0 {
         return false;
     }
-    let order = ask_order(fields::kind(src));
+    let order = ask_order(line_fields::kind(src));
     is_kind(src, ask_kind(order))
 }
 
@@ -108,14 +108,14 @@ pub fn ask_at(src: &[u8]) -> Ask
     requires { ⌜ isAsk (frameIn (now src)) ≡ true ⌝ }
     ensures { λ r. ⌜ r ≡ askAt (frameIn (now (src .entry))) ⌝ }
 {
-    let order = ask_order(fields::kind(src));
-    let query = fields::query_at(order, src);
+    let order = ask_order(line_fields::kind(src));
+    let query = line_fields::query_at(order, src);
     let at = 7 + 4 * query.d;
-    let scope = fields::scope_at(src, at);
+    let scope = line_fields::scope_at(src, at);
     Ask {
         query,
         scope,
-        size: digits::number(src, at + 21, 1) as u8,
+        size: line_digits::number(src, at + 21, 1) as u8,
     }
 }
 
@@ -135,7 +135,7 @@ pub fn read_ask(line: &[u8]) -> AskRead
     ensures { λ r. ⌜ r ≡ readAsAsk (now (line .entry)) ⌝ }
 {
     let mut frame = [0u8; LONGEST_FRAME];
-    let n = digits::frame_of(line, &mut frame);
+    let n = line_digits::frame_of(line, &mut frame);
     if n == 0 {
         return no_ask(9);
     }

@@ -5,7 +5,7 @@ ghost use Prim.Native.Nat.{_≤_};
 ghost use lib.ListN.{length};
 ghost use Rattle.paper.specs.Frames.{lineOf, written};
 ghost use Rattle.paper.specs.Lines.{Writes, bareLine, claimFrame, claimFits, claimOk, claimAt, noClaim, readAsClaim};
-ghost use Rattle.digits.specs.Places.{frameIn};
+ghost use Rattle.line_digits.specs.Places.{frameIn};
 ghost use Rattle.paper.specs.Limits.{longestClaim, mostCoordinates};
 use checks::in_range;
 use paper::limits::LONGEST_CLAIM;
@@ -37,9 +37,9 @@ fn fill_claim(
     requires { ⌜ (length (now coords) ≤ mostCoordinates) × (longestClaim ≤ length (now out)) ⌝ }
     ensures { λ r. ⌜ (r ≡ length (lineOf (claimFrame table measure d reference (now (coords .entry))))) × (now (out .exit) ≡ written (claimFrame table measure d reference (now (coords .entry))) (now (out .entry))) ⌝ }
 {
-    fields::put_head(out, ClaimLine::KIND, table, measure, d);
-    digits::put(out, 7, 4, reference as u64);
-    fields::put_coords(out, 11, coords);
+    line_fields::put_head(out, ClaimLine::KIND, table, measure, d);
+    line_digits::put(out, 7, 4, reference as u64);
+    line_fields::put_coords(out, 11, coords);
     let n = 22 + 8 * coords.len();
     out[n] = 10;
     n + 1
@@ -70,12 +70,12 @@ pub fn write_claim(
 pub fn claim_ok(src: &[u8]) -> bool
     ensures { λ r. ⌜ r ≡ claimOk (frameIn (now (src .entry))) ⌝ }
 {
-    let n = digits::size(src);
+    let n = line_digits::size(src);
     if n < 15 {
         return false;
     }
-    if fields::head_ok(src, ClaimLine::KIND) {
-        return n as u64 == 11 + 4 * digits::number(src, 6, 1);
+    if line_fields::head_ok(src, ClaimLine::KIND) {
+        return n as u64 == 11 + 4 * line_digits::number(src, 6, 1);
     }
     false
 }
@@ -85,13 +85,13 @@ pub fn claim_at(src: &[u8]) -> ClaimLine
     requires { ⌜ claimOk (frameIn (now src)) ≡ true ⌝ }
     ensures { λ r. ⌜ r ≡ claimAt (frameIn (now (src .entry))) ⌝ }
 {
-    let d = digits::number(src, 6, 1);
-    let coordinates = fields::coords_at(src, 11, d as usize);
+    let d = line_digits::number(src, 6, 1);
+    let coordinates = line_fields::coords_at(src, 11, d as usize);
     ClaimLine {
-        table: digits::number(src, 1, 4) as u32,
-        measure: digits::number(src, 5, 1) as u8,
+        table: line_digits::number(src, 1, 4) as u32,
+        measure: line_digits::number(src, 5, 1) as u8,
         d: d as u8,
-        reference: digits::number(src, 7, 4) as u32,
+        reference: line_digits::number(src, 7, 4) as u32,
         coordinates,
     }
 }
@@ -114,7 +114,7 @@ pub fn read_claim(line: &[u8]) -> ClaimRead
     ensures { λ r. ⌜ r ≡ readAsClaim (now (line .entry)) ⌝ }
 {
     let mut frame = [0u8; LONGEST_FRAME];
-    let n = digits::frame_of(line, &mut frame);
+    let n = line_digits::frame_of(line, &mut frame);
     if n == 0 {
         return no_claim(9);
     }

@@ -19,11 +19,11 @@ use Rattle.paper.specs.Lists.{Takes, Held, listing, roomFor, heldWell, soundHel
 use Rattle.paper.specs.Codec.{lines}
 use Rattle.paper.specs.Calls.{tableRefusal, aimed, nearestShown, officeCall}
 use Rattle.paper.specs.Lines.{Writes}
-use Rattle.desk.specs.Desk.{Open}
+use Rattle.end_office.specs.Desk.{Open}
 use Rattle.lines.proofs.WritersReaders.{writes-refused}
 use Rattle.paper.proofs.Outcomes.{must-stop, must-go}
-use Rattle.tablet.proofs.TakeLaws.{takes-refused}
-use Rattle.tested.proofs.TableLaws.{table-refused, table-good, table-goes, aim-stops, aim-goes}
+use Rattle.end_tablet.proofs.TakeLaws.{takes-refused}
+use Rattle.walk_tested.proofs.TableLaws.{table-refused, table-good, table-goes, aim-stops, aim-goes}
 use Rattle.paper.specs.Limits.{longestAnswer}
 
 -- ---- [9.7] nearest and farthest

@@ -19,7 +19,7 @@ use Rattle.paper.proofs.Outcomes.{must-stop, must-go, number-is, promise-refuse
 use Rattle.tree.specs.Soundness.{Good}
 use Rattle.tree.proofs.TestedTables.{good-used}
 use Rattle.tree.proofs.RunLaws.{zero-enters, enters-gives}
-use Rattle.tested.proofs.TableLaws.{fit-stops, fit-goes, table-refused, table-good, table-goes}
+use Rattle.walk_tested.proofs.TableLaws.{fit-stops, fit-goes, table-refused, table-good, table-goes}
 
 -- ---- [9.4] making
 

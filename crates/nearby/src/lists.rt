@@ -16,28 +16,28 @@ pub fn open_list(table: u32, measure: u8, d: usize, probe: &[i32], reach: u64) -
     ensures { λ r. ⌜ r ≡ openedShown (openingHeld (record { order = Near; table = table; measure = measure; d = d; probe = now (probe .entry); reach = reach })) ⌝ }
 {
     let near = Order::Near;
-    tablet::open_list(near, table, measure, d, probe, reach)
+    end_tablet::open_list(near, table, measure, d, probe, reach)
 }
 
 // [9.12] Refusals 2, 16, 6, 12.
 pub fn write_ask(l: List, room: &[u64], size: usize, out: &mut [u8]) -> Wrote
     ensures { λ r. ⌜ Writes (askingHeld lines (held l (now (room .entry))) size (length (now (out .entry)))) (now (out .entry)) r (now (out .exit)) ⌝ }
 {
-    if !tablet::is_sound(l, room) {
+    if !end_tablet::is_sound(l, room) {
         return Wrote::Refused(2);
     }
-    tablet::write_ask(l, room, size, out)
+    end_tablet::write_ask(l, room, size, out)
 }
 
 // [9.13] Refusals 2, 9, 10, 16, 13, 14, 15.
 pub fn take(l: List, room: &mut [u64], line: &[u8]) -> Taken
     ensures { λ r. ⌜ Takes l (takingHeld lines (held l (now (room .entry))) (now (line .entry))) (now (room .entry)) r (now (room .exit)) ⌝ }
 {
-    if !tablet::is_sound(l, room) {
+    if !end_tablet::is_sound(l, room) {
         return Taken {
             refusal: 2,
             list: l,
         };
     }
-    tablet::take_line(l, room, line)
+    end_tablet::take_line(l, room, line)
 }

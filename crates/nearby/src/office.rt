@@ -26,5 +26,5 @@ pub fn answer(
     if why != 0 {
         return Wrote::Refused(why);
     }
-    desk::answer_line(t, references, coordinates, nodes, line, out)
+    end_office::answer_line(t, references, coordinates, nodes, line, out)
 }

@@ -82,7 +82,7 @@ pub fn page(
         return Page::Refused(6);
     }
     let near = Order::Near;
-    tested::page_here(
+    walk_tested::page_here(
         t,
         references,
         coordinates,

@@ -48,7 +48,7 @@ pub extern "C" fn nearby_write_ask_line(
         return line_of(Wrote::Refused(10));
     }
     let near = Order::Near;
-    let query = fields::query_of(near, table, measure, d as usize, probe, p.reach);
+    let query = line_fields::query_of(near, table, measure, d as usize, probe, p.reach);
     let scope = scope_in(p);
     let wrote = nearby::write_ask_line(query, scope, size, out);
     line_of(wrote)
@@ -73,7 +73,7 @@ pub extern "C" fn nearby_write_answer_line(
         return line_of(Wrote::Refused(10));
     }
     let near = Order::Near;
-    let query = fields::query_of(near, table, measure, d as usize, probe, p.reach);
+    let query = line_fields::query_of(near, table, measure, d as usize, probe, p.reach);
     let scope = scope_in(p);
     let wrote = nearby::write_answer_line(query, scope, last, count, items, out);
     line_of(wrote)

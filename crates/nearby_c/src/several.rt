@@ -2,11 +2,11 @@
 ghost use Rattle.paper.specs.Outcomes.{number};
 ghost use Rattle.paper.specs.Outcomes as Outcomes;
 ghost use Rattle.paper.specs.Tree.{lent};
-ghost use Rattle.many.specs.Rows.{instead};
-ghost use Rattle.many.specs.Many.{nearestEach, farthestEach};
-ghost use Rattle.many.specs.Pages.{bothRooms, pagesEach};
-ghost use Rattle.batch.specs.Batch.{batchCall, twoRooms, AnswersAll};
-use batch::Answered;
+ghost use Rattle.nearby_many.specs.Rows.{instead};
+ghost use Rattle.nearby_many.specs.Many.{nearestEach, farthestEach};
+ghost use Rattle.nearby_many.specs.Pages.{bothRooms, pagesEach};
+ghost use Rattle.nearby_batch.specs.Batch.{batchCall, twoRooms, AnswersAll};
+use nearby_batch::Answered;
 use paper::tables::Table;
 
 // [9.16] Refusals 1, 2, 5, 12.
@@ -22,7 +22,7 @@ pub extern "C" fn nearby_many_nearest(
 ) -> u8
     ensures { λ r. ⌜ Outcomes.Promise number instead (nearestEach (lent t (references .entry) (coordinates .entry) (nodes .entry)) (now (probes .entry)) (now (reaches .entry)) (now (out .entry))) (now (out .entry)) r (now (out .exit)) ⌝ }
 {
-    many::nearest_each(t, references, coordinates, nodes, probes, reaches, out)
+    nearby_many::nearest_each(t, references, coordinates, nodes, probes, reaches, out)
 }
 
 // [9.16] Refusals 1, 2, 5, 12.
@@ -38,7 +38,7 @@ pub extern "C" fn nearby_many_farthest(
 ) -> u8
     ensures { λ r. ⌜ Outcomes.Promise number instead (farthestEach (lent t (references .entry) (coordinates .entry) (nodes .entry)) (now (probes .entry)) n (now (out .entry))) (now (out .entry)) r (now (out .exit)) ⌝ }
 {
-    many::farthest_each(t, references, coordinates, nodes, probes, n, out)
+    nearby_many::farthest_each(t, references, coordinates, nodes, probes, n, out)
 }
 
 // [9.17] Refusals 1, 2, 5, 6, 12; and 7, 8 of each question.
@@ -57,7 +57,7 @@ pub extern "C" fn nearby_many_pages(
 ) -> u8
     ensures { λ r. ⌜ Outcomes.Promise number instead (pagesEach (lent t (references .entry) (coordinates .entry) (nodes .entry)) (now (probes .entry)) (now (reaches .entry)) (now (places .entry)) size (bothRooms (now (outcomes .entry)) (now (items .entry)))) (bothRooms (now (outcomes .entry)) (now (items .entry))) r (bothRooms (now (outcomes .exit)) (now (items .exit))) ⌝ }
 {
-    many::pages_each(
+    nearby_many::pages_each(
         t,
         references,
         coordinates,
@@ -84,5 +84,5 @@ pub extern "C" fn nearby_many_answers(
 ) -> Answered
     ensures { λ r. ⌜ AnswersAll (batchCall (lent t (references .entry) (coordinates .entry) (nodes .entry)) (now (asks .entry)) (now (outcomes .entry)) (now (out .entry))) (twoRooms (now (outcomes .entry)) (now (out .entry))) r (twoRooms (now (outcomes .exit)) (now (out .exit))) ⌝ }
 {
-    batch::answer_all(t, references, coordinates, nodes, asks, outcomes, out)
+    nearby_batch::answer_all(t, references, coordinates, nodes, asks, outcomes, out)
 }

@@ -1,4 +1,4 @@
 // The office program: reads claim and ask lines, and writes the answers.
 fn main() {
-    stream::office();
+    office_stream::office();
 }

@@ -26,8 +26,8 @@ use Rattle.paper.specs.Calls.{tableQuery}
 use Rattle.tree.specs.Soundness.{Good}
 use Rattle.tree.proofs.TestedTables.{lent-located, good-tree}
 use Rattle.tree.proofs.Places.{located-at, claims-length}
-use Rattle.keep.specs.declared.Asked.{Asked}
-use Rattle.keep.specs.Skips.{admitted}
+use Rattle.walk_keep.specs.declared.Asked.{Asked}
+use Rattle.walk_keep.specs.Skips.{admitted}
 use Rattle.walk.specs.Walking.{distOf, distBy, InSight, PageAsk, AskFilled}
 use Rattle.walk.specs.Asking.{askedOf, Measurable, Answerable, Pageable, Markable, Fills, PageIs}
 use Rattle.orders.proofs.Rooms.{flat-length}

@@ -21,10 +21,10 @@ use Rattle.paper.specs.Orders.{insert as put}
 use Rattle.paper.specs.Tree.{claimsFrom, referenceAt}
 use Rattle.paper.specs.Calls.{tableQuery}
 use Rattle.tree.proofs.Places.{claims-length}
-use Rattle.keep.specs.Page.{ranks, sooner, insertBy, sortedOf, firstSorted, items, Filled}
-use Rattle.keep.specs.Kept.{key, RisingClaims, none, more}
-use Rattle.keep.proofs.Keeping.{sooner-true, sooner-false, key-sooner, key-differs, scan-rising}
-use Rattle.keep.proofs.Placing.{before-ranks}
+use Rattle.walk_keep.specs.Page.{ranks, sooner, insertBy, sortedOf, firstSorted, items, Filled}
+use Rattle.walk_keep.specs.Kept.{key, RisingClaims, none, more}
+use Rattle.walk_keep.proofs.Keeping.{sooner-true, sooner-false, key-sooner, key-differs, scan-rising}
+use Rattle.walk_keep.proofs.Placing.{before-ranks}
 use Rattle.walk.specs.Walking.{distOf}
 use Rattle.walk.specs.Asking.{Fills}
 use Rattle.orders.proofs.Sorted.{rest-insert}

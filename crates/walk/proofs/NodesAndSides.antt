@@ -13,12 +13,12 @@ use Rattle.paper.specs.Orders.{rank}
 use Rattle.paper.specs.Tree.{fieldAt, referenceAt}
 use Rattle.tree.proofs.Places.{located-at}
 use Rattle.tree.specs.Rooms.{Linked, Under, here, deeper, Holds, Searchable}
-use Rattle.keep.specs.declared.Asked.{Asked}
-use Rattle.keep.specs.Page.{items, sortedOf, firstSorted}
-use Rattle.keep.specs.Kept.{none, PageRoomy, KeepIs}
-use Rattle.keep.specs.Skips.{admitted, capOf, boundOf, beyondOf, passedOf}
-use Rattle.keep.proofs.Keeping.{all-are-first}
-use Rattle.keep.proofs.Walks.{walked-still, walked-then, walked-fewer, step-taken, step-passed, beyond-wanted}
+use Rattle.walk_keep.specs.declared.Asked.{Asked}
+use Rattle.walk_keep.specs.Page.{items, sortedOf, firstSorted}
+use Rattle.walk_keep.specs.Kept.{none, PageRoomy, KeepIs}
+use Rattle.walk_keep.specs.Skips.{admitted, capOf, boundOf, beyondOf, passedOf}
+use Rattle.walk_keep.proofs.Keeping.{all-are-first}
+use Rattle.walk_keep.proofs.Walks.{walked-still, walked-then, walked-fewer, step-taken, step-passed, beyond-wanted}
 use Rattle.walk.specs.Walking.{distBy, InSight, apartBy, okBy, rankBy, Metric, Below, InOrBelow, wayDown, AskWalked, Stepped, Readable, WayAsk, NodeAsk, SideAsk, PageAsk, AskFilled}
 use Rattle.walk.proofs.Skipping.{metric, rank-there, rank-back, rank-between, beyond-skips, passed-skips, ask-capped}
 

@@ -14,8 +14,8 @@ use Rattle.paper.specs.Points.{distance}
 use Rattle.paper.specs.Orders.{rank, before}
 use Rattle.paper.specs.Tree.{apart}
 use Rattle.measure.proofs.Metric.{distance-sym, distance-triangle}
-use Rattle.keep.specs.declared.Asked.{Asked}
-use Rattle.keep.specs.Skips.{admitted, capOf, halfOf, beyondOf, passedOf}
+use Rattle.walk_keep.specs.declared.Asked.{Asked}
+use Rattle.walk_keep.specs.Skips.{admitted, capOf, halfOf, beyondOf, passedOf}
 use Rattle.paper.proofs.Tests.{no-way}
 use Rattle.walk.specs.Walking.{distOf, distBy, apartBy, rankBy, Metric}
 

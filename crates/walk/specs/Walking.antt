@@ -1,4 +1,4 @@
--- What the walk of a room and of a side ask and give. Definitions only.
+-- What the walk of a node and of a side ask and give. Definitions only.
 use Prim.Native.Nat.{ℕ, _+_, _-_, _*_, _<_, _≤_}
 use mathlib.Core.Path.{_≡_}
 use mathlib.Core.Bool.{Bool, cond}
@@ -8,10 +8,10 @@ use lib.ListN.{length, drop}
 use Rattle.paper.specs.Points.{measureOf, distance}
 use Rattle.paper.specs.Tree.{fieldAt, apart, referenceAt}
 use Rattle.tree.specs.Rooms.{Inside, Holds, Searchable, Neartree, Located}
-use Rattle.keep.specs.declared.Asked.{Asked}
-use Rattle.keep.specs.Page.{ranks, Filled}
-use Rattle.keep.specs.Kept.{PageRoomy, Walked}
-use Rattle.keep.specs.Skips.{admitted, boundOf, beyondOf, passedOf}
+use Rattle.walk_keep.specs.declared.Asked.{Asked}
+use Rattle.walk_keep.specs.Page.{ranks, Filled}
+use Rattle.walk_keep.specs.Kept.{PageRoomy, Walked}
+use Rattle.walk_keep.specs.Skips.{admitted, boundOf, beyondOf, passedOf}
 use Rattle.paper.specs.Limits.{mostCoordinates}
 
 -- how far claim k is from the probe
@@ -45,7 +45,7 @@ pub record Metric (e : ℕ → ℕ → ℕ) (dist : ℕ → ℕ) : Type 0 where
   pub back : (k j : ℕ) → dist j ≤ e k j + dist k
   pub between : (k j : ℕ) → e k j ≤ dist k + dist j
 
--- a claim below side s of room m, where k is the side's claim
+-- a claim below side s of node m, where k is the side's claim
 pub record Below (nodes : List ℕ) (e : ℕ → ℕ → ℕ) (m s k j : ℕ) : Type 0 where
   pub near : e k j ≤ fieldAt nodes m (2 + s)
   pub beside : fieldAt nodes m (1 - s) ≡ 0 → ⊥
@@ -54,12 +54,12 @@ pub record Below (nodes : List ℕ) (e : ℕ → ℕ → ℕ) (m s k j : ℕ) : 
   pub leads : fieldAt nodes m (4 + s) ≡ room + 1
   pub holds : Holds nodes e room j
 
--- a claim in or below room `way` less one; none where `way` is 0
+-- a claim in or below node `way` less one; none where `way` is 0
 pub record InOrBelow (nodes : List ℕ) (e : ℕ → ℕ → ℕ) (way j : ℕ) : Type 0 where
   pub some : way ≡ 0 → ⊥
   pub holds : Holds nodes e (way - 1) j
 
--- [4.11] the room below side s of room m, plus one, or 0 where all below comes before the mark or is beyond what is still wanted: the
+-- [4.11] the node below side s of node m, plus one, or 0 where all below comes before the mark or is beyond what is still wanted: the
 -- side's claim is at rank x, the other side's at rank y
 unfoldable pub wayDown : List ℕ → Asked → ℕ → ℕ → ℕ → ℕ → List ℕ → ℕ → ℕ
 wayDown nodes ask m s x y o count =
@@ -87,13 +87,13 @@ pub record StepAsk (ask : Asked) (references : List ℕ) (k : ℕ) (o : List ℕ
   pub named : ask .claims ≤ length references
   pub roomy : PageRoomy (ask .size) o count
 
--- what the walk of room m asks
+-- what the walk of node m asks
 pub record NodeAsk (references : List ℕ) (coordinates : List ℤ) (nodes : List ℕ) (probe : List ℤ) (ask : Asked) (m : ℕ) (o : List ℕ) (count : ℕ) : Type 0 where
   pub walk : Searchable nodes (ask .used) (ask .claims) m
   pub lent : Readable ask references coordinates probe
   pub roomy : PageRoomy (ask .size) o count
 
--- what the tests of side s of room m ask
+-- what the tests of side s of node m ask
 pub record WayAsk (nodes : List ℕ) (ask : Asked) (m s : ℕ) (o : List ℕ) (count : ℕ) : Type 0 where
   pub which : s < 2
   pub inside : Inside nodes m

@@ -10,7 +10,6 @@ ghost use Rattle.paper.specs.Calls.{tableQuery};
 ghost use Rattle.walk.specs.Asking.{askedOf, Answerable, Pageable, Markable, Fills, PageIs};
 use super::walking::from_probe;
 use super::walking::page;
-use keep::Asked;
 use paper::orders::Found;
 use paper::orders::Mark;
 use paper::orders::Order;
@@ -18,6 +17,7 @@ use paper::orders::Paged;
 use paper::orders::Place;
 use paper::points::Measure;
 use paper::tables::Table;
+use walk_keep::Asked;
 
 // [4.4] [4.5] The question as the walk asks it.
 fn asked(t: Table, order: Order, reach: u64, place: Place, size: usize) -> Asked

@@ -2,9 +2,9 @@
 ghost use mathlib.Core.Path.{_≡_};
 ghost use Rattle.tree.specs.Rooms.{Holds};
 ghost use Rattle.walk.specs.Walking.{distOf, distBy, InSight, apartBy, wayDown, WayAsk, InOrBelow, AskWalked, Stepped, StepAsk, NodeAsk, SideAsk, PageAsk, AskFilled};
-use keep::Asked;
 use tree::nodes::field;
 use tree::rows::reference;
+use walk_keep::Asked;
 
 // How far claim k is from the probe.
 pub fn from_probe(measure: u8, d: usize, coordinates: &[i32], probe: &[i32], k: u64) -> u64
@@ -19,15 +19,15 @@ fn consider(references: &[u32], ask: Asked, k: u64, x: u64, room: &mut [u64], co
     requires { ⌜ StepAsk ask (now references) k (now room) count ⌝ }
     ensures { λ r. ⌜ Stepped ask (now (references .entry)) k x (now (room .entry)) count (now (room .exit)) r ⌝ }
 {
-    if keep::admits(ask, x, k) {
+    if walk_keep::admits(ask, x, k) {
         let order = ask.order;
         let y = reference(references, k as usize);
-        return keep::keep(order, ask.size, room, count, k, y, x);
+        return walk_keep::keep(order, ask.size, room, count, k, y, x);
     }
     count
 }
 
-// [4.11] The room to go to below side s of room m, plus one, or 0 where nothing below it can change the answer. The side's claim is at
+// [4.11] The node to go to below side s of node m, plus one, or 0 where nothing below it can change the answer. The side's claim is at
 // rank x, the other side's at rank y.
 fn way_down(
     nodes: &[u64],
@@ -47,18 +47,18 @@ fn way_down(
         return 0;
     }
     let far = field(nodes, m, 2 + s);
-    if keep::passed(ask, x, far) {
+    if walk_keep::passed(ask, x, far) {
         return 0;
     }
     let order = ask.order;
-    let bound = keep::wanted(ask, room, count);
-    if keep::beyond(order, bound, x, y, s, far) {
+    let bound = walk_keep::wanted(ask, room, count);
+    if walk_keep::beyond(order, bound, x, y, s, far) {
         return 0;
     }
     below
 }
 
-// [4.10] The claims on and below the two sides of room m, the side that ranks first before the other.
+// [4.10] The claims on and below the two sides of node m, the side that ranks first before the other.
 fn node(
     references: &[u32],
     coordinates: &[i32],
@@ -97,7 +97,7 @@ fn node(
     side(references, coordinates, nodes, probe, ask, way, room, three)
 }
 
-// [4.10] The claims below a side, where `way` is the room below it plus one, or 0 where none of them can change the answer. The tests
+// [4.10] The claims below a side, where `way` is the node below it plus one, or 0 where none of them can change the answer. The tests
 // are made before the call: so short a function is compiled into `node`, and a level of the tree takes the stack of one call, not of two.
 fn side(
     references: &[u32],

@@ -41,7 +41,7 @@ pub enum Style {
 
 pub const STYLES: [Style; 4] = [Style::Tied, Style::Anywhere, Style::Alike, Style::AtTheEnds];
 
-pub fn places(from: &mut Seeded, style: Style, n: usize) -> Vec<i32> {
+pub fn drawn(from: &mut Seeded, style: Style, n: usize) -> Vec<i32> {
     (0..n)
         .map(|_| match style {
             Style::Tied => from.below(5) as i32 - 2,
@@ -140,7 +140,7 @@ pub fn filled(from: &mut Seeded, measure: Measure, d: usize, capacity: usize, n:
 
 pub fn enter(from: &mut Seeded, table: &mut Table, claims: &mut Claims, n: usize, style: Style) {
     let references: Vec<u32> = (0..n).map(|_| from.next() as u32).collect();
-    let run = places(from, style, n * claims.d);
+    let run = drawn(from, style, n * claims.d);
     table.enter(&references, &run).unwrap();
     claims.all.extend(references.into_iter().zip(run.chunks(claims.d).map(<[i32]>::to_vec)));
 }
@@ -154,8 +154,8 @@ struct Node {
     below: [Option<Box<Node>>; 2],
 }
 
-/// The rooms that entering the claims one by one gives.
-pub fn rooms(claims: &Claims) -> Vec<u64> {
+/// The nodes that entering the claims one by one gives.
+pub fn nodes(claims: &Claims) -> Vec<u64> {
     let (mut root, mut used) = (None, 0);
     for claim in 0..claims.all.len() {
         let mut here: &mut Option<Box<Node>> = &mut root;

@@ -1,7 +1,7 @@
 use Prim.Native.Nat.{_+_}
 use native.Mathlib.Omega.{arith}
 use mathlib.Core.Path.{sym, _∙_}
-use Rattle.fields.proofs.PartLaws.{over-be}
+use Rattle.line_fields.proofs.PartLaws.{over-be}
 use borrow.Author.Needs.{needs}
 use Rattle.lines.proofs.answers.put_tail.Statement.{statement}
 use Rattle.lines.proofs.answers.put_tail.Tie as tie

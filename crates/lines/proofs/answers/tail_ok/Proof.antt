@@ -1,5 +1,5 @@
 use native.Mathlib.Omega.{arith}
-use Rattle.digits.proofs.NumbersAndFrames.{held-le}
+use Rattle.line_digits.proofs.NumbersAndFrames.{held-le}
 use borrow.Author.Needs.{needs}
 use Rattle.lines.proofs.answers.tail_ok.Statement.{statement}
 use Rattle.lines.proofs.answers.tail_ok.Tie as tie

@@ -4,9 +4,9 @@ use mathlib.Core.Path.{_≡_, sym, _∙_}
 use lib.ListN.{length, length-set}
 use Rattle.paper.specs.Fields.{head}
 use Rattle.paper.specs.Lines.{claimFrame}
-use Rattle.digits.specs.Places.{overlaid}
-use Rattle.digits.proofs.NumbersAndFrames.{length-line}
-use Rattle.fields.proofs.PartLaws.{over-be, over-to, length-head}
+use Rattle.line_digits.specs.Places.{overlaid}
+use Rattle.line_digits.proofs.NumbersAndFrames.{length-line}
+use Rattle.line_fields.proofs.PartLaws.{over-be, over-to, length-head}
 use Rattle.lines.proofs.WritersReaders.{finish}
 use Rattle.lines.proofs.Tests.{length-claim}
 use borrow.Author.Needs.{needs}

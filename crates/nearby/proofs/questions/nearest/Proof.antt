@@ -4,7 +4,7 @@ use Rattle.paper.specs.Orders.{nearestOf}
 use Rattle.paper.specs.Tree.{store, claimsIn}
 use Rattle.paper.specs.Calls.{tableQuery, nearestCall}
 use Rattle.walk.proofs.Answers.{good-answerable}
-use Rattle.tested.proofs.TableLaws.{table-good}
+use Rattle.walk_tested.proofs.TableLaws.{table-good}
 use Rattle.nearby.proofs.QuestionsAndLists.{ask-refused, ask-5, ask-answered}
 use borrow.Author.Needs.{needs}
 use Rattle.nearby.proofs.questions.nearest.Statement.{statement}

@@ -2,7 +2,7 @@
 use lib.ListN.{length}
 use Rattle.paper.specs.declared.orders.Order.the-variants.{Near}
 use Rattle.paper.specs.Tree.{store}
-use Rattle.tested.proofs.PageLaws.{page-refused, page-5, page-6, page-askable, page-tells}
+use Rattle.walk_tested.proofs.PageLaws.{page-refused, page-5, page-6, page-askable, page-tells}
 use borrow.Author.Needs.{needs}
 use Rattle.nearby.proofs.questions.page.Statement.{statement}
 use Rattle.nearby.proofs.questions.page.Tie as tie

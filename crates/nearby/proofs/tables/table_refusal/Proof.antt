@@ -1,5 +1,5 @@
 -- `nearby::tables::table_refusal` meets its contract: 1, then 2. Assumes nothing.
-use Rattle.tested.proofs.TableLaws.{table-1, table-2, table-0, fit-lent}
+use Rattle.walk_tested.proofs.TableLaws.{table-1, table-2, table-0, fit-lent}
 use borrow.Author.Needs.{needs}
 use Rattle.nearby.proofs.tables.table_refusal.Statement.{statement}
 use Rattle.nearby.proofs.tables.table_refusal.Tie as tie

@@ -1,2 +1,0 @@
--- What a world enters, and what the call enters.
-pub mod Entering

@@ -1,0 +1,69 @@
+// Numbers of up to 8 bytes in a line, and signed numbers as patterns.
+ghost use mathlib.Core.Path.{_≡_};
+ghost use Prim.Native.Nat.{_+_, _*_, _≤_};
+ghost use lib.ListN.{length};
+ghost use mir.Syntax.{w32};
+ghost use mir.Val.{ofZ, toZ};
+ghost use Rattle.paper.specs.Frames.{be};
+ghost use Rattle.line_digits.specs.Places.{overlaid, frameIn, Field};
+use crate::hex::glyph;
+
+// [5.2] Writes n in w bytes, as digits, at byte `at` of the line that `out` holds.
+pub fn put(out: &mut [u8], at: usize, w: usize, n: u64)
+    requires { ⌜ 2 * (at + w) ≤ length (now out) ⌝ }
+    ensures { λ _. ⌜ now (out .exit) ≡ overlaid (now (out .entry)) at (be w n) ⌝ }
+{
+    let mut i = w;
+    let mut rest = n;
+    while 0 < i {
+        i -= 1;
+        let b = rest % 256;
+        let k = 2 * (at + i);
+        out[k] = glyph(b / 16);
+        out[k + 1] = glyph(b % 16);
+        rest = rest / 256;
+    }
+}
+
+// How many bytes the frame has that `src` holds.
+pub fn size(src: &[u8]) -> usize
+    ensures { λ r. ⌜ r ≡ length (frameIn (now (src .entry))) ⌝ }
+{
+    src.len()
+}
+
+// [5.2] The number in the w bytes from byte `at` on of the frame that `src` holds.
+pub fn number(src: &[u8], at: usize, w: usize) -> u64
+    requires { ⌜ (at + w ≤ length (frameIn (now src))) × (w ≤ 8) ⌝ }
+    ensures { λ r. ⌜ Field (now (src .entry)) at w r ⌝ }
+{
+    let mut acc: u64 = 0;
+    let mut i = 0;
+    while i < w {
+        acc = acc * 256 + src[at + i] as u64;
+        i += 1;
+    }
+    acc
+}
+
+// [5.3] A signed number's pattern in two's complement.
+pub fn pattern(x: i32) -> u32
+    ensures { λ r. ⌜ r ≡ ofZ w32 x ⌝ }
+{
+    if x < 0 {
+        (x as i64 + 4294967296) as u32
+    } else {
+        x as u32
+    }
+}
+
+// [5.3] The signed number of a pattern.
+pub fn signed(n: u32) -> i32
+    ensures { λ r. ⌜ r ≡ toZ w32 n ⌝ }
+{
+    if n < 2147483648 {
+        n as i32
+    } else {
+        (n as i64 - 4294967296) as i32
+    }
+}

@@ -1,0 +1,137 @@
+// The head, coordinates, the scope, and what an ask and an answer begin with.
+ghost use mathlib.Core.Path.{_≡_};
+ghost use Prim.Native.Nat.{_+_, _*_, _≤_};
+ghost use lib.ListN.{length, drop};
+ghost use Rattle.paper.specs.Frames.{num};
+ghost use Rattle.paper.specs.Fields.{head, coordBytes, coordsIn, inSlots, scopeBytes, scopeIn, scopeOk};
+ghost use Rattle.paper.specs.Fields.{front as Fields·front};
+ghost use Rattle.paper.specs.Orders.{queryIn};
+ghost use Rattle.paper.specs.Lines.{headOk};
+ghost use Rattle.line_digits.specs.Places.{frameIn, overlaid};
+ghost use Rattle.paper.specs.Limits.{mostCoordinates};
+use checks::in_range;
+use paper::limits::MOST_COORDINATES;
+use paper::lines::Scope;
+use paper::queries::Query;
+
+// [5.4] The kind of the frame that `src` holds: byte 0.
+pub fn kind(src: &[u8]) -> u64
+    requires { ⌜ 1 ≤ length (frameIn (now src)) ⌝ }
+    ensures { λ r. ⌜ r ≡ num 1 (frameIn (now (src .entry))) ⌝ }
+{
+    line_digits::number(src, 0, 1)
+}
+
+// [5.4] [8.10] Whether a frame begins with a head of this kind (byte 0), with measure (5) and d (6) in range.
+pub fn head_ok(src: &[u8], kind: u8) -> bool
+    requires { ⌜ 7 ≤ length (frameIn (now src)) ⌝ }
+    ensures { λ r. ⌜ r ≡ headOk kind (frameIn (now (src .entry))) ⌝ }
+{
+    if kind == 0 {
+        return false;
+    }
+    if line_digits::number(src, 0, 1) == kind as u64 {
+        return in_range(
+            line_digits::number(src, 5, 1) as u8,
+            line_digits::number(src, 6, 1) as usize,
+        );
+    }
+    false
+}
+
+// [5.4] Writes a head: byte 0 kind, 1 to 4 table, 5 measure, 6 d.
+pub fn put_head(out: &mut [u8], kind: u8, table: u32, measure: u8, d: u8)
+    requires { ⌜ 14 ≤ length (now out) ⌝ }
+    ensures { λ _. ⌜ now (out .exit) ≡ overlaid (now (out .entry)) 0 (head kind table measure d) ⌝ }
+{
+    line_digits::put(out, 0, 1, kind as u64);
+    line_digits::put(out, 1, 4, table as u64);
+    line_digits::put(out, 5, 1, measure as u64);
+    line_digits::put(out, 6, 1, d as u64);
+}
+
+// [5.3] Writes coordinates from byte `at` on, four bytes for each.
+pub fn put_coords(out: &mut [u8], at: usize, coords: &[i32])
+    requires { ⌜ 2 * (at + 4 * length (now coords)) ≤ length (now out) ⌝ }
+    ensures { λ _. ⌜ now (out .exit) ≡ overlaid (now (out .entry)) at (coordBytes (now (coords .entry))) ⌝ }
+{
+    let mut i = 0;
+    while i < coords.len() {
+        line_digits::put(out, at + 4 * i, 4, line_digits::pattern(coords[i]) as u64);
+        i += 1;
+    }
+}
+
+// [5.3] [5.14] The d coordinates from byte `at` on, four bytes for each, and 0 behind them.
+pub fn coords_at(src: &[u8], at: usize, d: usize) -> [i32; MOST_COORDINATES]
+    requires { ⌜ (at + 4 * d ≤ length (frameIn (now src))) × (d ≤ mostCoordinates) ⌝ }
+    ensures { λ r. ⌜ r ≡ inSlots d (coordsIn d (drop at (frameIn (now (src .entry))))) ⌝ }
+{
+    let mut found = [0i32; MOST_COORDINATES];
+    let mut i = 0;
+    while i < d {
+        found[i] = line_digits::signed(line_digits::number(src, at + 4 * i, 4) as u32);
+        i += 1;
+    }
+    found
+}
+
+// [5.8] [5.9] [5.10] Whether a scope is in range, and its mark 0 at the start.
+pub fn scope_ok(p: Scope) -> bool
+    ensures { λ r. ⌜ r ≡ scopeOk p ⌝ }
+{
+    if 1 < p.from {
+        return false;
+    }
+    if Scope::MOST_SNAPSHOT < p.snapshot {
+        return false;
+    }
+    if Scope::MOST_NUMBER < p.number {
+        return false;
+    }
+    if p.from == 1 {
+        return true;
+    }
+    if p.distance == 0 {
+        return p.number == 0;
+    }
+    false
+}
+
+// [5.5] Writes the reach and the scope behind it.
+fn put_scope(out: &mut [u8], at: usize, reach: u64, p: Scope)
+    requires { ⌜ 2 * (at + 21) ≤ length (now out) ⌝ }
+    ensures { λ _. ⌜ now (out .exit) ≡ overlaid (now (out .entry)) at (scopeBytes reach p) ⌝ }
+{
+    line_digits::put(out, at, 8, reach);
+    line_digits::put(out, at + 8, 1, p.from as u64);
+    line_digits::put(out, at + 9, 2, p.snapshot as u64);
+    line_digits::put(out, at + 11, 8, p.distance);
+    line_digits::put(out, at + 19, 2, p.number as u64);
+}
+
+// [5.5] The scope behind the reach, which has bytes `at` to at + 7: at + 8 from, at + 9 snapshot (2), at + 11 the mark's distance (8) and
+// at + 19 its number (2).
+pub fn scope_at(src: &[u8], at: usize) -> Scope
+    requires { ⌜ at + 21 ≤ length (frameIn (now src)) ⌝ }
+    ensures { λ r. ⌜ r ≡ scopeIn (drop at (frameIn (now (src .entry)))) ⌝ }
+{
+    Scope {
+        from: line_digits::number(src, at + 8, 1) as u8,
+        snapshot: line_digits::number(src, at + 9, 2) as u16,
+        distance: line_digits::number(src, at + 11, 8),
+        number: line_digits::number(src, at + 19, 2) as u16,
+    }
+}
+
+// [5.5] [5.6] Writes what an ask and an answer begin with: the head, the probe from byte 7, then reach (8) and scope (13), 28 + 4d in all.
+pub fn put_front(out: &mut [u8], kind: u8, q: Query, p: Scope)
+    requires { ⌜ (q .d ≤ mostCoordinates) × (2 * (28 + 4 * q .d) ≤ length (now out)) ⌝ }
+    ensures { λ _. ⌜ now (out .exit) ≡ overlaid (now (out .entry)) 0 (Fields·front kind (queryIn q) p) ⌝ }
+{
+    let d = q.d;
+    let probe = q.probe;
+    put_head(out, kind, q.table, q.measure, d as u8);
+    put_coords(out, 7, &probe[..d]);
+    put_scope(out, 7 + 4 * d, q.reach, p);
+}

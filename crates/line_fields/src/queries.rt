@@ -1,0 +1,75 @@
+// A query with its probe in eight slots, from a probe of d coordinates and from a frame.
+ghost use mathlib.Core.Path.{_≡_};
+ghost use Prim.Native.Nat.{_≤_};
+ghost use lib.ListN.{length};
+ghost use Rattle.paper.specs.Fields.{inSlots, queryInSlots};
+ghost use Rattle.paper.specs.Orders.{queryIn};
+ghost use Rattle.paper.specs.Lines.{queryAt, queryFits};
+ghost use Rattle.line_digits.specs.Places.{frameIn};
+ghost use Rattle.line_fields.specs.Fronts.{Begun};
+ghost use Rattle.paper.specs.Limits.{mostCoordinates};
+use super::parts::coords_at;
+use checks::has_lines;
+use checks::in_range;
+use paper::limits::MOST_COORDINATES;
+use paper::orders::Order;
+use paper::queries::Query;
+
+// [7.3] [5.14] A probe in eight slots, the unused ones 0.
+fn padded(probe: &[i32]) -> [i32; MOST_COORDINATES]
+    requires { ⌜ length (now probe) ≤ mostCoordinates ⌝ }
+    ensures { λ r. ⌜ r ≡ inSlots (length (now (probe .entry))) (now (probe .entry)) ⌝ }
+{
+    let mut slots = [0i32; MOST_COORDINATES];
+    let mut i: usize = 0;
+    while i < probe.len() {
+        slots[i] = probe[i];
+        i += 1;
+    }
+    slots
+}
+
+// [7.1] The query of these parts.
+pub fn query_of(order: Order, table: u32, measure: u8, d: usize, probe: &[i32], reach: u64) -> Query
+    requires { ⌜ (length (now probe) ≡ d) × (d ≤ mostCoordinates) ⌝ }
+    ensures { λ r. ⌜ r ≡ queryInSlots (record { order = order; table = table; measure = measure; d = d; probe = now (probe .entry); reach = reach }) ⌝ }
+{
+    let slots = padded(probe);
+    Query {
+        order,
+        table,
+        measure,
+        d,
+        probe: slots,
+        reach,
+    }
+}
+
+// [8.10] Whether a line can carry a query: its order has lines, and there are such a measure and d.
+pub fn query_fits(q: Query) -> bool
+    ensures { λ r. ⌜ r ≡ queryFits (queryIn q) ⌝ }
+{
+    let order = q.order;
+    if has_lines(order) {
+        return in_range(q.measure, q.d);
+    }
+    false
+}
+
+// [5.5] [5.6] The query of an ask's or an answer's frame, in the order that its kind tells: bytes 1 to 4 table, 5 measure, 6 d, the probe from
+// byte 7 and the reach behind it.
+pub fn query_at(order: Order, src: &[u8]) -> Query
+    requires { ⌜ Begun (frameIn (now src)) ⌝ }
+    ensures { λ r. ⌜ r ≡ queryAt order (frameIn (now (src .entry))) ⌝ }
+{
+    let d = line_digits::number(src, 6, 1) as usize;
+    let probe = coords_at(src, 7, d);
+    Query {
+        order,
+        table: line_digits::number(src, 1, 4) as u32,
+        measure: line_digits::number(src, 5, 1) as u8,
+        d,
+        probe,
+        reach: line_digits::number(src, 7 + 4 * d, 8),
+    }
+}

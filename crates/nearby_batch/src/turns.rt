@@ -1,0 +1,93 @@
+// Line after line.
+ghost use mathlib.Core.Path.{_≡_};
+ghost use Prim.Native.Nat.{_+_, _*_};
+ghost use mathlib.Core.Bool.{_&&_};
+ghost use lib.Dec.{ltb, leb};
+ghost use lib.ListN.{length};
+ghost use Rattle.paper.specs.Tree.{lent};
+ghost use Rattle.paper.specs.Calls.{tableRefusal};
+ghost use Rattle.nearby_batch.specs.Batch.{batchStart, step, batchAnswered, batchOf, BatchStands, LineLeft};
+ghost use Rattle.paper.specs.Limits.{longestAnswer};
+use super::ends::line_end;
+use super::outcomes::put_row;
+use super::outcomes::said_of;
+use crate::Answered;
+use paper::limits::LONGEST_ANSWER;
+use paper::tables::Table;
+
+// [6.7] Whether a byte of the asks is left, a row of the outcomes, and room for the longest line.
+fn goes_on(d: Answered, asks: usize, outcomes: usize, out: usize) -> bool
+    ensures { λ r. ⌜ r ≡ (ltb (d .used) asks && (leb (2 * d .lines + 2) outcomes && leb (d .written + longestAnswer) out)) ⌝ }
+{
+    if asks <= d.used {
+        return false;
+    }
+    if outcomes / 2 <= d.lines {
+        return false;
+    }
+    if out < LONGEST_ANSWER {
+        return false;
+    }
+    d.written <= out - LONGEST_ANSWER
+}
+
+// Answers the next line.
+fn answer_next(
+    t: Table,
+    references: &[u32],
+    coordinates: &[i32],
+    nodes: &[u64],
+    asks: &[u8],
+    d: Answered,
+    outcomes: &mut [u64],
+    out: &mut [u8],
+) -> Answered
+    requires { ⌜ LineLeft (lent t references coordinates nodes) (now asks) (batchOf d (now outcomes) (now out)) ⌝ }
+    ensures { λ r. ⌜ BatchStands (step (lent t (references .entry) (coordinates .entry) (nodes .entry)) (now (asks .entry)) (batchOf d (now (outcomes .entry)) (now (out .entry)))) r (now (outcomes .exit)) (now (out .exit)) ⌝ }
+{
+    let at = d.used;
+    let w = d.written;
+    let k = d.lines;
+    let e = line_end(asks, at);
+    let wrote = end_office::answer_line(
+        t,
+        references,
+        coordinates,
+        nodes,
+        &asks[at..e],
+        &mut out[w..],
+    );
+    let said = said_of(wrote);
+    put_row(outcomes, k, said);
+    Answered {
+        refusal: 0,
+        lines: k + 1,
+        used: e,
+        written: w + said.length,
+    }
+}
+
+// [6.5] [6.7] Answers lines while there is one, and room for it.
+pub fn answer_lines(
+    t: Table,
+    references: &[u32],
+    coordinates: &[i32],
+    nodes: &[u64],
+    asks: &[u8],
+    outcomes: &mut [u64],
+    out: &mut [u8],
+) -> Answered
+    requires { ⌜ 0 ≡ tableRefusal (lent t references coordinates nodes) ⌝ }
+    ensures { λ r. ⌜ BatchStands (batchAnswered (length (now (asks .entry))) (lent t (references .entry) (coordinates .entry) (nodes .entry)) (now (asks .entry)) (batchStart (now (outcomes .entry)) (now (out .entry)))) r (now (outcomes .exit)) (now (out .exit)) ⌝ }
+{
+    let mut d = Answered {
+        refusal: 0,
+        lines: 0,
+        used: 0,
+        written: 0,
+    };
+    while goes_on(d, asks.len(), outcomes.len(), out.len()) {
+        d = answer_next(t, references, coordinates, nodes, asks, d, outcomes, out);
+    }
+    d
+}

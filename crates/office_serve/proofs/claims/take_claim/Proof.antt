@@ -1,0 +1,84 @@
+-- `serve::claims::take_claim` meets its contract: 11, 3, or the claim is entered. Assumes nothing.
+use Prim.Native.Nat.{_<_}
+use native.Mathlib.Omega.{arith}
+use lib.ListN.{length}
+use Rattle.paper.specs.Tree.{store}
+use Rattle.office_serve.proofs.OneLineServed.{claim-11, claim-3, add-ready, claim-in}
+use borrow.Author.Needs.{needs}
+use Rattle.office_serve.proofs.claims.take_claim.Statement.{statement}
+use Rattle.office_serve.proofs.claims.take_claim.Tie as tie
+
+header-for-requires : tie.Need-header-for-requires
+header-for-requires c κs = search needs
+
+cast-is-ours : tie.Need-cast-is-ours
+cast-is-ours c = search needs
+
+is-ours-requires : tie.Need-is-ours-requires
+is-ours-requires c κs = search needs
+
+refuse-requires : tie.Need-refuse-requires
+refuse-requires c κs = search needs
+
+same-length : tie.Need-same-length
+same-length c = search needs
+
+returns : tie.Need-returns
+returns c =
+    let a = c .before .before .before .before .before .before .before .before .before .before .before .args in
+    claim-11 (store (a .t) (a .references .now) (a .coordinates .now) (a .nodes .now)) (a .c) (c .before .before .before .before .before .before .before .before .before .before .before .pre .serving .ready) (c .before .before .before .before .before .before .before .before .before .before .before .pre .range) _ (c .before .before .before .before .before .before .before .header-for .ensures) _ (c .before .before .before .before .before .is-ours .ensures) (a .out .now) (a .at) (c .before .before .before .before .if1 .taken) _ _ (c .before .before .refuse .ensures)
+
+refuse-requires-2 : tie.Need-refuse-requires-2
+refuse-requires-2 c κs = search needs
+
+same-length-2 : tie.Need-same-length-2
+same-length-2 c = search needs
+
+returns-2 : tie.Need-returns-2
+returns-2 c =
+    let a = c .before .before .before .before .before .before .before .before .before .before .before .before .before .args in
+    claim-3 (store (a .t) (a .references .now) (a .coordinates .now) (a .nodes .now)) (a .c) (c .before .before .before .before .before .before .before .before .before .before .before .before .before .pre .serving .ready) (c .before .before .before .before .before .before .before .before .before .before .before .before .before .pre .range) _ (c .before .before .before .before .before .before .before .before .before .header-for .ensures) _ (c .before .before .before .before .before .before .before .is-ours .ensures) (a .out .now) (a .at) (c .before .before .before .before .before .before .if1 .left) (c .before .before .before .before .if2 .taken) _ _ (c .before .before .refuse2 .ensures)
+
+slice-aggregate-add : tie.Need-slice-aggregate-add
+slice-aggregate-add c = search (needs, c .before .before .before .before .before .before .before .before .before .before .before .before .before .before .good .1 .1 .1 .1 .0)
+
+add-requires : tie.Need-add-requires
+add-requires c κs =
+    let a = c .before .before .before .before .before .before .before .before .before .before .before .before .before .before .args in
+    let eight : 7 < length (a .c .coordinates) = search (needs, c .before .before .before .before .before .before .before .before .before .before .before .before .before .before .good .1 .1 .1 .1 .0) in
+    add-ready (store (a .t) (a .references .now) (a .coordinates .now) (a .nodes .now)) (a .c) (c .before .before .before .before .before .before .before .before .before .before .before .before .before .before .pre .serving .ready) (c .before .before .before .before .before .before .before .before .before .before .before .before .before .before .pre .range) _ (c .before .before .before .before .before .before .before .before .before .before .header-for .ensures) _ (c .before .before .before .before .before .before .before .before .is-ours .ensures) (a .out .now) (a .at) (c .before .before .before .before .before .before .before .if1 .left) (c .before .before .before .before .before .if2 .left) eight
+
+same-length-3 : tie.Need-same-length-3
+same-length-3 c = search needs
+
+same-length-4 : tie.Need-same-length-4
+same-length-4 c = search needs
+
+same-length-5 : tie.Need-same-length-5
+same-length-5 c = search needs
+
+returns-3 : tie.Need-returns-3
+returns-3 c =
+    let a = c .before .before .before .before .before .before .before .before .before .before .before .before .before .before .before .before .before .before .before .before .args in
+    let eight : 7 < length (a .c .coordinates) = search (needs, c .before .before .before .before .before .before .before .before .before .before .before .before .before .before .before .before .before .before .before .before .good .1 .1 .1 .1 .0) in
+    claim-in (store (a .t) (a .references .now) (a .coordinates .now) (a .nodes .now)) (a .c) (c .before .before .before .before .before .before .before .before .before .before .before .before .before .before .before .before .before .before .before .before .pre .serving .ready) (c .before .before .before .before .before .before .before .before .before .before .before .before .before .before .before .before .before .before .before .before .pre .range) _ (c .before .before .before .before .before .before .before .before .before .before .before .before .before .before .before .before .header-for .ensures) _ (c .before .before .before .before .before .before .before .before .before .before .before .before .before .before .is-ours .ensures) (a .out .now) (a .at) (c .before .before .before .before .before .before .before .before .before .before .before .before .before .if1 .left) (c .before .before .before .before .before .before .before .before .before .before .before .if2 .left) eight _ (c .before .before .before .before .before .add .ensures) (omega (arith, c .before .before .before .before .before .before .before .before .before .before .before .before .before .before .before .before .before .before .before .before .pre .serving .room))
+
+pub take-claim-spec : {M : Type 1} → statement M
+take-claim-spec =
+    tie.close
+    (tie.spec
+    header-for-requires
+    cast-is-ours
+    is-ours-requires
+    refuse-requires
+    same-length
+    returns
+    refuse-requires-2
+    same-length-2
+    returns-2
+    slice-aggregate-add
+    add-requires
+    same-length-3
+    same-length-4
+    same-length-5
+    returns-3)

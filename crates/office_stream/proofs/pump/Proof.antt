@@ -1,0 +1,112 @@
+-- `stream::pump` meets its contract: the chunk is read to its end, or no line is left. Assumes nothing.
+use Prim.Native.Nat.{_-_}
+use mathlib.Core.Path.{_≡_, ap}
+use native.Mathlib.Omega.{arith}
+use lib.ListN.{length}
+use Rattle.office_serve.specs.declared.feeding.Sitting.{Sitting}
+use Rattle.office_stream.proofs.ProgramLoops.{Pumping, pumping-start, pumping-more, pump-turning, reading-done, stands-anew}
+use Rattle.office_stream.proofs.pump.Statement.{statement}
+use Rattle.office_stream.proofs.pump.Tie as tie
+
+abbrev Inv-loop : tie.InvT-loop
+Inv-loop references₀ coordinates₀ nodes₀ line₀ chunk out₀ n₀ references coordinates nodes line out n = Pumping chunk references₀ coordinates₀ nodes₀ line₀ out₀ n₀ references coordinates nodes line out n
+
+abbrev μ-loop : tie.MeasureT-loop
+μ-loop references₀ coordinates₀ nodes₀ line₀ chunk out₀ n₀ references coordinates nodes line out n = length chunk - n .at
+
+anew-requires : tie.Need-anew-requires Inv-loop μ-loop
+anew-requires c κs = tt
+
+loop-holds : tie.Need-loop-holds Inv-loop μ-loop
+loop-holds c = pumping-start _ _ _ _ _ _ (c .before .before .before .before .before .before .args .d) _ (c .anew .ensures) (c .before .before .before .before .before .before .pre .0)
+
+unread-requires : tie.Need-unread-requires Inv-loop μ-loop
+unread-requires c κs = tt
+
+feed-requires : tie.Need-feed-requires Inv-loop μ-loop
+feed-requires c κs = let v = c .before .before .before .before .before .before .before .loop .inv in (v .ready, omega (arith, v .written))
+
+sub-write-all : tie.Need-sub-write-all Inv-loop μ-loop
+sub-write-all c = omega arith
+
+part-write-all-start : tie.Need-part-write-all-start Inv-loop μ-loop
+part-write-all-start c = omega arith
+
+part-write-all-end : tie.Need-part-write-all-end Inv-loop μ-loop
+part-write-all-end c = omega (arith, c .before .before .before .before .before .before .before .before .before .before .feed .ensures .1 .1 .1, c .before .before .before .before .before .before .before .before .before .before .feed .kept .1 .1 .1 .1 .1 .1 .0)
+
+write-all-requires : tie.Need-write-all-requires Inv-loop μ-loop
+write-all-requires c κs = tt
+
+emptied-requires : tie.Need-emptied-requires Inv-loop μ-loop
+emptied-requires c κs = tt
+
+loop-less : tie.Need-loop-less Inv-loop μ-loop
+loop-less c =
+    let pre = c .before .before .before .before .before .before .before .before .before .before .before .before .before .before .before .before .before .before .before .before .before .before .before .before .before .before .before .before .pre in
+    let loop = c .before .before .before .before .before .before .before .before .before .before .before .before .before .before .before .before .before .before .before .before .before .loop in
+    let unread = c .before .before .before .before .before .before .before .before .before .before .before .before .before .before .before .before .before .before .before .before .unread in
+    let if1 = c .before .before .before .before .before .before .before .before .before .before .before .before .before .before .before .before .before .before .before .if1 in
+    let feed = c .before .before .before .before .before .before .before .before .before .before .before .before .before .feed in
+    let emptied = c .emptied in
+    let v = loop .inv in
+    let u = unread .ensures .0 (if1 .taken) in
+    let t = feed .ensures .1 .1 .0 (pump-turning _ _ _ u (v .written) (rw (v .out) (pre .1))) in
+    let e : emptied .result .at ≡ feed .result .at = ap (λ (x : Sitting). x .at) (emptied .ensures) in
+    omega (arith, t, u .0)
+
+loop-again : tie.Need-loop-again Inv-loop μ-loop
+loop-again c =
+    let f = c .before .before .before .before .before .before .before .before .before .before .before .before .before .feed in
+    pumping-more _ _ _ _ _ _ _ _ _ _ _ _ _ _ _ _ _ _ _ _ (c .before .before .before .before .before .before .before .before .before .before .before .before .before .before .before .before .before .before .before .before .before .loop .inv) (f .ensures .0) (f .ensures .1 .0) (c .emptied .ensures)
+    (f .kept .1 .0) (f .kept .1 .1 .0) (f .kept .1 .1 .1 .0) (f .kept .1 .1 .1 .1 .0) (f .kept .1 .1 .1 .1 .1 .1 .0)
+
+same-length : tie.Need-same-length Inv-loop μ-loop
+same-length c = c .before .before .loop .inv .references
+
+same-length-2 : tie.Need-same-length-2 Inv-loop μ-loop
+same-length-2 c = c .before .before .loop .inv .coordinates
+
+same-length-3 : tie.Need-same-length-3 Inv-loop μ-loop
+same-length-3 c = c .before .before .loop .inv .nodes
+
+same-length-4 : tie.Need-same-length-4 Inv-loop μ-loop
+same-length-4 c = c .before .before .loop .inv .line
+
+same-length-5 : tie.Need-same-length-5 Inv-loop μ-loop
+same-length-5 c = c .before .before .loop .inv .out
+
+returns : tie.Need-returns Inv-loop μ-loop
+returns c =
+    let v = c .before .before .loop .inv in
+    let a = c .before .before .before .before .before .before .before .before .before .args in (
+      v .ready,
+      λ o st.
+          reading-done o _ _ _ _
+          (v .reading o (stands-anew (a .references .now) (a .coordinates .now) (a .nodes .now) (a .line .now) (a .d) _ o (c .before .before .before .anew .ensures) st))
+          (c .before .unread .ensures .1 (c .if1 .left)),
+    )
+
+pub pump-spec : {M : Type 1} → statement M
+pump-spec =
+    tie.close
+    (tie.spec
+    Inv-loop
+    μ-loop
+    anew-requires
+    loop-holds
+    unread-requires
+    feed-requires
+    sub-write-all
+    part-write-all-start
+    part-write-all-end
+    write-all-requires
+    emptied-requires
+    loop-less
+    loop-again
+    same-length
+    same-length-2
+    same-length-3
+    same-length-4
+    same-length-5
+    returns)
