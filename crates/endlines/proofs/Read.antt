@@ -18,10 +18,12 @@ use Rattle.paper.specs.Lines.{askKind, answerKind, spoken, askOrder, behind, qu
 use Rattle.paper.specs.Outcomes.{gives}
 use Rattle.paper.specs.Ends.{Ask, Answer}
 use Rattle.paper.specs.Codec.{askMeant, answerMeant, readAsk, readAnswer}
-use Rattle.digits.proofs.NumbersAndFrames.{Bytes, bytes-drop, bytes-frame, num-lt}
+use Rattle.digits.proofs.NumbersAndFrames.{Bytes, bytes-drop, num-lt}
+use Rattle.digits.proofs.LinesAndFrames.{bytes-frame}
 use Rattle.fields.proofs.PartLaws.{Headed, length-coordsIn}
 use Rattle.fields.proofs.Round.{take-places}
-use Rattle.lines.proofs.Tests.{any-ask, is-answer}
+use Rattle.lines.proofs.AskTests.{any-ask}
+use Rattle.lines.proofs.AnswerTests.{is-answer}
 use Rattle.orders.specs.LawfulLines.{QueryOk, AskOk, AnswerOk}
 use Rattle.paper.proofs.Tests.{and-first, and-second}
 use Rattle.paper.proofs.Outcomes.{must-test, must-rest, same-given}

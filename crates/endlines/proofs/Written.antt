@@ -15,10 +15,11 @@ use Rattle.paper.specs.Outcomes.{gives}
 use Rattle.paper.specs.Ends.{Ask, Answer}
 use Rattle.paper.specs.Codec.{scopeOf, askLine, answerLine, askMeant, answerMeant, readAsk, readAnswer}
 use Rattle.paper.proofs.Reading.{ask-by-refusal, answer-by-refusal}
-use Rattle.digits.proofs.NumbersAndFrames.{frame-line}
+use Rattle.digits.proofs.LinesAndFrames.{frame-line}
 use Rattle.fields.proofs.Round.{ScopeFit, front-read}
 use Rattle.paper.proofs.LineKinds.{ask-small, answer-small}
-use Rattle.lines.proofs.Tests.{bytes-ask, bytes-answer}
+use Rattle.lines.proofs.AskTests.{bytes-ask}
+use Rattle.lines.proofs.AnswerTests.{bytes-answer}
 use Rattle.lines.proofs.AskRound.{ask-reads-back}
 use Rattle.lines.proofs.AnswerRound.{answer-reads-back}
 use Rattle.orders.specs.LawfulLines.{QueryOk, AskOk, ItemOk, AnswerOk}

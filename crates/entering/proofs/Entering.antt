@@ -20,7 +20,8 @@ use Rattle.orders.proofs.Lists.{All, all-append, all-map, every-true, every-all
 use Rattle.tree.specs.Soundness.{Good, Roomy}
 use Rattle.tree.proofs.Places.{claims-length}
 use Rattle.tree.proofs.TestedTables.{fits-fit, fit-fits, sound-good, good-sound}
-use Rattle.tree.proofs.Adding.{in-run, point-length, Kept, run-claims, run-kept}
+use Rattle.tree.proofs.Adding.{in-run, Kept, run-claims, run-kept}
+use Rattle.tree.proofs.ClaimsInMemory.{point-length}
 use Rattle.tree.proofs.RunLaws.{enters-gives, zero-enters}
 use Rattle.journey.specs.World.{runEntering}
 use Rattle.entering.specs.Runs.{runOf, referencesOf, placesOf, callEnters}

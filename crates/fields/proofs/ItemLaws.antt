@@ -11,7 +11,8 @@ use borrow.Author.Tests.{ltb-true, leb-true, le-leb, lt-leb, lt-ltb, le-ltb}
 use lib.Seq.{drop-cons, drop-drop}
 use Rattle.paper.specs.Frames.{be, num}
 use Rattle.digits.specs.Places.{overlaid}
-use Rattle.digits.proofs.NumbersAndFrames.{and-false, and-both, num-lt, Bytes, bytes-append, bytes-be, bytes-drop, length-be, field-read, field-back}
+use Rattle.digits.proofs.LinesAndFrames.{and-false, and-both}
+use Rattle.digits.proofs.NumbersAndFrames.{num-lt, Bytes, bytes-append, bytes-be, bytes-drop, length-be, field-read, field-back}
 use Rattle.paper.specs.Fields.{item, itemBytes, itemNumbers, numbersOk, referencesOk}
 use Rattle.fields.proofs.PartLaws.{over-to}
 use Rattle.paper.specs.Limits.{itemRoom, mostNumber, mostPage}

@@ -17,12 +17,14 @@ use Rattle.paper.specs.declared.lines.Answer.{Answer}
 use Rattle.paper.specs.declared.lines.AnswerRead.{AnswerRead}
 use Rattle.paper.specs.declared.orders.Order.{Order}
 use Rattle.paper.proofs.LineKinds.{answer-small, answer-some, answer-spoken}
-use Rattle.digits.proofs.NumbersAndFrames.{Bytes, bytes-drop, bytes-frame, field-read, field-back, frame-line, sound-line, line-of-sound}
+use Rattle.digits.proofs.NumbersAndFrames.{Bytes, bytes-drop, field-read, field-back}
+use Rattle.digits.proofs.LinesAndFrames.{bytes-frame, frame-line, sound-line, line-of-sound}
 use Rattle.fields.proofs.PartLaws.{head-rule}
 use Rattle.fields.proofs.ItemLaws.{Distances, items-fitting, items-read, items-back, length-itemsIn, references-in}
 use Rattle.fields.proofs.Round.{QueryFit, ScopeFit, Fronts, front-read, front-back}
 use Rattle.lines.proofs.WritersReaders.{reads, accepted}
-use Rattle.lines.proofs.Tests.{read-fits, last-at, items-from, length-answer, bytes-answer, answer-fits, is-answer, answer-begun}
+use Rattle.lines.proofs.QueryTests.{read-fits, last-at}
+use Rattle.lines.proofs.AnswerTests.{items-from, length-answer, bytes-answer, answer-fits, is-answer, answer-begun}
 use Rattle.paper.specs.Limits.{itemRoom}
 
 -- ---- what is written is read

@@ -25,7 +25,9 @@ use Rattle.paper.specs.Frames.{frameOf, isLine}
 use Rattle.paper.specs.Lines.{Writes, wroteOf, putLine, reading, queryAt, answerKind, askFits, isAsk, askAt, anAsk, noAsk, readAsAsk, answerFits, answerOk, answerAt, anAnswer, noAnswer, readAsAnswer}
 use Rattle.paper.specs.Limits.{mostPlaces}
 use Rattle.paper.proofs.Tests.{and-first, and-second, and-both, refuted, never}
-use Rattle.lines.proofs.Tests.{QueryFits, ask-fits, any-ask, answer-fits, is-answer}
+use Rattle.lines.proofs.QueryTests.{QueryFits}
+use Rattle.lines.proofs.AskTests.{ask-fits, any-ask}
+use Rattle.lines.proofs.AnswerTests.{answer-fits, is-answer}
 use Rattle.orders.proofs.Rooms.{query-placed}
 
 -- a promise, with its result as numbers

@@ -1,5 +1,5 @@
 -- Items in a room, read one by one: what each way through `item_holds` gives, and what one pass over the items means. Assumes nothing.
-use Prim.Native.Nat.{ℕ, suc, _+_, _-_, _*_, _<_, _≤_}
+use Prim.Native.Nat.{ℕ, zero, suc, _+_, _-_, _*_, _<_, _≤_}
 use mathlib.Core.Path.{_≡_, refl, sym, _∙_}
 use mathlib.Core.Bool.{Bool, true, false, not, _&&_}
 use mathlib.Core.List.{List, [], _∷_}
@@ -10,7 +10,7 @@ use borrow.Author.Tests.{le-leb, lt-leb, lt-ltb, le-ltb, not-true, not-false}
 use Rattle.paper.specs.declared.orders.Order.{Order}
 use Rattle.paper.specs.declared.orders.Place.{Place}
 use Rattle.paper.specs.declared.orders.Place.the-variants.{Start}
-use Rattle.paper.specs.Orders.{Item, before, follows}
+use Rattle.paper.specs.Orders.{Item, noItem, before, follows}
 use Rattle.paper.specs.Ends.{fitting, leads, rising, every}
 use Rattle.paper.specs.Lists.{itemsIn}
 use Rattle.paper.proofs.Tests.{and-first, and-second, and-both, alike}
@@ -28,6 +28,17 @@ items-open room i count h =
     let n : (i + 1) * 3 ≡ i * 3 + 3 = omega arith in
     let z : i * 3 + 0 ≡ i * 3 = omega arith in
     rw (e, n, getD-drop (i * 3) room 0 0, z, getD-drop (i * 3) room 1 0, getD-drop (i * 3) room 2 0, drop-drop 3 (i * 3) room)
+
+pub item-get : (n k : ℕ) (room : List ℕ) → k < n → getD (itemsIn n room) k noItem ≡ itemAt room k
+unfolding itemsIn
+item-get zero k room h = absurd (omega arith)
+item-get (suc n) zero room h = refl
+item-get (suc n) (suc k) room h =
+    let a : 3 + k * 3 ≡ suc k * 3 = omega arith in
+    let b : 3 + (k * 3 + 1) ≡ suc k * 3 + 1 = omega arith in
+    let e : 3 + (k * 3 + 2) ≡ suc k * 3 + 2 = omega arith in
+    item-get n k (drop 3 room) (omega arith)
+    ∙ rw (getD-drop 3 room (k * 3) 0, getD-drop 3 room (k * 3 + 1) 0, getD-drop 3 room (k * 3 + 2) 0, a, b, e)
 
 items-none : (room : List ℕ) (i count : ℕ) → count ≤ i → itemsIn (count - i) (drop (i * 3) room) ≡ []
 unfolding itemsIn

@@ -14,7 +14,8 @@ use Rattle.paper.specs.declared.tables.Table.{Table}
 use Rattle.paper.specs.Tree.{Grown, grown, entered, built, Store, apart, apartIn, fits, sameFront, afresh, sound}
 use Rattle.tree.specs.Rooms.{Neartree, Located, Enterable, IsBuilt}
 use Rattle.tree.specs.Soundness.{Lent, Fit, Good}
-use Rattle.tree.proofs.RoomsInUse.{Built, build, build-alike, Alike, same-list, grown-eq}
+use Rattle.tree.proofs.Building.{Built, build, build-alike, same-list, grown-eq}
+use Rattle.tree.proofs.RoomsInUse.{Alike}
 use Rattle.paper.proofs.Tests.{and-first, and-second}
 use Rattle.tree.proofs.Front.{front-at, front-all, front-ext, agree-at}
 use Rattle.paper.specs.Points.{inRange}

@@ -24,7 +24,7 @@ use Rattle.tree.proofs.Places.{claims-length}
 use Rattle.keep.specs.Page.{ranks, sooner, insertBy, sortedOf, firstSorted, items, Filled}
 use Rattle.keep.specs.Kept.{key, Rising, none, more}
 use Rattle.keep.proofs.Keeping.{sooner-true, sooner-false, key-sooner, key-differs, scan-rising}
-use Rattle.keep.proofs.Placing.{before-ranks}
+use Rattle.keep.proofs.ItemPlace.{before-ranks}
 use Rattle.walk.specs.Walking.{distOf}
 use Rattle.walk.specs.Asking.{Fills}
 use Rattle.orders.proofs.Sorted.{rest-insert}

@@ -1,6 +1,6 @@
 -- `keep::place` meets its contract. The loop goes down from the last item: none from i on comes before the new one. Assumes nothing.
 use native.Mathlib.Omega.{arith}
-use Rattle.keep.proofs.Placing.{Behind, behind-start, behind-turn, place-found, place-none}
+use Rattle.keep.proofs.ItemPlace.{Behind, behind-start, behind-turn, place-found, place-none}
 use Rattle.keep.proofs.place.Statement.{statement}
 use Rattle.keep.proofs.place.Tie as tie
 

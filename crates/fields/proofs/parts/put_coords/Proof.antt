@@ -11,7 +11,7 @@ use mir.Facts.{toZ-ofZ}
 use borrow.Author.Needs.{needs}
 use Rattle.paper.specs.Frames.{be}
 use Rattle.digits.specs.Places.{overlaid}
-use Rattle.digits.proofs.NumbersAndFrames.{over-nil}
+use Rattle.digits.proofs.WritingOver.{over-nil}
 use Rattle.paper.specs.Fields.{coordBytes}
 use Rattle.fields.proofs.PartLaws.{coord-step}
 use Rattle.fields.proofs.parts.put_coords.Statement.{statement}

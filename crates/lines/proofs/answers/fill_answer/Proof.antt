@@ -8,10 +8,10 @@ use Rattle.paper.specs.Orders.{queryIn}
 use Rattle.paper.specs.Fields.{front}
 use Rattle.paper.specs.Lines.{answerKind, answerFrame}
 use Rattle.digits.specs.Places.{overlaid}
-use Rattle.digits.proofs.NumbersAndFrames.{length-line}
+use Rattle.digits.proofs.LinesAndFrames.{length-line}
 use Rattle.fields.proofs.PartLaws.{over-to, length-front}
 use Rattle.lines.proofs.WritersReaders.{finish}
-use Rattle.lines.proofs.Tests.{length-answer}
+use Rattle.lines.proofs.AnswerTests.{length-answer}
 use borrow.Author.Needs.{needs}
 use Rattle.lines.proofs.answers.fill_answer.Statement.{statement}
 use Rattle.lines.proofs.answers.fill_answer.Tie as tie

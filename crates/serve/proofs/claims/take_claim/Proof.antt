@@ -3,7 +3,7 @@ use Prim.Native.Nat.{_<_}
 use native.Mathlib.Omega.{arith}
 use lib.ListN.{length}
 use Rattle.paper.specs.Tree.{store}
-use Rattle.serve.proofs.OneLineServed.{claim-11, claim-3, add-ready, claim-in}
+use Rattle.serve.proofs.ClaimServed.{claim-11, claim-3, add-ready, claim-in}
 use borrow.Author.Needs.{needs}
 use Rattle.serve.proofs.claims.take_claim.Statement.{statement}
 use Rattle.serve.proofs.claims.take_claim.Tie as tie

@@ -10,7 +10,8 @@ use Rattle.paper.proofs.orders.Order.rank.Reads as rank-reads
 use Rattle.tree.proofs.nodes.field.Reads as field-reads
 use Rattle.walk.specs.Walking.{distBy, apartBy}
 use Rattle.walk.proofs.Skipping.{metric}
-use Rattle.walk.proofs.NodesAndSides.{side-none, side-down, node-one, node-left-first, node-right-first, stored-here, left-here, in-sight, way-ready, side-ready, side-falls, leftAbove, node-falls, roomy-again}
+use Rattle.walk.proofs.Sides.{side-none, side-down}
+use Rattle.walk.proofs.Nodes.{node-one, node-left-first, node-right-first, stored-here, left-here, in-sight, way-ready, side-ready, side-falls, leftAbove, node-falls, roomy-again}
 use Rattle.walk.proofs.walking.consider.Reads as consider-reads
 use Rattle.walk.proofs.walking.from_probe.Reads as from-probe-reads
 use Rattle.walk.proofs.walking.way_down.Reads as way-down-reads

@@ -1,7 +1,7 @@
 -- `walk::walking::way_down` meets its contract. Assumes nothing.
 use mathlib.Core.Path.{sym, _∙_}
 use borrow.Author.Needs.{needs}
-use Rattle.walk.proofs.NodesAndSides.{way-none, way-passed, way-beyond, way-open}
+use Rattle.walk.proofs.Sides.{way-none, way-passed, way-beyond, way-open}
 use Rattle.walk.proofs.walking.way_down.Statement.{statement}
 use Rattle.walk.proofs.walking.way_down.Tie as tie
 
