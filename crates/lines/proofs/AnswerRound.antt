@@ -63,7 +63,18 @@ module _ (q : Query) (p : Scope) (last n : ℕ) (ns : List ℕ) (fit : answerFit
       let w = answer-fits q p last n ns fit in
       let l : length frame ≡ 30 + 4 * q .d + 14 * n =
       length-answer q p last n ns (w .count) ∙ ap (λ (x : ℕ). 30 + 4 * x + 14 * n) (w .query .count) in
-      rw (head-rule k (q .measure) (q .d) frame (answer-some (q .order) (w .query .known)) (begins .kind) (begins .measure) (begins .dim) (w .query .test), begins .dim, l, count-read .0, eq-eqb (30 + 4 * q .d + 14 * n) (30 + 4 * q .d + 14 * n) refl, begins .scope, last-read .0, w .rest, count-read .1, items-in)
+      rw (
+        head-rule k (q .measure) (q .d) frame (answer-some (q .order) (w .query .known)) (begins .kind) (begins .measure) (begins .dim) (w .query .test),
+        begins .dim,
+        l,
+        count-read .0,
+        eq-eqb (30 + 4 * q .d + 14 * n) (30 + 4 * q .d + 14 * n) refl,
+        begins .scope,
+        last-read .0,
+        w .rest,
+        count-read .1,
+        items-in,
+      )
       (w .numbers)
 
   frame-at : answerAt (q .order) frame ≡ record { query = inPlaces q; scope = p; last = last; count = n; items = itemPlaces n ns }

@@ -123,7 +123,9 @@ items-from f at e = let q : at + 2 ≡ 7 + 4 * num 1 (drop 6 f) + 23 = omega ari
 -- ---- handed on
 
 -- the answer that a frame holds, from its parts
-pub answer-value : (o : Order) (f : List ℕ) (x : queries.Query) (p : Scope) (at last n : ℕ) (ns : List ℕ) → x ≡ queryAt o f → at ≡ 28 + 4 * x .d → p ≡ scopeIn (drop (at - 21) f) → last ≡ num 1 (drop at f) → n ≡ num 1 (drop (at + 1) f) → ns ≡ itemPlaces n (itemNumbers n (drop (at + 2) f))
+pub answer-value : (o : Order) (f : List ℕ) (x : queries.Query) (p : Scope) (at last n : ℕ) (ns : List ℕ)
+    → x ≡ queryAt o f → at ≡ 28 + 4 * x .d → p ≡ scopeIn (drop (at - 21) f) → last ≡ num 1 (drop at f) → n ≡ num 1 (drop (at + 1) f)
+    → ns ≡ itemPlaces n (itemNumbers n (drop (at + 2) f))
     → record { query = x; scope = p; last = last; count = n; items = ns } ≡ answerAt o f
 unfolding answerAt
 answer-value o f x p at last n ns e q u v w z =

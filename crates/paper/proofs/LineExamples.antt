@@ -5,7 +5,8 @@ use Rattle.paper.specs.Orders.{rank, before, follows, flat, fronted}
 use Rattle.paper.specs.Frames.{be, num, glyph, digit, hexes, lineOf, frameOf, pairsEnded, isLine}
 use Rattle.paper.specs.Fields.{head, front, coordBytes, coordsIn, places, inPlaces, scopeBytes, scopeIn, scopeOk, item, itemBytes, itemPlaces, numbersOk, referencesOk}
 use Rattle.paper.specs.Fields as Fields
-use Rattle.paper.specs.Lines.{bareLine, reading, headOk, behind, queryAt, queryFits, isAsk, askFrame, askRanges, askFits, askOk, askAt, anAsk, noAsk, readAsAsk, answerFrame, answerRanges, answerFits, countIn, answerOk, answerAt, anAnswer, noAnswer, readAsAnswer, claimFrame, claimFits, claimOk, claimAt, aClaim, noClaim, readAsClaim}
+use Rattle.paper.specs.Lines.{bareLine, reading, headOk, behind, queryAt, queryFits, isAsk, askFrame, askRanges, askFits, askOk, askAt, anAsk, noAsk, readAsAsk}
+use Rattle.paper.specs.Lines.{answerFrame, answerRanges, answerFits, countIn, answerOk, answerAt, anAnswer, noAnswer, readAsAnswer, claimFrame, claimFits, claimOk, claimAt, aClaim, noClaim, readAsClaim}
 use Rattle.paper.specs.Codec.{scopeOf, placeIn, askLine, answerMeant, readAnswer}
 use Rattle.paper.specs.Ends.{opening, presentPlace, every, rising, startedWell, soundIn, asking, sameProbe, sameQuery, samePlace, toPresent, pageHolds, joinedTo, taken, taking}
 use Rattle.paper.specs.Lists.{itemsIn, listing, unusedZero, heldWell, openedAs, openingHeld, askingHeld, takingHeld, heldAfter}
