@@ -32,6 +32,8 @@ use Rattle.orders.proofs.Rooms.{length-in}
 use Rattle.endlines.proofs.Parts.{place-ok, place-used, scope-small, probe-read, items-ok}
 use Rattle.paper.specs.Limits.{itemRoom}
 
+-- ---- what a frame holds is in range
+
 -- what stands behind the probe is bytes
 bytes-behind : (f : List ℕ) → Bytes f → Bytes (behind f)
 unfolding behind
@@ -90,6 +92,8 @@ module _ (f : List ℕ) (b : Bytes f) where
         },
         refl,
       )
+
+-- ---- handed on
 
 -- a line that reads is in range; an ask is of an order that has lines, an answer of the order it is read in
 pub ask-ok : (l : List ℕ) (a : Ask) → readAsk l ≡ gives a → AskOk a × (spoken (a .query .order) ≡ true)

@@ -29,6 +29,8 @@ use Rattle.orders.proofs.Rooms.{read-flat, flat-length, query-placed}
 use Rattle.endlines.proofs.Parts.{scope-place, scope-snapshot, asked-small, asked-used, scope-ok, scope-fit, scope-asks, query-fit, flat-numbers, flat-references, flat-distances}
 use Rattle.paper.specs.Limits.{itemRoom, mostPage}
 
+-- ---- flags and queries
+
 flag-back : (b : Bool) → eqb (flagOf b) 1 ≡ b
 flag-back true = refl
 flag-back false = refl
@@ -41,6 +43,8 @@ flag-small false = omega arith
 query-fits : (q : Query) → QueryOk q → spoken (q .order) ≡ true → queryFits q ≡ true
 unfolding queryFits
 query-fits q ok o = and-both _ _ o (and-both _ _ (ok .range) (eq-eqb _ _ (ok .long)))
+
+-- ---- an ask
 
 -- an ask's fields, as its reader gives them
 module _ (a : Ask) (ok : AskOk a) where
@@ -80,6 +84,8 @@ module _ (a : Ask) (ok : AskOk a) where
   ask-begins =
       ap (num 1) (frame-line _ (bytes-ask (a .query) scope (a .size)))
       ∙ front-read _ _ (a .query) scope _ refl (ask-small (a .query .order)) (query-fit (a .query) (ok .query)) scope-fits .kind
+
+-- ---- an answer
 
 -- an answer's
 module _ (y : Answer) (ok : AnswerOk y) where

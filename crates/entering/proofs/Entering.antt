@@ -26,6 +26,8 @@ use Rattle.tree.proofs.RunLaws.{enters-gives, zero-enters}
 use Rattle.journey.specs.World.{runEntering}
 use Rattle.entering.specs.Runs.{runOf, referencesOf, placesOf, callEnters}
 
+-- ---- what the call enters, a world enters
+
 -- each claim that is cut out of a run has d coordinates, where the run has them
 claims-whole : (d n m : ℕ) (given : List ℕ) (places : List ℤ) → length places ≡ d * m → n ≤ m
     → All (λ (k : Claim). eqb (length (k .place)) d ≡ true) (claimsFrom d n given places)

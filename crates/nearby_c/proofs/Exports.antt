@@ -30,6 +30,8 @@ use Rattle.lines.proofs.AskTests.{ask-fits, any-ask}
 use Rattle.lines.proofs.AnswerTests.{answer-fits, is-answer}
 use Rattle.orders.proofs.Rooms.{query-placed}
 
+-- ---- promises
+
 -- a promise, with its result as numbers
 pub shown-as : {A R S M : Type 0} (f : R → S) (shown : Outcome A → R) (put : A → M → M) (o : Outcome A) (before after : M) (r : R) (x : S)
     → Promise shown put o before r after → x ≡ f r → Promise (λ u. f (shown u)) put o before x after
@@ -76,6 +78,8 @@ module _ (q : Query) (p : Scope) (b : Bool) (be : b ≡ eqb (length (q .probe)) 
 
     pub placed-query : (x : queries.Query) → x ≡ inPlaces q → queryIn x ≡ q
     placed-query x e = ap queryIn e ∙ query-placed q (placed .0)
+
+-- ---- what a reader gives
 
 -- what a reader gives has at most eight coordinates
 pub ask-narrow : (l : List ℕ) → readAsAsk l .ask .query .d ≤ mostPlaces

@@ -13,6 +13,8 @@ use Rattle.paper.specs.Lists.{itemsIn, listing, unusedZero, heldWell, op
 use Rattle.paper.specs.LineExamples.{ListsMarked, TakingMarked, LinesMarked, CallsMarked}
 use Rattle.paper.proofs.CallExamples.{limits-marked, making-marked, entering-marked, asking-marked, office-marked}
 
+-- ---- opening a list, and writing an ask
+
 pub lists-marked : ListsMarked
 unfolding openingHeld opening openedAs inPlaces places inRange unusedZero heldWell every itemsIn listing soundIn rising startedWell rank before presentPlace asking askingHeld
     be glyph hexes lineOf head front coordBytes scopeBytes askFrame scopeOf askLine
@@ -34,6 +36,8 @@ lists-marked =
       first16 = refl;
       first6 = refl;
     }
+
+-- ---- taking
 
 pub taking-marked : TakingMarked
 unfolding inRange unusedZero heldWell every itemsIn listing soundIn rising startedWell rank before presentPlace follows sameProbe sameQuery samePlace toPresent pageHolds
@@ -63,6 +67,8 @@ taking-marked =
       first13 = refl;
       first14 = refl;
     }
+
+-- ---- bare writers and readers
 
 pub lines-marked : LinesMarked
 unfolding inRange be num glyph digit hexes lineOf frameOf pairsEnded isLine head front coordBytes coordsIn places scopeBytes scopeIn scopeOk item itemBytes
@@ -97,6 +103,8 @@ lines-marked =
       claimNot9 = refl;
       claimKind10 = refl;
     }
+
+-- ---- the public calls together
 
 pub calls-marked : CallsMarked
 calls-marked =

@@ -16,6 +16,8 @@ use Rattle.paper.specs.Lists.{itemsIn}
 use Rattle.paper.proofs.Tests.{and-first, and-second, and-both, alike}
 use Rattle.tablet.specs.Holding.{itemHolds, itemsHold}
 
+-- ---- items in a room
+
 -- item i of a room
 abbrev pub itemAt : List ℕ → ℕ → Item
 itemAt room i = record { number = getD room (i * 3) 0; reference = getD room (i * 3 + 1) 0; distance = getD room (i * 3 + 2) 0 }
@@ -44,7 +46,8 @@ items-none : (room : List ℕ) (i count : ℕ) → count ≤ i → itemsIn (coun
 unfolding itemsIn
 items-none room i count h = let e : count - i ≡ 0 = omega arith in rw e
 
--- the ways through `item_holds`
+-- ---- the ways through `item_holds`
+
 module _ (o : Order) (p : Place) (reach snapshot : ℕ) (room : List ℕ) (i count : ℕ) (hi : i < count) where
   abbrev suffix : List Item
   suffix = itemsIn (count - i) (drop (i * 3) room)
@@ -95,7 +98,8 @@ module _ (o : Order) (p : Place) (reach snapshot : ℕ) (room : List ℕ) (i cou
               items-none room (i + 1) count h,
             )
 
--- the loop, from the last item on
+-- ---- the loop, from the last item on
+
 module _ (o : Order) (p : Place) (reach snapshot : ℕ) (room : List ℕ) (count : ℕ) where
   pub pass-start : true ≡ itemsHold o p reach snapshot (itemsIn (count - count) (drop (count * 3) room))
   unfolding itemsHold
@@ -116,7 +120,8 @@ module _ (o : Order) (p : Place) (reach snapshot : ℕ) (room : List ℕ) (count
       let b : count - i ≡ count = omega arith in
       rw (a, b) at h
 
--- what one pass means
+-- ---- what one pass means
+
 pub pass-means : (o : Order) (p : Place) (reach snapshot : ℕ) (l : List Item)
     → itemsHold o p reach snapshot l ≡ rising o l && (every (follows o p) l && every (fitting reach snapshot) l)
 unfolding itemsHold itemHolds rising every

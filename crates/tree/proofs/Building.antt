@@ -13,7 +13,8 @@ use Rattle.tree.proofs.Stores.{fresh-length}
 use Rattle.tree.proofs.Keeping.{keeps, place}
 use Rattle.tree.proofs.RoomsInUse.{Agree, Alike, enter-alike, enter-behind}
 
--- what building gives, whatever the memory held
+-- ---- what building gives, whatever the memory held
+
 pub record Built (e : ℕ → ℕ → ℕ) (n : ℕ) (a : List ℕ) (x : Grown) : Type 0 where
   pub sound : Neartree (x .nodes) e (x .used) n
   pub long : length (x .nodes) ≡ length a
@@ -49,7 +50,8 @@ build e (suc n) a room few =
           ∙ b .behind m g (omega (arith, l .1)) hg;
     }
 
--- two memories are built alike
+-- ---- two memories are built alike
+
 pub build-alike : (e : ℕ → ℕ → ℕ) (n : ℕ) (a b : List ℕ) → n * 6 ≤ length a → n < 2 ^ 64 - 1 → length a ≤ length b → Alike (built e n a) (built e n b)
 unfolding built
 build-alike e zero a b room few len = record { agree = record { long = len; same = λ m g hm hg. absurd (omega arith) }; used = refl }
@@ -69,6 +71,8 @@ same-list a b w long ag rest = ext-getD 0 a b long (λ i hi. go i (decLe w (i / 
     go : (i : ℕ) → Dec (w ≤ i / 6) → getD a i 0 ≡ getD b i 0
     go i (yes h) = let q : i / 6 * 6 + i % 6 ≡ i = omega arith in rw q at (rest (i / 6) (i % 6) h (omega arith))
     go i (no h) = let q : i / 6 * 6 + i % 6 ≡ i = omega arith in rw q at (sym (ag .same (i / 6) (i % 6) (omega arith) (omega arith)))
+
+-- ---- handed on
 
 -- a built table stays one when the next claim is entered
 pub stays-built : (e : ℕ → ℕ → ℕ) (n used : ℕ) (a : List ℕ) → n * 6 + 6 ≤ length a → n + 1 < 2 ^ 64 - 1 → IsBuilt e n a used

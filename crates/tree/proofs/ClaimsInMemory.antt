@@ -14,7 +14,6 @@ use Rattle.tree.proofs.Places.{before-next}
 -- ---- distances
 
 -- distances look at the d numbers of each point alone
-
 distance-ext : (m : Measure) (d : ℕ) (p p' q q' : List ℤ) → ((i : ℕ) → i < d → getD p i (pos 0) ≡ getD p' i (pos 0))
     → ((i : ℕ) → i < d → getD q i (pos 0) ≡ getD q' i (pos 0)) → distance m d p q ≡ distance m d p' q'
 unfolding distance

@@ -22,7 +22,7 @@ use Rattle.paper.specs.Points.{inRange}
 use Rattle.paper.proofs.Ranges.{range-is, is-range}
 use Rattle.paper.specs.Limits.{mostClaims}
 
--- range and lent memory
+-- ---- range and lent memory
 
 -- a capacity in range, times a d in range, is small
 pub few-places : (c d : ℕ) → c ≤ mostClaims → d ≤ 8 → c * d ≤ 32768
@@ -73,7 +73,7 @@ module _ (s : Store) where
 pub lent-located : (t : Table) (places : List ℤ) (numbers n : ℕ) → Lent t (length places) numbers → n ≤ t .capacity → Located (t .d) n places
 lent-located t places numbers n l h = record { narrow = l .narrow; inside = omega (arith, mul-le-mul-right (t .d) h, l .coordinates) }
 
--- rebuilding
+-- ---- rebuilding
 
 module _ (measure d : ℕ) (coordinates : List ℤ) (nodes₀ nodes : List ℕ) (k used : ℕ) (is : grown nodes used ≡ built (apart measure d coordinates) k nodes₀) where
   -- after k claims the next can be entered
@@ -107,7 +107,7 @@ pub rebuild-start : (e : ℕ → ℕ → ℕ) (nodes : List ℕ) → grown nodes
 unfolding built
 rebuild-start e nodes = refl
 
--- testing
+-- ---- testing
 
 -- memory of any contents gives what empty nodes give
 alike-afresh : (e : ℕ → ℕ → ℕ) (nodes : List ℕ) (n : ℕ) → n * 6 ≤ length nodes → n ≤ mostClaims → Alike (afresh e n) (built e n nodes)
@@ -143,7 +143,7 @@ module _ (s : Store) where
         front-ext n again nodes (s .nodes) (agree-at (s .table .used) again nodes (λ m g hm hg. alike .agree .same m g (omega (arith, alike .used)) hg)) in
         rw (le-leb (s .table .count) (s .table .capacity) hc, eq-eqb (afresh (apartIn s) (s .table .count) .used) (s .table .used) (alike .used ∙ e), f, e)
 
--- a table that passes the tests is good
+-- ---- a table that passes the tests is good
 
 pub sound-good : (s : Store) → Fit s → sound s ≡ true → Good s
 unfolding sound IsBuilt
@@ -170,7 +170,8 @@ sound-good s f hs =
     (λ m g hm hg. b .behind m g (omega (arith, xu)) hg) in
     record { fit = f; count = hc; built = grown-eq x (grown (s .nodes) (t .used)) eq xu }
 
--- and the other way round
+-- ---- and the other way round
+
 module _ (s : Store) (g : Good s) where
   room : s .table .count * 6 ≤ length (s .nodes)
   room = omega (arith, g .count, g .fit .lent .nodes)
