@@ -55,23 +55,23 @@ same-length c = simp length-set (omega arith)
 returns : tie.Need-returns
 unfolding answerFrame
 returns c =
-    let fronted = c .before .before .before .before .before .before in
-    let start = fronted .before .before .before .before .before in
-    let a = start .args in
+    let a = c .before .before .before .before .before .before .before .before .before .before .before .args in
     let q = queryIn (a .q) in
     let d = a .q .d in
-    let long : 7 < length (a .q .probe) = search (needs, start .good .0) in
-    let narrow : a .q .d ≤ 8 = start .pre .0 in
+    let long : 7 < length (a .q .probe) = search (needs, c .before .before .before .before .before .before .before .before .before .before .before .good .0) in
+    let pre = c .before .before .before .before .before .before .before .before .before .before .before .pre in
+    let put-front = c .before .before .before .before .before .before .put-front in
+    let narrow : a .q .d ≤ 8 = pre .0 in
     let ld : length (q .probe) ≡ a .q .d = length-take-le (a .q .d) (a .q .probe) (omega arith) in
     let b = front (answerKind (a .q .order)) q (a .p) in
     let f = answerFrame q (a .p) (a .last) (a .count) (a .items .now) in
     let lb = length-front (answerKind (a .q .order)) q (a .p) in
-    let l = length-answer q (a .p) (a .last) (a .count) (a .items .now) (start .pre .1 .0) in
+    let l = length-answer q (a .p) (a .last) (a .count) (a .items .now) (pre .1 .0) in
     let ll = length-line f in
-    let w : fronted .put-front .last .0 ≡ overlaid (a .out .now) 0 b =
-    fronted .put-front .ensures ∙ ap (λ (k : ℕ). overlaid (a .out .now) 0 (front k q (a .p))) (fronted .before .answer-kind .ensures) in
+    let w : put-front .last .0 ≡ overlaid (a .out .now) 0 b =
+    put-front .ensures ∙ ap (λ (k : ℕ). overlaid (a .out .now) 0 (front k q (a .p))) (c .before .before .before .before .before .before .before .answer-kind .ensures) in
     let e : c .before .before .put-tail .last .0 ≡ overlaid (a .out .now) 0 f =
-    c .before .before .put-tail .ensures ∙ sym (over-to (a .out .now) (fronted .put-front .last .0) 0 (28 + 4 * a .q .d) b _ (omega arith) (omega arith) w) in
+    c .before .before .put-tail .ensures ∙ sym (over-to (a .out .now) (put-front .last .0) 0 (28 + 4 * a .q .d) b _ (omega arith) (omega arith) w) in
     (omega arith, rw e (finish (a .out .now) f (60 + 8 * a .q .d + 28 * a .count) (omega arith) (omega arith)))
 
 pub fill-answer-spec : {M : Type 1} → statement M

@@ -53,10 +53,10 @@ slice-aggregate-add c = search (needs, c .before .before .before .before .before
 
 add-requires : tie.Need-add-requires
 add-requires c κs =
+    let a = c .before .before .before .before .before .before .before .before .before .before .before .before .before .before .args in
+    let eight : 7 < length (a .c .coordinates) = search (needs, c .before .before .before .before .before .before .before .before .before .before .before .before .before .before .good .1 .1 .1 .1 .0) in
     let ours = c .before .before .before .before .before .before .before .before in
     let start = ours .before .before .before .before .before .before in
-    let a = start .args in
-    let eight : 7 < length (a .c .coordinates) = search (needs, start .good .1 .1 .1 .1 .0) in
     add-ready (store (a .t) (a .references .now) (a .coordinates .now) (a .nodes .now)) (a .c) (start .pre .serving .ready) (start .pre .range) _
     (ours .before .before .header-for .ensures) _ (ours .is-ours .ensures) (a .out .now) (a .at)
     (c .before .before .before .before .before .before .before .if1 .left) (c .before .before .before .before .before .if2 .left) eight
@@ -72,10 +72,10 @@ same-length-5 c = search needs
 
 returns-3 : tie.Need-returns-3
 returns-3 c =
+    let a = c .before .before .before .before .before .before .before .before .before .before .before .before .before .before .before .before .before .before .before .before .args in
+    let eight : 7 < length (a .c .coordinates) = search (needs, c .before .before .before .before .before .before .before .before .before .before .before .before .before .before .before .before .before .before .before .before .good .1 .1 .1 .1 .0) in
     let ours = c .before .before .before .before .before .before .before .before .before .before .before .before .before .before in
     let start = ours .before .before .before .before .before .before in
-    let a = start .args in
-    let eight : 7 < length (a .c .coordinates) = search (needs, start .good .1 .1 .1 .1 .0) in
     claim-in (store (a .t) (a .references .now) (a .coordinates .now) (a .nodes .now)) (a .c) (start .pre .serving .ready) (start .pre .range) _
     (ours .before .before .header-for .ensures) _ (ours .is-ours .ensures) (a .out .now) (a .at)
     (c .before .before .before .before .before .before .before .before .before .before .before .before .before .if1 .left)

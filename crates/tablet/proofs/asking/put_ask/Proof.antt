@@ -20,11 +20,11 @@ same-length c = search needs
 
 returns : tie.Need-returns
 returns c =
-    let start = c .before .before .before .before .before .before .before .before in
-    let g = start .args in
-    let long : 7 < length (g .l .query .probe) = search (needs, start .good .0) in
-    ask-written (g .l) (g .room .now) (g .size) (start .pre .0) (start .pre .1 .0) (start .pre .1 .1 .0) long _
-    (c .before .before .before .before .before .present .ensures) _ (start .pre .1 .1 .1) _ _ (c .before .before .write-ask .ensures)
+    let g = c .before .before .before .before .before .before .before .before .args in
+    let long : 7 < length (g .l .query .probe) = search (needs, c .before .before .before .before .before .before .before .before .good .0) in
+    let pre = c .before .before .before .before .before .before .before .before .pre in
+    ask-written (g .l) (g .room .now) (g .size) (pre .0) (pre .1 .0) (pre .1 .1 .0) long _
+    (c .before .before .before .before .before .present .ensures) _ (pre .1 .1 .1) _ _ (c .before .before .write-ask .ensures)
 
 pub put-ask-spec : {M : Type 1} → statement M
 put-ask-spec =

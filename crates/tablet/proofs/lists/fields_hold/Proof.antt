@@ -24,8 +24,8 @@ slice-aggregate-unused-zero c = search needs
 
 unused-zero-requires : tie.Need-unused-zero-requires
 unused-zero-requires c κs =
+    let long : 7 < length (c .before .before .before .before .before .before .before .args .l .query .probe) = search needs in
     let l = c .before .before .before .before .before .before .before .args .l in
-    let long : 7 < length (l .query .probe) = search needs in
     let small : l .query .d ≤ 8 =
     range-d l 0 _ (c .before .before .before .before .has-lines .ensures) (c .before .before .before .if1 .left) _ (c .before .before .in-range .ensures) (c .before .if2 .left) in
     omega arith
