@@ -26,7 +26,7 @@ use Rattle.paper.specs.Codec.{placeIn, askMeant, answerLine, readAsk, lines}
 use Rattle.paper.specs.Program.{replyTo}
 use Rattle.paper.proofs.Tests.{and-first, and-second}
 use Rattle.lines.proofs.WritersReaders.{writes-refused}
-use Rattle.lines.proofs.Tests.{any-ask}
+use Rattle.lines.proofs.AskTests.{any-ask}
 use Rattle.paper.specs.Calls.{tableQuery}
 use Rattle.tree.proofs.Places.{claims-length}
 use Rattle.end_office.specs.Desk.{Given, Answering, AskOurs, askIn, pageLine, pageReply}

@@ -30,11 +30,11 @@ use Rattle.lines.proofs.WritersReaders.{writes-refused, bare-fits}
 use Rattle.paper.specs.Codec.{scopeOf, askLine, answerMeant, lines}
 use Rattle.paper.proofs.Tests.{and-first, and-second, and-both}
 use Rattle.paper.proofs.Reading.{answer-by-refusal}
-use Rattle.lines.proofs.Tests.{is-answer}
+use Rattle.lines.proofs.AnswerTests.{is-answer}
 use Rattle.end_tablet.specs.Holding.{AskReady}
 use Rattle.paper.proofs.Ranges.{range-is}
 use Rattle.paper.proofs.Outcomes.{must-stop, must-go}
-use Rattle.end_tablet.proofs.TakeLaws.{present-after, present-start}
+use Rattle.end_tablet.proofs.PresentAsk.{present-after, present-start}
 use Rattle.paper.specs.Limits.{longestAsk, mostClaims, mostNumber, mostPage, mostCoordinates}
 
 -- ---- taking a line

@@ -1,5 +1,5 @@
 -- Items in a room, read one by one: what each way through `item_holds` gives, and what one pass over the items means. Assumes nothing.
-use Prim.Native.Nat.{ℕ, suc, _+_, _-_, _*_, _<_, _≤_}
+use Prim.Native.Nat.{ℕ, zero, suc, _+_, _-_, _*_, _<_, _≤_}
 use mathlib.Core.Path.{_≡_, refl, sym, _∙_}
 use mathlib.Core.Bool.{Bool, true, false, not, _&&_}
 use mathlib.Core.List.{List, [], _∷_}
@@ -10,11 +10,13 @@ use borrow.Author.Tests.{le-leb, lt-leb, lt-ltb, le-ltb, not-true, not-false}
 use Rattle.paper.specs.declared.orders.Order.{Order}
 use Rattle.paper.specs.declared.orders.Place.{Place}
 use Rattle.paper.specs.declared.orders.Place.the-variants.{Start}
-use Rattle.paper.specs.Orders.{Item, before, follows}
+use Rattle.paper.specs.Orders.{Item, noItem, before, follows}
 use Rattle.paper.specs.Ends.{fitting, leads, rising, every}
 use Rattle.paper.specs.Lists.{itemsIn}
 use Rattle.paper.proofs.Tests.{and-first, and-second, and-both, alike}
 use Rattle.end_tablet.specs.Holding.{itemHolds, itemsHold}
+
+-- ---- items in a room
 
 -- item i of a room
 abbrev pub itemAt : List ℕ → ℕ → Item
@@ -29,11 +31,23 @@ items-open room i count h =
     let z : i * 3 + 0 ≡ i * 3 = omega arith in
     rw (e, n, getD-drop (i * 3) room 0 0, z, getD-drop (i * 3) room 1 0, getD-drop (i * 3) room 2 0, drop-drop 3 (i * 3) room)
 
+pub item-get : (n k : ℕ) (room : List ℕ) → k < n → getD (itemsIn n room) k noItem ≡ itemAt room k
+unfolding itemsIn
+item-get zero k room h = absurd (omega arith)
+item-get (suc n) zero room h = refl
+item-get (suc n) (suc k) room h =
+    let a : 3 + k * 3 ≡ suc k * 3 = omega arith in
+    let b : 3 + (k * 3 + 1) ≡ suc k * 3 + 1 = omega arith in
+    let e : 3 + (k * 3 + 2) ≡ suc k * 3 + 2 = omega arith in
+    item-get n k (drop 3 room) (omega arith)
+    ∙ rw (getD-drop 3 room (k * 3) 0, getD-drop 3 room (k * 3 + 1) 0, getD-drop 3 room (k * 3 + 2) 0, a, b, e)
+
 items-none : (room : List ℕ) (i count : ℕ) → count ≤ i → itemsIn (count - i) (drop (i * 3) room) ≡ []
 unfolding itemsIn
 items-none room i count h = let e : count - i ≡ 0 = omega arith in rw e
 
--- the ways through `item_holds`
+-- ---- the ways through `item_holds`
+
 module _ (o : Order) (p : Place) (reach snapshot : ℕ) (room : List ℕ) (i count : ℕ) (hi : i < count) where
   abbrev suffix : List Item
   suffix = itemsIn (count - i) (drop (i * 3) room)
@@ -84,7 +98,8 @@ module _ (o : Order) (p : Place) (reach snapshot : ℕ) (room : List ℕ) (i cou
               items-none room (i + 1) count h,
             )
 
--- the loop, from the last item on
+-- ---- the loop, from the last item on
+
 module _ (o : Order) (p : Place) (reach snapshot : ℕ) (room : List ℕ) (count : ℕ) where
   pub pass-start : true ≡ itemsHold o p reach snapshot (itemsIn (count - count) (drop (count * 3) room))
   unfolding itemsHold
@@ -105,7 +120,8 @@ module _ (o : Order) (p : Place) (reach snapshot : ℕ) (room : List ℕ) (count
       let b : count - i ≡ count = omega arith in
       rw (a, b) at h
 
--- what one pass means
+-- ---- what one pass means
+
 pub pass-means : (o : Order) (p : Place) (reach snapshot : ℕ) (l : List Item)
     → itemsHold o p reach snapshot l ≡ rising o l && (every (follows o p) l && every (fitting reach snapshot) l)
 unfolding itemsHold itemHolds rising every

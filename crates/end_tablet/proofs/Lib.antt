@@ -1,4 +1,5 @@
 pub mod ItemLaws
 pub mod ListLaws
+pub mod PresentAsk
 pub mod TakeLaws
 pub mod EndLaws

@@ -1,160 +1,32 @@
--- An answer beside a list: what each way through the tests of taking gives. Assumes nothing.
+-- An answer taken by a list: what its page has to be, what soundness says of the list, and what each way through taking gives. Assumes nothing.
 use Prim.Native.Nat.{ℕ, zero, suc, _+_, _-_, _*_, _/_, _<_, _≤_}
 use mathlib.Core.Path.{_≡_, refl, sym, ap, _∙_}
-use mathlib.Core.Bool.{Bool, true, false, not, cond, _&&_, _||_}
+use mathlib.Core.Bool.{Bool, true, false, not, _&&_, _||_}
 use mathlib.Core.List.{List, [], _∷_, _++_}
 use native.Mathlib.Nat.{mul-comm}
 use native.Mathlib.Omega.{arith}
 use lib.Dec.{leb, eqb}
-use lib.ListN.{length, getD, take, drop, length-append}
-use lib.Seq.{getD-drop, paste}
-use borrow.Author.Tests.{le-leb, lt-leb, leb-true, eq-eqb, ne-eqb, not-true, not-false, ltb-true}
+use lib.ListN.{length, getD, take, length-append}
+use lib.Seq.{paste}
+use borrow.Author.Tests.{le-leb, lt-leb, leb-true, not-true, not-false, ltb-true}
 use Rattle.paper.specs.declared.lines.Answer.{Answer}
-use Rattle.paper.specs.declared.lines.Scope.{Scope}
 use Rattle.paper.specs.declared.lists.List as lists
-use Rattle.paper.specs.declared.queries.Query as queries
 use Rattle.paper.specs.declared.lists.Taken.{Taken}
-use Rattle.paper.specs.declared.orders.Mark.{Mark}
 use Rattle.paper.specs.declared.orders.Order.{Order}
 use Rattle.paper.specs.declared.orders.Place.{Place}
-use Rattle.paper.specs.declared.orders.Place.the-variants.{Start, After}
-use Rattle.paper.specs.Orders.{Item, noItem, queryIn, follows, snapshotOf, flat, fronted}
-use Rattle.paper.specs.Ends.{every, rising, fitting, lastItem, presentPlace, sameProbe, sameQuery, samePlace, toPresent, pageHolds, startedWell, soundIn, joinedTo, taken, Listing}
+use Rattle.paper.specs.Orders.{Item, noItem, follows, flat, fronted}
+use Rattle.paper.specs.Ends.{every, rising, fitting, toPresent, pageHolds, startedWell, soundIn, joinedTo, taken, Listing}
 use Rattle.paper.specs.Lines.{spoken}
 use Rattle.paper.specs.Lists.{Takes, takenShown, putItems, held, itemsIn, listing, heldWell, soundHeld}
-use Rattle.paper.specs.Codec.{placeIn, scopeOf, answerMeant}
+use Rattle.paper.specs.Codec.{placeIn, answerMeant}
 use Rattle.paper.specs.Outcomes.{Outcome, refused, gives, must}
 use Rattle.paper.specs.Points.{inRange}
 use Rattle.paper.proofs.Tests.{and-first, and-second, never}
 use Rattle.paper.proofs.Outcomes.{must-stop, must-go, promise-refused, promise-given}
 use Rattle.orders.proofs.Rooms.{length-in, flat-in, flat-append}
 use Rattle.end_tablet.specs.Holding.{itemsHold, startedBy, AskReady, joinedFields}
-use Rattle.end_tablet.proofs.ItemLaws.{itemAt, pass-means}
-use Rattle.end_tablet.proofs.ListLaws.{same-take}
+use Rattle.end_tablet.proofs.ItemLaws.{itemAt, pass-means, item-get}
 use Rattle.paper.specs.Limits.{mostClaims}
-
--- ---- slots
-
-start-cond : (b : Bool) (n : ℕ) (m : Mark) → b ≡ samePlace Start (cond b Start (After n m))
-unfolding samePlace
-start-cond true n m = refl
-start-cond false n m = refl
-
-module _ (p q : Scope) where
-  pub place-start : p .from ≡ 0 → eqb (q .from) 0 ≡ samePlace (placeIn p) (placeIn q)
-  unfolding placeIn
-  place-start h = rw (eq-eqb (p .from) 0 h) (start-cond (eqb (q .from) 0) (q .snapshot) (record { distance = q .distance; number = q .number }))
-
-  module _ (hp : p .from ≡ 0 → ⊥) where
-    pub place-from : q .from ≡ 0 → false ≡ samePlace (placeIn p) (placeIn q)
-    unfolding placeIn samePlace
-    place-from h = rw (ne-eqb (p .from) 0 hp, eq-eqb (q .from) 0 h)
-
-    module _ (hq : q .from ≡ 0 → ⊥) where
-      pub place-snapshot : (p .snapshot ≡ q .snapshot → ⊥) → false ≡ samePlace (placeIn p) (placeIn q)
-      unfolding placeIn samePlace
-      place-snapshot h = rw (ne-eqb (p .from) 0 hp, ne-eqb (q .from) 0 hq, ne-eqb (p .snapshot) (q .snapshot) h)
-
-      pub place-distance : p .snapshot ≡ q .snapshot → (p .distance ≡ q .distance → ⊥) → false ≡ samePlace (placeIn p) (placeIn q)
-      unfolding placeIn samePlace
-      place-distance e h =
-          rw (ne-eqb (p .from) 0 hp, ne-eqb (q .from) 0 hq, eq-eqb (p .snapshot) (q .snapshot) e, ne-eqb (p .distance) (q .distance) h)
-
-      pub place-number : p .snapshot ≡ q .snapshot → p .distance ≡ q .distance → eqb (p .number) (q .number) ≡ samePlace (placeIn p) (placeIn q)
-      unfolding placeIn samePlace
-      place-number e f =
-          rw (ne-eqb (p .from) 0 hp, ne-eqb (q .from) 0 hq, eq-eqb (p .snapshot) (q .snapshot) e, eq-eqb (p .distance) (q .distance) f)
-
--- what was written reads back
-pub place-back : (p : Place) → placeIn (scopeOf p (snapshotOf p 0)) ≡ p
-unfolding placeIn scopeOf
-place-back Start = refl
-place-back (After n m) = refl
-
--- ---- queries
-
-module _ (p q : queries.Query) where
-  abbrev same : Bool
-  same = sameQuery (queryIn p) (queryIn q)
-
-  pub query-table : (p .table ≡ q .table → ⊥) → false ≡ same
-  unfolding sameQuery
-  query-table h = rw (ne-eqb (p .table) (q .table) h)
-
-  module _ (ht : p .table ≡ q .table) where
-    pub query-measure : (p .measure ≡ q .measure → ⊥) → false ≡ same
-    unfolding sameQuery
-    query-measure h = rw (eq-eqb (p .table) (q .table) ht, ne-eqb (p .measure) (q .measure) h)
-
-    module _ (hm : p .measure ≡ q .measure) where
-      pub query-d : (p .d ≡ q .d → ⊥) → false ≡ same
-      unfolding sameQuery
-      query-d h = rw (eq-eqb (p .table) (q .table) ht, eq-eqb (p .measure) (q .measure) hm, ne-eqb (p .d) (q .d) h)
-
-      module _ (hd : p .d ≡ q .d) (b : Bool) (be : b ≡ sameProbe (p .d) (p .probe) (q .probe)) where
-        probes : sameProbe (p .d) (take (p .d) (p .probe)) (take (q .d) (q .probe)) ≡ b
-        probes = same-take (p .d) (p .d) (q .d) (p .probe) (q .probe) (omega arith) (omega arith) ∙ sym be
-
-        pub query-probe : not b ≡ true → false ≡ same
-        unfolding sameQuery
-        query-probe h =
-            rw (eq-eqb (p .table) (q .table) ht, eq-eqb (p .measure) (q .measure) hm, eq-eqb (p .d) (q .d) hd, probes, not-true b h)
-
-        pub query-reach : not b ≡ false → eqb (p .reach) (q .reach) ≡ same
-        unfolding sameQuery
-        query-reach h =
-            rw (eq-eqb (p .table) (q .table) ht, eq-eqb (p .measure) (q .measure) hm, eq-eqb (p .d) (q .d) hd, probes, not-false b h)
-
--- ---- the present ask
-
-item-get : (n k : ℕ) (room : List ℕ) → k < n → getD (itemsIn n room) k noItem ≡ itemAt room k
-unfolding itemsIn
-item-get zero k room h = absurd (omega arith)
-item-get (suc n) zero room h = refl
-item-get (suc n) (suc k) room h =
-    let a : 3 + k * 3 ≡ suc k * 3 = omega arith in
-    let b : 3 + (k * 3 + 1) ≡ suc k * 3 + 1 = omega arith in
-    let e : 3 + (k * 3 + 2) ≡ suc k * 3 + 2 = omega arith in
-    item-get n k (drop 3 room) (omega arith)
-    ∙ rw (getD-drop 3 room (k * 3) 0, getD-drop 3 room (k * 3 + 1) 0, getD-drop 3 room (k * 3 + 2) 0, a, b, e)
-
-every-at : (p : Item → Bool) (l : List Item) (k : ℕ) → k < length l → every p l ≡ true → p (getD l k noItem) ≡ true
-unfolding every
-every-at p [] k h e = absurd (omega arith)
-every-at p (a ∷ l) zero h e = and-first (p a) _ e
-every-at p (a ∷ l) (suc k) h e = every-at p l k (omega arith) (and-second (p a) _ e)
-
--- the last item of a list that has one
-last-at : (n : ℕ) (room : List ℕ) → 1 ≤ n → lastItem (itemsIn n room) ≡ itemAt room (n - 1)
-last-at n room h = rw (length-in n room) (item-get n (n - 1) room (omega arith))
-
-module _ (l : lists.List) (room : List ℕ) where
-  abbrev present-at : Place
-  present-at = presentPlace (listing (held l room))
-
-  pub present-after : l .started ≡ true → 1 ≤ l .count
-      → record { from = 1; snapshot = l .snapshot; distance = getD room (l .count * 3 - 1) 0; number = getD room (l .count * 3 - 3) 0 } ≡ scopeOf present-at (snapshotOf present-at 0)
-  unfolding presentPlace listing scopeOf
-  present-after s h =
-      let a : (l .count - 1) * 3 ≡ l .count * 3 - 3 = omega arith in
-      let b : l .count * 3 - 3 + 2 ≡ l .count * 3 - 1 = omega arith in
-      rw (s, last-at (l .count) room h, a, b)
-
-  pub present-start : l .started ≡ false → record { from = 0; snapshot = 0; distance = 0; number = 0 } ≡ scopeOf present-at (snapshotOf present-at 0)
-  unfolding presentPlace listing scopeOf
-  present-start s = rw s
-
-  module _ (y : Answer) (a : Bool) (ae : a ≡ sameQuery (queryIn (l .query)) (queryIn (y .query))) where
-    pub present-query : not a ≡ true → false ≡ toPresent (listing (held l room)) (answerMeant y)
-    unfolding toPresent listing answerMeant
-    present-query h = rw (← ae, not-true a h)
-
-    pub present-place : not a ≡ false → (p : Scope) → p ≡ scopeOf present-at (snapshotOf present-at 0)
-        → (r : Bool) → r ≡ samePlace (placeIn p) (placeIn (y .scope)) → r ≡ toPresent (listing (held l room)) (answerMeant y)
-    unfolding toPresent listing answerMeant
-    present-place h p pe r e =
-        let b : placeIn p ≡ present-at = ap placeIn pe ∙ place-back present-at in
-        e ∙ ap (λ (u : Place). samePlace u (placeIn (y .scope))) b ∙ rw (← ae, not-false a h)
 
 -- ---- the page
 
@@ -184,7 +56,7 @@ module _ (y : Answer) (u : Place) (ue : u ≡ placeIn (y .scope)) (a : Bool)
   pub page-none : not a ≡ false → y .count < 1 → eqb (y .last) 1 ≡ pageHolds (answerMeant y)
   page-none h k = rw (page-splits, not-false a h, lt-leb 1 (y .count) k)
 
--- ---- taking
+-- ---- items joined
 
 flat-items : (k : ℕ) (room : List ℕ) → k * 3 ≤ length room → flat (itemsIn k room) ≡ take (k * 3) room
 flat-items k room h = rw (mul-comm k 3) (flat-in k room (omega arith))
@@ -197,6 +69,14 @@ join-front room items c n h k =
     let e : 3 * length (itemsIn c room ++ itemsIn n items) ≡ c * 3 + n * 3 =
     omega (arith, length-append (itemsIn c room) (itemsIn n items), length-in c room, length-in n items) in
     rw (e, flat-append (itemsIn c room) (itemsIn n items), flat-items c room (omega arith), flat-items n items k)
+
+-- ---- what soundness says of a list that is not complete
+
+every-at : (p : Item → Bool) (l : List Item) (k : ℕ) → k < length l → every p l ≡ true → p (getD l k noItem) ≡ true
+unfolding every
+every-at p [] k h e = absurd (omega arith)
+every-at p (a ∷ l) zero h e = and-first (p a) _ e
+every-at p (a ∷ l) (suc k) h e = every-at p l k (omega arith) (and-second (p a) _ e)
 
 has-item : (started complete : Bool) (n snapshot : ℕ) → started ≡ true → complete ≡ false → startedBy started n snapshot complete ≡ true → 1 ≤ n
 unfolding startedBy
@@ -214,7 +94,6 @@ last-below n room reach snapshot h e =
     let b : getD room ((n - 1) * 3) 0 < snapshot = ltb-true (getD room ((n - 1) * 3) 0) snapshot (and-second (leb (getD room ((n - 1) * 3 + 2) 0) reach) _ f) in
     rw a at b
 
--- what soundness says of a list that is not complete
 module _ (l : lists.List) (room : List ℕ) (sound : soundHeld (held l room) ≡ true) where
   parts : soundIn (length room / 3) (listing (held l room)) ≡ true
   unfolding soundHeld

@@ -20,10 +20,13 @@ use Rattle.orders.proofs.Lists.{All, all-append, all-map, every-true, every-all
 use Rattle.tree.specs.Soundness.{Good, Roomy}
 use Rattle.tree.proofs.Places.{claims-length}
 use Rattle.tree.proofs.TestedTables.{fits-fit, fit-fits, sound-good, good-sound}
-use Rattle.tree.proofs.Adding.{in-run, point-length, HeaderKept, run-claims, run-kept}
+use Rattle.tree.proofs.Adding.{in-run, HeaderKept, run-claims, run-kept}
+use Rattle.tree.proofs.ClaimsInMemory.{point-length}
 use Rattle.tree.proofs.RunLaws.{enters-gives, zero-enters}
 use Rattle.journey.specs.World.{runEntering}
 use Rattle.journey.specs.EnteredRuns.{runOf, referencesOf, pointsOf, callEnters}
+
+-- ---- what the call enters, a world enters
 
 -- each claim that is cut out of a run has d coordinates, where the run has them
 claims-whole : (d n m : ℕ) (given : List ℕ) (points : List ℤ) → length points ≡ d * m → n ≤ m

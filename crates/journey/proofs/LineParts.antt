@@ -28,6 +28,8 @@ use Rattle.paper.proofs.Ranges.{range-is}
 use Rattle.orders.proofs.Lists.{All}
 use Rattle.paper.specs.Limits.{mostClaims, mostNumber}
 
+-- ---- slots and scopes
+
 -- a place's scope, and the place of a scope
 pub scope-place : (p : Place) (s : ℕ) → snapshotOf p s ≡ s → placeIn (scopeOf p s) ≡ p
 unfolding scopeOf placeIn
@@ -89,6 +91,8 @@ pub scope-small : (s : Scope) → scopeOk s ≡ true → s .snapshot ≤ mostCla
 unfolding scopeOk
 scope-small s e = leb-true _ _ (and-first _ _ (and-second (leb (s .from) 1) _ e))
 
+-- ---- coordinates and queries
+
 -- coordinates of 32 bits
 probe-fit : (cs : List ℤ) → ((x : ℤ) → List·Memᴰ x cs → mag x < 2 ^ 31) → Signed32 cs
 probe-fit [] f = tt
@@ -111,6 +115,8 @@ query-fit q ok =
       probe = probe-fit (q .probe) (ok .typed .probe);
       reach = ok .typed .reach;
     }
+
+-- ---- items
 
 -- items as numbers, three for each
 pub flat-numbers : (l : List Item) → All ItemInRange l → numbersOk (flat l) ≡ true

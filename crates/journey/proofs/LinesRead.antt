@@ -18,10 +18,12 @@ use Rattle.paper.specs.Lines.{askKind, answerKind, spoken, askOrder, behind, qu
 use Rattle.paper.specs.Outcomes.{gives}
 use Rattle.paper.specs.Ends.{Ask, Answer}
 use Rattle.paper.specs.Codec.{askMeant, answerMeant, readAsk, readAnswer}
-use Rattle.line_digits.proofs.NumbersAndFrames.{Bytes, bytes-drop, bytes-frame, num-lt}
+use Rattle.line_digits.proofs.NumbersAndFrames.{Bytes, bytes-drop, num-lt}
+use Rattle.line_digits.proofs.LinesAndFrames.{bytes-frame}
 use Rattle.line_fields.proofs.PartLaws.{HeadOk, length-coordsIn}
 use Rattle.line_fields.proofs.Round.{take-slots}
-use Rattle.lines.proofs.Tests.{any-ask, is-answer}
+use Rattle.lines.proofs.AskTests.{any-ask}
+use Rattle.lines.proofs.AnswerTests.{is-answer}
 use Rattle.orders.specs.LawfulLines.{QueryInRange, AskInRange, AnswerInRange}
 use Rattle.paper.proofs.Tests.{and-first, and-second}
 use Rattle.paper.proofs.Outcomes.{must-test, must-rest, same-given}
@@ -29,6 +31,8 @@ use Rattle.orders.proofs.Lists.{all-mem}
 use Rattle.orders.proofs.Rooms.{length-in}
 use Rattle.journey.proofs.LineParts.{place-ok, place-used, scope-small, probe-read, items-ok}
 use Rattle.paper.specs.Limits.{itemRoom}
+
+-- ---- what a frame holds is in range
 
 -- what stands behind the probe is bytes
 bytes-behind : (f : List ℕ) → Bytes f → Bytes (behind f)
@@ -88,6 +92,8 @@ module _ (f : List ℕ) (b : Bytes f) where
         },
         refl,
       )
+
+-- ---- handed on
 
 -- a line that reads is in range; an ask is of an order that has lines, an answer of the order it is read in
 pub ask-ok : (l : List ℕ) (a : Ask) → readAsk l ≡ gives a → AskInRange a × (spoken (a .query .order) ≡ true)

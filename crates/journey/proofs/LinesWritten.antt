@@ -15,10 +15,11 @@ use Rattle.paper.specs.Outcomes.{gives}
 use Rattle.paper.specs.Ends.{Ask, Answer}
 use Rattle.paper.specs.Codec.{scopeOf, askLine, answerLine, askMeant, answerMeant, readAsk, readAnswer}
 use Rattle.paper.proofs.Reading.{ask-by-refusal, answer-by-refusal}
-use Rattle.line_digits.proofs.NumbersAndFrames.{frame-line}
+use Rattle.line_digits.proofs.LinesAndFrames.{frame-line}
 use Rattle.line_fields.proofs.Round.{ScopeFit, front-read}
 use Rattle.paper.proofs.LineKinds.{ask-small, answer-small}
-use Rattle.lines.proofs.Tests.{bytes-ask, bytes-answer}
+use Rattle.lines.proofs.AskTests.{bytes-ask}
+use Rattle.lines.proofs.AnswerTests.{bytes-answer}
 use Rattle.lines.proofs.AskRound.{ask-reads-back}
 use Rattle.lines.proofs.AnswerRound.{answer-reads-back}
 use Rattle.orders.specs.LawfulLines.{QueryInRange, AskInRange, ItemInRange, AnswerInRange}
@@ -27,6 +28,8 @@ use Rattle.orders.proofs.Lists.{All, all-of-mem}
 use Rattle.orders.proofs.Rooms.{read-flat, flat-length, query-placed}
 use Rattle.journey.proofs.LineParts.{scope-place, scope-snapshot, asked-small, asked-used, scope-ok, scope-fit, scope-asks, query-fit, flat-numbers, flat-references, flat-distances}
 use Rattle.paper.specs.Limits.{itemRoom, mostPage}
+
+-- ---- flags and queries
 
 flag-back : (b : Bool) → eqb (flagOf b) 1 ≡ b
 flag-back true = refl
@@ -40,6 +43,8 @@ flag-small false = omega arith
 query-fits : (q : Query) → QueryInRange q → spoken (q .order) ≡ true → queryFits q ≡ true
 unfolding queryFits
 query-fits q ok o = and-both _ _ o (and-both _ _ (ok .range) (eq-eqb _ _ (ok .long)))
+
+-- ---- an ask
 
 -- an ask's fields, as its reader gives them
 module _ (a : Ask) (ok : AskInRange a) where
@@ -79,6 +84,8 @@ module _ (a : Ask) (ok : AskInRange a) where
   ask-begins =
       ap (num 1) (frame-line _ (bytes-ask (a .query) scope (a .size)))
       ∙ front-read _ _ (a .query) scope _ refl (ask-small (a .query .order)) (query-fit (a .query) (ok .query)) scope-fits .kind
+
+-- ---- an answer
 
 -- an answer's
 module _ (y : Answer) (ok : AnswerInRange y) where

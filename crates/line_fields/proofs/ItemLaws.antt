@@ -11,10 +11,13 @@ use borrow.Author.Tests.{ltb-true, leb-true, le-leb, lt-leb, lt-ltb, le-ltb}
 use lib.Seq.{drop-cons, drop-drop}
 use Rattle.paper.specs.Frames.{be, num}
 use Rattle.line_digits.specs.Places.{overlaid}
-use Rattle.line_digits.proofs.NumbersAndFrames.{and-false, and-both, num-lt, Bytes, bytes-append, bytes-be, bytes-drop, length-be, field-read, field-back}
+use Rattle.line_digits.proofs.LinesAndFrames.{and-false, and-both}
+use Rattle.line_digits.proofs.NumbersAndFrames.{num-lt, Bytes, bytes-append, bytes-be, bytes-drop, length-be, field-read, field-back}
 use Rattle.paper.specs.Fields.{itemFrame, itemBytes, itemNumbers, numbersOk, referencesOk}
 use Rattle.line_fields.proofs.PartLaws.{over-to}
 use Rattle.paper.specs.Limits.{itemRoom, mostNumber, mostPage}
+
+-- ---- the bytes of items
 
 pub length-item : (n r x : ℕ) → length (itemFrame n r x) ≡ 14
 unfolding itemFrame
@@ -42,6 +45,8 @@ bytes-items (n ∷ []) = tt
 bytes-items (n ∷ r ∷ []) = tt
 bytes-items (n ∷ r ∷ x ∷ ns) = bytes-append (itemFrame n r x) (itemBytes ns) (bytes-item n r x) (bytes-items ns)
 
+-- ---- items written one by one
+
 -- one item of those that are left to write
 pub item-step : (o o' : List ℕ) (at i : ℕ) (ns : List ℕ) → 3 * i + 2 < length ns → 2 * (at + 14 * (i + 1)) ≤ length o
     → o' ≡ overlaid o (at + 14 * i) (itemFrame (getD ns (3 * i) 0) (getD ns (3 * i + 1) 0) (getD ns (3 * i + 2) 0))
@@ -56,6 +61,8 @@ item-step o o' at i ns h k e =
     let e' : o' ≡ overlaid o (at + 14 * i) (itemFrame (getD ns (3 * i) 0) (getD ns (suc (3 * i)) 0) (getD ns (suc (suc (3 * i))) 0)) = rw (← e2, ← e1) e in
     rw (e3, drop-cons ns (3 * i) 0 (omega arith), drop-cons ns (suc (3 * i)) 0 (omega arith), drop-cons ns (suc (suc (3 * i))) 0 (omega arith))
     (over-to o o' (at + 14 * i) (at + 14 * (i + 1)) (itemFrame (getD ns (3 * i) 0) (getD ns (suc (3 * i)) 0) (getD ns (suc (suc (3 * i))) 0)) (itemBytes (drop (suc (suc (suc (3 * i)))) ns)) (omega arith) k e')
+
+-- ---- items read one by one
 
 pub length-itemsIn : (k : ℕ) (f : List ℕ) → length (itemNumbers k f) ≡ 3 * k
 unfolding itemNumbers
@@ -91,7 +98,8 @@ slots-step f i h =
     rw (e, add-one i, items-snoc i f, ← add-one i)
     (three (itemNumbers i f) (replicate (itemRoom - 3 * (i + 1)) 0) (3 * i) (num 2 (drop (14 * i) f)) (num 4 (drop (14 * i + 2) f)) (num 8 (drop (14 * i + 6) f)) 0 0 0 (length-itemsIn i f))
 
--- there and back
+-- ---- there and back
+
 pub items-back : (k : ℕ) (f : List ℕ) → Bytes f → 14 * k ≤ length f → itemBytes (itemNumbers k f) ++ drop (14 * k) f ≡ f
 unfolding itemNumbers itemBytes itemFrame
 items-back zero f p h = refl
@@ -168,6 +176,8 @@ module _ (ns : List ℕ) (j : ℕ) (h : j + 2 < length ns) where
   pub fit-reference : 4294967295 < getD ns (j + 1) 0 → fitting (drop j ns) ≡ false
   unfolding fitting referencesOk numbersOk
   fit-reference p = rw (three-drop ns j h, le-ltb (getD ns (j + 1) 0) 4294967296 (omega arith))
+
+-- ---- handed on
 
 -- what the tests give for reading items back; distances come in as many bits as they have
 abbrev pub Distances : List ℕ → Type 0

@@ -14,7 +14,9 @@ use mir.Syntax.{w32}
 use mir.Val.{ofZ, toZ}
 use Rattle.paper.specs.Frames.{be, num}
 use Rattle.line_digits.specs.Places.{overlaid}
-use Rattle.line_digits.proofs.NumbersAndFrames.{Bytes, bytes-append, bytes-be, length-be, over-append, and-both}
+use Rattle.line_digits.proofs.NumbersAndFrames.{Bytes, bytes-append, bytes-be, length-be}
+use Rattle.line_digits.proofs.WritingOver.{over-append}
+use Rattle.line_digits.proofs.LinesAndFrames.{and-both}
 use borrow.Author.Tests.{le-leb, leb-true, eqb-true, eq-eqb}
 use Rattle.paper.specs.Points.{inRange, InRange}
 use Rattle.paper.specs.Orders.{Query}

@@ -20,6 +20,8 @@ use Rattle.paper.specs.Lines.{behind, queryAt}
 use Rattle.line_fields.specs.Fronts.{Begun}
 use Rattle.line_fields.proofs.PartLaws.{length-coordsIn, length-coordBytes}
 
+-- ---- the head, and coordinates
+
 -- what a frame that begins with a head says
 pub record Heads (f : List ℕ) (k t m d : ℕ) (g : List ℕ) : Type 0 where
   pub kind : num 1 f ≡ k

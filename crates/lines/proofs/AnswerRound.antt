@@ -17,12 +17,14 @@ use Rattle.paper.specs.declared.lines.Answer.{Answer}
 use Rattle.paper.specs.declared.lines.AnswerRead.{AnswerRead}
 use Rattle.paper.specs.declared.orders.Order.{Order}
 use Rattle.paper.proofs.LineKinds.{answer-small, answer-some, answer-spoken}
-use Rattle.line_digits.proofs.NumbersAndFrames.{Bytes, bytes-drop, bytes-frame, field-read, field-back, frame-line, sound-line, line-of-sound}
+use Rattle.line_digits.proofs.NumbersAndFrames.{Bytes, bytes-drop, field-read, field-back}
+use Rattle.line_digits.proofs.LinesAndFrames.{bytes-frame, frame-line, sound-line, line-of-sound}
 use Rattle.line_fields.proofs.PartLaws.{head-rule}
 use Rattle.line_fields.proofs.ItemLaws.{Distances, items-fitting, items-read, items-back, length-itemsIn, references-in}
 use Rattle.line_fields.proofs.Round.{QueryFit, ScopeFit, Fronts, front-read, front-back}
 use Rattle.lines.proofs.WritersReaders.{reads, accepted}
-use Rattle.lines.proofs.Tests.{read-fits, last-at, items-from, length-answer, bytes-answer, answer-fits, is-answer, answer-begun}
+use Rattle.lines.proofs.QueryTests.{read-fits, last-at}
+use Rattle.lines.proofs.AnswerTests.{items-from, length-answer, bytes-answer, answer-fits, is-answer, answer-begun}
 use Rattle.paper.specs.Limits.{itemRoom}
 
 -- ---- what is written is read
@@ -61,7 +63,18 @@ module _ (q : Query) (p : Scope) (last n : ℕ) (ns : List ℕ) (fit : answerFit
       let w = answer-fits q p last n ns fit in
       let l : length frame ≡ 30 + 4 * q .d + 14 * n =
       length-answer q p last n ns (w .count) ∙ ap (λ (x : ℕ). 30 + 4 * x + 14 * n) (w .query .count) in
-      rw (head-rule k (q .measure) (q .d) frame (answer-some (q .order) (w .query .known)) (begins .kind) (begins .measure) (begins .dim) (w .query .test), begins .dim, l, count-read .0, eq-eqb (30 + 4 * q .d + 14 * n) (30 + 4 * q .d + 14 * n) refl, begins .scope, last-read .0, w .rest, count-read .1, items-in)
+      rw (
+        head-rule k (q .measure) (q .d) frame (answer-some (q .order) (w .query .known)) (begins .kind) (begins .measure) (begins .dim) (w .query .test),
+        begins .dim,
+        l,
+        count-read .0,
+        eq-eqb (30 + 4 * q .d + 14 * n) (30 + 4 * q .d + 14 * n) refl,
+        begins .scope,
+        last-read .0,
+        w .rest,
+        count-read .1,
+        items-in,
+      )
       (w .numbers)
 
   frame-at : answerAt (q .order) frame ≡ record { query = queryInSlots q; scope = p; last = last; count = n; items = itemSlots n ns }

@@ -16,11 +16,13 @@ use Rattle.paper.specs.declared.lines.Ask.{Ask}
 use Rattle.paper.specs.declared.lines.AskRead.{AskRead}
 use Rattle.paper.specs.declared.orders.Order.{Order}
 use Rattle.paper.proofs.LineKinds.{ask-small, order-back}
-use Rattle.line_digits.proofs.NumbersAndFrames.{Bytes, bytes-drop, bytes-frame, field-read, frame-line, sound-line, line-of-sound}
+use Rattle.line_digits.proofs.NumbersAndFrames.{Bytes, bytes-drop, field-read}
+use Rattle.line_digits.proofs.LinesAndFrames.{bytes-frame, frame-line, sound-line, line-of-sound}
 use Rattle.line_fields.proofs.PartLaws.{head-rule}
 use Rattle.line_fields.proofs.Round.{QueryFit, ScopeFit, Fronts, front-read, front-back, last-field}
 use Rattle.lines.proofs.WritersReaders.{reads, accepted}
-use Rattle.lines.proofs.Tests.{read-fits, last-at, page-size, length-ask, bytes-ask, ask-fits, is-ask, ask-begun}
+use Rattle.lines.proofs.QueryTests.{read-fits, last-at}
+use Rattle.lines.proofs.AskTests.{page-size, length-ask, bytes-ask, ask-fits, is-ask, ask-begun}
 
 -- ---- what is written is read
 

@@ -14,11 +14,12 @@ use Rattle.paper.specs.Fields.{head, coordBytes, coordsIn, inSlots}
 use Rattle.paper.specs.Lines.{claimFrame, claimFits, claimOk, claimAt, aClaim, noClaim, readAsClaim}
 use Rattle.paper.specs.declared.lines.ClaimLine.{ClaimLine}
 use Rattle.paper.specs.declared.lines.ClaimRead.{ClaimRead}
-use Rattle.line_digits.proofs.NumbersAndFrames.{Bytes, bytes-drop, bytes-frame, field-read, field-back, frame-line, sound-line, line-of-sound}
+use Rattle.line_digits.proofs.NumbersAndFrames.{Bytes, bytes-drop, field-read, field-back}
+use Rattle.line_digits.proofs.LinesAndFrames.{bytes-frame, frame-line, sound-line, line-of-sound}
 use Rattle.line_fields.proofs.PartLaws.{length-coordsIn, head-rule}
 use Rattle.line_fields.proofs.Round.{Signed32, Heads, head-read, head-back, coords-read, coords-back, take-slots}
 use Rattle.lines.proofs.WritersReaders.{reads, accepted}
-use Rattle.lines.proofs.Tests.{length-claim, bytes-claim, claim-fits, is-claim}
+use Rattle.lines.proofs.ClaimTests.{length-claim, bytes-claim, claim-fits, is-claim}
 
 -- ---- what is written is read
 

@@ -1,5 +1,8 @@
 pub mod WritersReaders
-pub mod Tests
+pub mod QueryTests
+pub mod AskTests
+pub mod AnswerTests
+pub mod ClaimTests
 pub mod AskRound
 pub mod AnswerRound
 pub mod ClaimRound

@@ -11,7 +11,9 @@ use Rattle.paper.specs.declared.lines.AnswerRead.{AnswerRead}
 use Rattle.paper.specs.declared.lines.ClaimRead.{ClaimRead}
 use Rattle.paper.proofs.Tests.{refuted}
 use Rattle.lines.proofs.WritersReaders.{reads-10, accepted}
-use Rattle.lines.proofs.Tests.{any-ask, is-answer, is-claim}
+use Rattle.lines.proofs.AskTests.{any-ask}
+use Rattle.lines.proofs.AnswerTests.{is-answer}
+use Rattle.lines.proofs.ClaimTests.{is-claim}
 
 -- a sound line whose frame has kind k
 pub record OfKind (k : ℕ) (l : List ℕ) : Type 0 where

@@ -14,7 +14,8 @@ use Rattle.paper.specs.Lines.{wroteOf, putLine, Writes, bareLine, reading}
 use Rattle.paper.proofs.Outcomes.{must-go, must-stop, promise-refused, promise-given}
 use Rattle.paper.specs.declared.lines.Wrote.the-variants.{Line, Refused}
 use Rattle.line_digits.specs.Places.{overlaid, frameIn, Framed}
-use Rattle.line_digits.proofs.NumbersAndFrames.{over-eq, length-hexes, length-line}
+use Rattle.line_digits.proofs.WritingOver.{over-eq}
+use Rattle.line_digits.proofs.LinesAndFrames.{length-hexes, length-line}
 
 -- ---- writers
 

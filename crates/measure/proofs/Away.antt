@@ -11,6 +11,8 @@ use mir.Syntax.{w32, w64}
 use mir.Val.{Fits, SFits, toZ, ofZ}
 use mir.Facts.{sfits-widen, toZ-ofZ, fits-natAbs}
 
+-- ---- the distance of two integers
+
 abbrev pub away : ℤ → ℤ → ℕ
 away (pos a) (pos b) = (a - b) + (b - a)
 away (pos a) (negsuc b) = a + b + 1
@@ -53,6 +55,8 @@ away-bound (pos a) (pos b) h k = omega (arith, h .sfits, k .sfits)
 away-bound (pos a) (negsuc b) h k = omega (arith, h .sfits, k .sfits)
 away-bound (negsuc a) (pos b) h k = omega (arith, h .sfits, k .sfits)
 away-bound (negsuc a) (negsuc b) h k = omega (arith, h .sfits, k .sfits)
+
+-- ---- differences at 64 bits
 
 mag-abs : (z : ℤ) → mag z ≤ natAbs z
 mag-abs (pos n) = omega arith
@@ -103,6 +107,8 @@ below-zero (pos n) h = absurd (no (ltb-true n 0 h))
     no l = omega arith
 below-zero (negsuc n) h = tt
 
+-- ---- what `gap` asks
+
 -- what the two arms of `gap` ask, of D, the difference as its local holds it
 module _ {x y : ℤ} (h : SFits w32 x) (k : SFits w32 y) where
   abbrev D : ℤ
@@ -128,6 +134,8 @@ module _ {x y : ℤ} (h : SFits w32 x) (k : SFits w32 y) where
 
   pub flipped-small : natAbs (toZ w64 (ofZ w64 (pos 0 -ℤ D))) ≤ 4294967295
   flipped-small = rw flipped (omega (arith, abs-away x y, away-bound x y h k))
+
+-- ---- arguments by their bits
 
 -- a signed argument reaches a callee by way of its bits
 abbrev pub B : ℤ → ℤ

@@ -20,12 +20,13 @@ use Rattle.paper.specs.Ends as Ends
 use Rattle.paper.specs.Codec.{askMeant, answerLine, readAsk, scopeOf, lines}
 use Rattle.paper.specs.Calls.{officeCall}
 use Rattle.orders.proofs.Rooms.{flat-length}
-use Rattle.line_digits.proofs.NumbersAndFrames.{length-line}
-use Rattle.lines.proofs.Tests.{length-answer}
+use Rattle.line_digits.proofs.LinesAndFrames.{length-line}
+use Rattle.lines.proofs.AnswerTests.{length-answer}
 use Rattle.end_office.proofs.AnswerToAsk.{ask-given}
 use Rattle.nearby_batch.specs.Batch.{Batch, batchStart, lengthGiven, goes, batchAnswered, startAt, nthLine, alone, lineGiven, answersOf, rowsOf, batchAt}
 use Rattle.nearby_batch.proofs.Cutting.{cut-short}
-use Rattle.nearby_batch.proofs.Alone.{said-size, rows-long, batch-is, stops-for-want}
+use Rattle.nearby_batch.proofs.BatchSoFar.{said-size, rows-long, batch-is}
+use Rattle.nearby_batch.proofs.Alone.{stops-for-want}
 use Rattle.paper.specs.Limits.{longestAnswer, mostPage}
 
 -- ---- an answer line is short

@@ -2,6 +2,7 @@ pub mod Cutting
 pub mod Steps
 pub mod Loops
 pub mod Whole
+pub mod BatchSoFar
 pub mod Alone
 pub mod Given
 pub mod Ample

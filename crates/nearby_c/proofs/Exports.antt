@@ -25,8 +25,12 @@ use Rattle.paper.specs.Frames.{frameOf, isLine}
 use Rattle.paper.specs.Lines.{Writes, wroteOf, putLine, reading, queryAt, answerKind, askFits, isAsk, askAt, anAsk, noAsk, readAsAsk, answerFits, answerOk, answerAt, anAnswer, noAnswer, readAsAnswer}
 use Rattle.paper.specs.Limits.{mostCoordinates}
 use Rattle.paper.proofs.Tests.{and-first, and-second, and-both, refuted, never}
-use Rattle.lines.proofs.Tests.{QueryFits, ask-fits, any-ask, answer-fits, is-answer}
+use Rattle.lines.proofs.QueryTests.{QueryFits}
+use Rattle.lines.proofs.AskTests.{ask-fits, any-ask}
+use Rattle.lines.proofs.AnswerTests.{answer-fits, is-answer}
 use Rattle.orders.proofs.Rooms.{query-placed}
+
+-- ---- promises
 
 -- a promise, with its result as numbers
 pub shown-as : {A R S M : Type 0} (f : R → S) (shown : Outcome A → R) (put : A → M → M) (o : Outcome A) (before after : M) (r : R) (x : S)
@@ -74,6 +78,8 @@ module _ (q : Query) (p : Scope) (b : Bool) (be : b ≡ eqb (length (q .probe)) 
 
     pub placed-query : (x : queries.Query) → x ≡ queryInSlots q → queryIn x ≡ q
     placed-query x e = ap queryIn e ∙ query-placed q (placed .0)
+
+-- ---- what a reader gives
 
 -- what a reader gives has at most eight coordinates
 pub ask-narrow : (l : List ℕ) → readAsAsk l .ask .query .d ≤ mostCoordinates

@@ -10,6 +10,8 @@ use lib.Seq.{length-take-le, take-append-le, drop-append-le, take-at, drop-at, d
 use Rattle.tree.proofs.Places.{before-next}
 use Rattle.nearby_many.specs.Rows.{row, each}
 
+-- ---- one row
+
 -- a row that lies in the front
 row-front : (w i : ℕ) (a b : List ℕ) → i * w + w ≤ length a → row w i (a ++ b) ≡ row w i a
 row-front w i a b h =
@@ -28,6 +30,8 @@ pub record Rowed (w : ℕ) (g : ℕ → List ℕ → List ℕ) (n : ℕ) (before
   pub long : length after ≡ length before
   pub rows : (i : ℕ) → i < n → row w i after ≡ g i (row w i before)
   pub behind : drop (n * w) after ≡ drop (n * w) before
+
+-- ---- row after row
 
 module _ (w : ℕ) (f g : ℕ → List ℕ → List ℕ) (o : OneRow w f g) where
   module _ (n : ℕ) (l now : List ℕ) (h : n * w + w ≤ length l) (r : Rowed w g n l now) where

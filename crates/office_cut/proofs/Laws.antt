@@ -12,7 +12,8 @@ use lib.Seq.{drop-cons, take-suc-set, drop-drop, drop-nil}
 use borrow.Author.Tests.{eq-eqb, ne-eqb, le-leb, lt-leb}
 use Rattle.office_cut.specs.Cut.{oneMore, CutLine, cutWith, cutOf, lineIn, restIn, hasEnd, LineHeld}
 
--- one turn
+-- ---- one turn
+
 module _ (most : ℕ) (l : List ℕ) (n i : ℕ) (chunk : List ℕ) where
   open-at : i < length chunk → drop i chunk ≡ getD chunk i 0 ∷ drop (i + 1) chunk
   open-at h = rw (add-one i) (drop-cons chunk i 0 h)
@@ -52,7 +53,7 @@ pub longer-same : (most n : ℕ) → most < n → n ≡ oneMore most n
 unfolding oneMore
 longer-same most n h = rw (lt-leb n most h)
 
--- what a cut means
+-- ---- what a cut means
 
 pub kept-more : (most : ℕ) (l : List ℕ) (n x : ℕ) (h : List ℕ) → LineHeld most l n h → LineHeld most (set l n x) (oneMore most n) (h ++ (x ∷ []))
 kept-more most l n x h k = go (decLe n most)
@@ -100,6 +101,8 @@ cut-means most chunk (x ∷ xs) l n i h d k = go (ℕ-discrete x 10)
     go (no ne) m =
         let q : eqb x 10 ≡ false = ne-eqb x 10 ne in
         record { kept = rw q (rw append-assoc at (m .kept)); whole = rw q (m .whole); rest = rw q (m .rest); on = rw q (omega (arith, m .on)) }
+
+-- ---- a cut goes on
 
 -- a cut of a chunk that is not used up goes on
 pub line-some : (xs : List ℕ) → 0 < length xs → 0 < length (lineIn xs)

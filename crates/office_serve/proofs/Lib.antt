@@ -1,4 +1,6 @@
 pub mod Written
+pub mod ClaimServed
+pub mod AskServed
 pub mod OneLineServed
 pub mod Moves
 pub mod Session

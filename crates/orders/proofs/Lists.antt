@@ -10,6 +10,8 @@ use Rattle.paper.specs.Orders.{Item, noItem}
 use Rattle.paper.specs.Ends.{every, lastItem}
 use Rattle.paper.proofs.Tests.{and-first, and-second, and-both}
 
+-- ---- all elements of a list
+
 abbrev pub All : {A : Type 0} → (A → Type 0) → List A → Type 0
 All P [] = Unit {0}
 All P (x ∷ l) = P x × All P l
@@ -60,6 +62,8 @@ module _ {A : Type 0} where
   unfolding every
   every-all p [] e = tt
   every-all p (x ∷ l) e = (and-first _ _ e, every-all p l (and-second (p x) _ e))
+
+  -- ---- fronts of lists
 
   pub take-again : (n : ℕ) (l : List A) → take (length (take n l)) l ≡ take n l
   take-again zero l = refl

@@ -16,6 +16,8 @@ use Rattle.paper.proofs.Tests.{no-way}
 use Rattle.orders.proofs.Lists.{all-mem, all-getD}
 use Rattle.orders.proofs.Sorted.{Rising, rising-at, before-same, before-not, IsOf, listed-are, listed-rising}
 
+-- ---- no claim is missing
+
 -- [2.5] next to listed-are and listed-rising: no claim is missing
 insert-has : (o : Order) (x : Item) (l : List Item) → List·Memᴰ x (insert o x l)
 unfolding insert
@@ -52,6 +54,8 @@ listed-has q cs (suc s) k p r =
     go true m = insert-keeps (q .order) _ _ _ m
     go false m = m
 
+-- ---- no other list is what is listed
+
 -- an item that rises is not before itself
 not-self : (o : Order) (x z : Item) → earlier o x z ≡ true → z ≡ x → ⊥
 not-self o x z p e = no-way (sym (rw e at p) ∙ before-same o (x .distance) (x .number))
@@ -84,6 +88,8 @@ listed-only q cs s l rises are has =
     subst⁻¹ (λ (x : Item). List·Memᴰ x (listed q cs s)) (p .is) (listed-has q cs s (z .number) (p .below) (subst (λ (x : Item). x .distance ≤ q .reach) (p .is) (p .within))))
     (λ z m. let p = all-mem _ z (listed q cs s) (listed-are q cs s) m in
     subst⁻¹ (λ (x : Item). List·Memᴰ x l) (p .is) (has (z .number) (p .below) (subst (λ (x : Item). x .distance ≤ q .reach) (p .is) (p .within))))
+
+-- ---- each claim is listed once
 
 module _ (q : Query) (cs : List Claim) where
   -- [2.5] each claim is listed once: no two items have one number

@@ -20,6 +20,8 @@ use Rattle.orders.proofs.Lists.{All, all-getD, take-again}
 use Rattle.orders.proofs.Sorted.{rest-start, rest-next, IsOf, listed-are, listed-rising, listed-grown}
 use Rattle.orders.proofs.Meaning.{listed-has}
 
+-- ---- where the next page starts
+
 le-or-more : (a b : ℕ) → (a ≤ b) ⊎ (b < a)
 le-or-more a b = go (leb a b) refl
   where
@@ -35,6 +37,8 @@ placeAt n a = After n (markOf a)
 unfoldable pub placeAfter : ℕ → List Item → Place
 placeAfter n [] = Start
 placeAfter n (a ∷ l) = placeAt n (getD (a ∷ l) (length l) noItem)
+
+-- ---- pages joined
 
 -- fronts of a list
 module _ (l : List Item) where
@@ -96,12 +100,15 @@ module _ (q : Query) (cs : List Claim) where
       let e : x .distance ≡ itemOf q cs (x .number) .distance = ap (λ (y : Item). y .distance) (a .is) in
       rw (lt-ltb (x .number) n (a .below), eq-eqb (x .distance) (itemOf q cs (x .number) .distance) e, le-leb (x .distance) (q .reach) (a .within))
 
+-- ---- claims that are entered later
+
 -- claims entered later change no page of an earlier snapshot
 pub page-grown : (q : Query) (cs more : List Claim) (n : ℕ) (m : Mark) (size : ℕ) → n ≤ length cs → pageOf q (cs ++ more) (After n m) size ≡ pageOf q cs (After n m) size
 unfolding pageOf following
 page-grown q cs more n m size h = rw (listed-grown q cs more n h)
 
--- the first of the order
+-- ---- the first of the order
+
 first-take : (size : ℕ) (l : List Item) → 0 < size → firstOf (take size l) ≡ firstOf l
 unfolding firstOf
 first-take zero l h = absurd (omega arith)

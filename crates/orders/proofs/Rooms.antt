@@ -19,6 +19,8 @@ use Rattle.paper.proofs.Outcomes.{must-test, must-rest, through}
 use Rattle.orders.proofs.Taking.{took, took-query}
 use Rattle.orders.proofs.Sound.{soundness, stays-sound}
 
+-- ---- items as numbers
+
 pub read-flat : (l : List Item) (r : List ℕ) → itemsIn (length l) (flat l ++ r) ≡ l
 unfolding itemsIn flat
 read-flat [] r = refl
@@ -62,6 +64,8 @@ pub fronted-length : (l : List Item) (r : List ℕ) → 3 * length l ≤ length 
 unfolding fronted
 fronted-length l r h = omega (arith, length-append (flat l) (drop (3 * length l) r), length-drop (3 * length l) r, flat-length l)
 
+-- ---- what is held after a call
+
 -- what is held after an accepted call is what the call gave
 pub listing-put : (s : Held) (L : Listing) → L .query ≡ queryIn (s .list .query) → listing (heldAfter s (gives L)) ≡ L
 unfolding listing heldAfter fronted
@@ -96,6 +100,8 @@ module _ (c : Codec) (s : Held) (line : List ℕ) (L : Listing) (e : takingHeld 
       let h : soundIn (roomFor s) L ≡ true = stays-sound c law (roomFor s) (listing s) L line took-held in
       let f : length (fronted (L .items) (s .room)) ≡ length (s .room) = fronted-length (L .items) (s .room) (omega (arith, soundness (roomFor s) L h .roomy)) in
       and-both _ _ (must-test (heldWell (s .list .query)) 2 _ _ e) (rw (moves, f) h)
+
+-- ---- a list that was just opened
 
 -- a query in its slots says what it said
 pub query-placed : (q : Query) → length (q .probe) ≡ q .d → queryIn (queryInSlots q) ≡ q

@@ -17,6 +17,8 @@ use Rattle.paper.specs.Ends.{markOf, rising}
 use Rattle.paper.proofs.Tests.{no-way, and-both}
 use Rattle.orders.proofs.Lists.{All, all-map, all-take, all-getD}
 
+-- ---- the order
+
 -- rank a and number k stand before rank b and number j
 abbrev first : ℕ → ℕ → ℕ → ℕ → Bool
 first a k b j = ltb a b || (eqb a b && ltb k j)
@@ -83,6 +85,8 @@ module _ (o : Order) where
   unfolding before
   before-total d k e j p n = first-total (rank o d) k (rank o e) j p n
 
+-- ---- lists that rise
+
 -- each item stands before all that come after it
 abbrev pub Rising : Order → List Item → Type 0
 Rising o [] = Unit {0}
@@ -126,6 +130,8 @@ module _ (o : Order) where
       go true p r = ((p, all-map _ _ (λ z q. before-trans o _ _ _ _ _ _ p q) l (h .0)), h)
       go false p r = (all-insert _ x l (before-total o _ _ _ _ p (λ e. n .0 (sym e))) (h .0), r)
 
+-- ---- what is listed
+
 -- what an item of the list of the first s claims is
 pub record IsOf (q : Query) (cs : List Claim) (s : ℕ) (x : Item) : Type 0 where
   pub below : x .number < s
@@ -165,6 +171,8 @@ pub listed-grown : (q : Query) (cs more : List Claim) (s : ℕ) → s ≤ length
 unfolding listed
 listed-grown q cs more zero p = refl
 listed-grown q cs more (suc s) p = rw (same-item q cs more s p, listed-grown q cs more s (omega arith))
+
+-- ---- what follows a mark
 
 -- a page after a mark goes on where the front ended
 module _ (o : Order) where

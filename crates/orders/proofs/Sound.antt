@@ -20,6 +20,8 @@ use Rattle.orders.specs.LawfulLines.{AnswerInRange, Lawful}
 use Rattle.orders.proofs.Taking.{Took, took, FitsList, fits-present, present-after}
 use Rattle.paper.specs.Limits.{mostClaims}
 
+-- ---- items joined
+
 last-cons : (x y : Item) (l : List Item) → lastItem (x ∷ y ∷ l) ≡ lastItem (y ∷ l)
 last-cons x y l =
     let e : suc (suc (length l)) - 1 ≡ suc (length l) = omega arith in
@@ -55,7 +57,8 @@ some-joined a b f p = go f refl
         let k : 1 ≤ length (a ++ b) = omega (arith, length-append a b) in
         rw (le-leb 1 (length (a ++ b)) k)
 
--- a sound list, by its parts
+-- ---- a sound list, by its parts
+
 pub record Soundness (room : ℕ) (L : Listing) : Type 0 where
   pub range : inRange (L .query .measure) (L .query .d) ≡ true
   pub long : length (L .query .probe) ≡ L .query .d
@@ -88,6 +91,8 @@ unfolding soundIn
 sound-of room L s =
     and-both _ _ (s .range) (and-both _ _ (eq-eqb _ _ (s .long)) (and-both _ _ (le-leb _ _ (s .small)) (and-both _ _ (le-leb _ _ (s .roomy))
     (and-both _ _ (s .rises) (and-both _ _ (every-true _ (L .items) (s .fit)) (s .well))))))
+
+-- ---- what a list takes
 
 -- what 14 lets pass
 record Passes (y : Answer) : Type 0 where
@@ -157,6 +162,8 @@ sound-joined room L y K ok o e k =
       fit = j .fit;
       well = some-joined (L .items) (y .items) (y .last) (p .some);
     })
+
+-- ---- handed on
 
 -- any line whatever
 pub stays-sound : (c : Codec) → Lawful c → (room : ℕ) (L K : Listing) (s : List ℕ) → taking c room L s ≡ gives K → soundIn room K ≡ true

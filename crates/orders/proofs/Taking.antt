@@ -22,7 +22,8 @@ use Rattle.orders.specs.LawfulLines.{AnswerInRange}
 use Rattle.paper.proofs.Tests.{no-way, and-first, and-second, and-both}
 use Rattle.paper.proofs.Outcomes.{must-test, must-rest, same-given}
 
--- where a list stands
+-- ---- where a list stands
+
 pub present-start : (L : Listing) → L .started ≡ false → presentPlace L ≡ Start
 unfolding presentPlace
 present-start L p = rw p
@@ -31,7 +32,8 @@ pub present-after : (L : Listing) → L .started ≡ true → presentPlace L ≡
 unfolding presentPlace
 present-after L p = rw p
 
--- the fields that 13 compares
+-- ---- the fields that 13 compares
+
 same-z : (x y : ℤ) → sameZ x y ≡ true → x ≡ y
 same-z (pos a) (pos b) p = ap pos (eqb-true a b p)
 same-z (pos a) (negsuc b) p = absurd (no-way (sym p))
@@ -97,6 +99,8 @@ pub place-same : (p : Place) → samePlace p p ≡ true
 unfolding samePlace
 place-same Start = refl
 place-same (After n m) = and-both _ _ (eq-eqb n n refl) (and-both _ _ (eq-eqb (m .distance) (m .distance) refl) (eq-eqb (m .number) (m .number) refl))
+
+-- ---- an answer that a list takes
 
 -- an answer that 13 lets pass, read under the list's order
 pub record FitsList (L : Listing) (y : Answer) : Type 0 where

@@ -13,8 +13,12 @@ use Rattle.paper.specs.Ends.{matches, answerOf, answerTo, lineAnswered}
 use Rattle.paper.specs.Calls.{nearestCall, farthestCall, thePage, pageCall, officeCall}
 use Rattle.paper.specs.CallExamples.{LimitsMarked, MakingMarked, EnteringMarked, AskingMarked, OfficeMarked}
 
+-- ---- the limits, as numbers
+
 pub limits-marked : LimitsMarked
 limits-marked = record { coordinates = refl; claims = refl; page = refl; frame = refl; answer = refl; ask = refl; claim = refl }
+
+-- ---- making an empty table
 
 pub making-marked : MakingMarked
 unfolding makeCall fits inRange
@@ -32,6 +36,8 @@ making-marked =
       rooms35 = refl;
       widest = refl;
     }
+
+-- ---- entering
 
 pub entering-marked : EnteringMarked
 unfolding measureOf weigh joined distance inRange point cleared newNode nearSide raise enteredFrom entered built apart fits sameFront afresh sound
@@ -52,6 +58,8 @@ entering-marked =
       first1 = refl;
       fills0 = refl;
     }
+
+-- ---- nearest, farthest and a page
 
 pub asking-marked : AskingMarked
 unfolding measureOf weigh joined distance greatestOf inRange point cleared newNode nearSide raise enteredFrom entered built apart claimsFrom fits sameFront
@@ -87,6 +95,8 @@ asking-marked =
       first8 = refl;
       atReach = refl;
     }
+
+-- ---- the office
 
 pub office-marked : OfficeMarked
 unfolding measureOf weigh joined distance inRange point cleared newNode nearSide raise enteredFrom entered built apart claimsFrom fits sameFront afresh sound

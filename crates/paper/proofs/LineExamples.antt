@@ -5,12 +5,15 @@ use Rattle.paper.specs.Orders.{rank, before, follows, flat, fronted}
 use Rattle.paper.specs.Frames.{be, num, glyph, digit, hexes, lineOf, frameOf, pairsEnded, isLine}
 use Rattle.paper.specs.Fields.{head, front, coordBytes, coordsIn, inSlots, queryInSlots, scopeBytes, scopeIn, scopeOk, itemFrame, itemBytes, itemSlots, numbersOk, referencesOk}
 use Rattle.paper.specs.Fields as Fields
-use Rattle.paper.specs.Lines.{bareLine, reading, headOk, behind, queryAt, queryFits, isAsk, askFrame, askRanges, askFits, askOk, askAt, anAsk, noAsk, readAsAsk, answerFrame, answerRanges, answerFits, countIn, answerOk, answerAt, anAnswer, noAnswer, readAsAnswer, claimFrame, claimFits, claimOk, claimAt, aClaim, noClaim, readAsClaim}
+use Rattle.paper.specs.Lines.{bareLine, reading, headOk, behind, queryAt, queryFits, isAsk, askFrame, askRanges, askFits, askOk, askAt, anAsk, noAsk, readAsAsk}
+use Rattle.paper.specs.Lines.{answerFrame, answerRanges, answerFits, countIn, answerOk, answerAt, anAnswer, noAnswer, readAsAnswer, claimFrame, claimFits, claimOk, claimAt, aClaim, noClaim, readAsClaim}
 use Rattle.paper.specs.Codec.{scopeOf, placeIn, askLine, answerMeant, readAnswer}
 use Rattle.paper.specs.Ends.{opening, presentPlace, every, rising, startedWell, soundIn, asking, sameProbe, sameQuery, samePlace, toPresent, pageHolds, joinedTo, taken, taking}
 use Rattle.paper.specs.Lists.{itemsIn, listing, unusedZero, heldWell, openedAs, openingHeld, askingHeld, takingHeld, heldAfter}
 use Rattle.paper.specs.LineExamples.{ListsMarked, TakingMarked, LinesMarked, CallsMarked}
 use Rattle.paper.proofs.CallExamples.{limits-marked, making-marked, entering-marked, asking-marked, office-marked}
+
+-- ---- opening a list, and writing an ask
 
 pub lists-marked : ListsMarked
 unfolding openingHeld opening openedAs queryInSlots inSlots inRange unusedZero heldWell every itemsIn listing soundIn rising startedWell rank before presentPlace asking askingHeld
@@ -33,6 +36,8 @@ lists-marked =
       first16 = refl;
       first6 = refl;
     }
+
+-- ---- taking
 
 pub taking-marked : TakingMarked
 unfolding inRange unusedZero heldWell every itemsIn listing soundIn rising startedWell rank before presentPlace follows sameProbe sameQuery samePlace toPresent pageHolds
@@ -62,6 +67,8 @@ taking-marked =
       first13 = refl;
       first14 = refl;
     }
+
+-- ---- bare writers and readers
 
 pub lines-marked : LinesMarked
 unfolding inRange be num glyph digit hexes lineOf frameOf pairsEnded isLine head front coordBytes coordsIn inSlots scopeBytes scopeIn scopeOk itemFrame itemBytes
@@ -96,6 +103,8 @@ lines-marked =
       claimNot9 = refl;
       claimKind10 = refl;
     }
+
+-- ---- the public calls together
 
 pub calls-marked : CallsMarked
 calls-marked =

@@ -52,5 +52,9 @@ answer =
     48 ∷ 48 ∷ 48 ∷ 48 ∷ 48 ∷ 48 ∷ 48 ∷ 48 ∷ 48 ∷ 48 ∷ 48 ∷ 48 ∷ 48 ∷ 48 ∷ 48 ∷ 49 ∷ 10 ∷ []
 
 pub example : program (claim2 ++ (claim3 ++ (claim9 ++ (claim6 ++ (claim5 ++ ask))))) ≡ answer
-unfolding program officeStart inputDone fed byte lineDone lineTurn frameTurn askTurn claimTurn reply replyTo claimEntering withClaim claimIn ours tableFor answerLine askMeant scopeOf placeIn answerTo answerOf matches claimAt claimOk answerFrame askAt askOk askRanges behind headOk queryAt isAsk itemBytes itemFrame scopeOk scopeIn front scopeBytes inSlots coordsIn coordBytes inRange head isLine frameOf lineOf hexes digit glyph num be Frames.pairsEnded flat markHolds lastOf pageOf following snapshotHolds rest follows listed itemOf insert before rank distance joined weigh measureOf
+unfolding program officeStart inputDone fed byte lineDone lineTurn frameTurn askTurn claimTurn reply replyTo claimEntering withClaim claimIn ours
+    tableFor answerLine askMeant scopeOf placeIn answerTo answerOf matches claimAt claimOk answerFrame askAt askOk askRanges behind headOk queryAt
+    isAsk itemBytes itemFrame scopeOk scopeIn front scopeBytes inSlots coordsIn coordBytes inRange head isLine frameOf lineOf hexes digit glyph num be
+    Frames.pairsEnded flat markHolds lastOf pageOf following snapshotHolds rest follows listed itemOf insert before rank distance joined weigh
+    measureOf
 example = refl

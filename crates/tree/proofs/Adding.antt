@@ -5,104 +5,22 @@ use mathlib.Core.List.{List, [], _∷_, _++_, append-assoc, append-nil}
 use native.Mathlib.Omega.{arith}
 use native.Mathlib.Numerals.{add-one}
 use native.Mathlib.Nat.{le-refl, mul-comm, suc-mul}
-use lib.IntN.{ℤ, pos}
-use lib.ListN.{length, getD, set, take, drop, length-append, length-drop, length-set, take-append-drop, List·getD-append}
-use lib.Seq.{length-take-le, take-append-le, drop-append-le, take-at, drop-at, take-all, take-take, getD-take, getD-drop, getD-set-same, getD-set-other, paste, length-paste}
-use Rattle.paper.specs.declared.points.Measure.{Measure}
+use lib.IntN.{ℤ}
+use lib.ListN.{length, getD, set, take, drop, length-set}
+use lib.Seq.{take-all, take-take, getD-set-same, getD-set-other, paste, length-paste}
 use Rattle.paper.specs.declared.tables.Table.{Table}
-use Rattle.paper.specs.Points.{measureOf, distance, Claim, point}
+use Rattle.paper.specs.Points.{Claim, point}
 use Rattle.paper.specs.Tree.{grown, built, Store, store, apart, apartIn, referenceAt, withReference, claimsFrom, claimsIn}
 use Rattle.paper.specs.Runs.{counted, nextGrown, added, addedRun}
 use Rattle.tree.specs.Rooms.{Enterable, IsBuilt}
 use Rattle.tree.specs.Soundness.{Good, Roomy}
-use Rattle.tree.proofs.RoomsInUse.{stays-built, enter-long}
+use Rattle.tree.proofs.Building.{stays-built, enter-long}
 use Rattle.tree.proofs.SameDistances.{build-ext}
 use Rattle.tree.proofs.Places.{before-next}
 use Rattle.tree.proofs.TestedTables.{good-few, good-tree, good-used}
+use Rattle.tree.proofs.ClaimsInMemory.{apart-ext, put-before, point-before, point-new, claims-more, claim-eq, claims-ext, point-length}
 
--- distances look at the d numbers of each point alone
-
-distance-ext : (m : Measure) (d : ℕ) (p p' q q' : List ℤ) → ((i : ℕ) → i < d → getD p i (pos 0) ≡ getD p' i (pos 0))
-    → ((i : ℕ) → i < d → getD q i (pos 0) ≡ getD q' i (pos 0)) → distance m d p q ≡ distance m d p' q'
-unfolding distance
-distance-ext m zero p p' q q' hp hq = refl
-distance-ext m (suc d) p p' q q' hp hq =
-    rw (distance-ext m d p p' q q' (λ i h. hp i (omega arith)) (λ i h. hq i (omega arith)), hp d (omega arith), hq d (omega arith))
-
--- where the coordinates of the first n claims are the same, so are their distances
-pub apart-ext : (measure d n : ℕ) (l l' : List ℤ) → ((i : ℕ) → i < n * d → getD l i (pos 0) ≡ getD l' i (pos 0))
-    → (j k : ℕ) → j < n → k < n → apart measure d l j k ≡ apart measure d l' j k
-unfolding apart
-apart-ext measure d n l l' same j k hj hk =
-    distance-ext (measureOf measure) d (drop (j * d) l) (drop (j * d) l') (drop (k * d) l) (drop (k * d) l') (at j hj) (at k hk)
-  where
-    at : (x : ℕ) → x < n → (i : ℕ) → i < d → getD (drop (x * d) l) i (pos 0) ≡ getD (drop (x * d) l') i (pos 0)
-    at x hx i hi =
-        getD-drop (x * d) l i (pos 0)
-        ∙ same (x * d + i) (omega (arith, before-next d x n hx))
-        ∙ sym (getD-drop (x * d) l' i (pos 0))
-
--- what a place put at `at` leaves of the coordinates before it, and what it makes of those there
-module _ (l : List ℤ) (at : ℕ) (p : List ℤ) (d : ℕ) (inside : at ≤ length l) where
-  len : length (take at l) ≡ at
-  len = length-take-le at l inside
-
-  pub put-before : (i : ℕ) → i < at → getD (paste l at p d) i (pos 0) ≡ getD l i (pos 0)
-  put-before i h =
-      List·getD-append (take at l ++ take d p) (drop (at + d) l) (pos 0) i (omega (arith, len, length-append (take at l) (take d p)))
-      ∙ List·getD-append (take at l) (take d p) (pos 0) i (omega (arith, len))
-      ∙ getD-take at l i (pos 0) h
-
-  front : (b : ℕ) (rest : List ℤ) → b + d ≤ at → take d (drop b (take at l ++ rest)) ≡ take d (drop b (take at l))
-  front b rest h =
-      ap (take d) (drop-append-le b (take at l) rest (omega (arith, len)))
-      ∙ take-append-le d (drop b (take at l)) rest (omega (arith, len, length-drop b (take at l)))
-
-  pub place-before : (b : ℕ) → b + d ≤ at → take d (drop b (paste l at p d)) ≡ take d (drop b l)
-  place-before b h =
-      ap (λ (x : List ℤ). take d (drop b x)) (append-assoc (take at l) (take d p) (drop (at + d) l))
-      ∙ front b (take d p ++ drop (at + d) l) h
-      ∙ sym (front b (drop at l) h)
-      ∙ ap (λ (x : List ℤ). take d (drop b x)) (take-append-drop at l)
-
-  pub place-new : d ≤ length p → take d (drop at (paste l at p d)) ≡ take d p
-  place-new h =
-      ap (λ (x : List ℤ). take d (drop at x)) (append-assoc (take at l) (take d p) (drop (at + d) l))
-      ∙ ap (take d) (drop-at (take at l) (take d p ++ drop (at + d) l) at len)
-      ∙ take-at (take d p) (drop (at + d) l) d (length-take-le d p h)
-
--- the same, of claims and their points
-
-point-before : (l : List ℤ) (at : ℕ) (p : List ℤ) (d : ℕ) → at ≤ length l → (i : ℕ) → i * d + d ≤ at → point d (paste l at p d) i ≡ point d l i
-unfolding point
-point-before l at p d inside i h = place-before l at p d inside (i * d) h
-
-point-new : (l : List ℤ) (n : ℕ) (p : List ℤ) (d : ℕ) → n * d ≤ length l → d ≤ length p → point d (paste l (n * d) p d) n ≡ take d p
-unfolding point
-point-new l n p d inside h = place-new l (n * d) p d inside h
-
-claims-more : (d n : ℕ) (references : List ℕ) (coordinates : List ℤ)
-    → claimsFrom d (suc n) references coordinates ≡ claimsFrom d n references coordinates ++ (record { reference = referenceAt references n; point = point d coordinates n } ∷ [])
-unfolding claimsFrom
-claims-more d n references coordinates = refl
-
-claim-eq : (a b : Claim) → a .reference ≡ b .reference → a .point ≡ b .point → a ≡ b
-claim-eq a b p q = λ i. record { reference = p i; point = q i }
-
--- the first n claims are the same where their references and points are
-pub claims-ext : (d n : ℕ) (r r' : List ℕ) (l l' : List ℤ) → ((i : ℕ) → i < n → getD r i 0 ≡ getD r' i 0)
-    → ((i : ℕ) → i < n → point d l i ≡ point d l' i) → claimsFrom d n r l ≡ claimsFrom d n r' l'
-unfolding claimsFrom
-claims-ext d zero r r' l l' hr hp = refl
-claims-ext d (suc n) r r' l l' hr hp =
-    rw (claims-ext d n r r' l l' (λ i h. hr i (omega arith)) (λ i h. hp i (omega arith)), hr n (omega arith), hp n (omega arith))
-
--- a run's place has d numbers
-pub point-length : (d : ℕ) (points : List ℤ) (i : ℕ) → i * d + d ≤ length points → length (point d points i) ≡ d
-unfolding point
-point-length d points i h = length-take-le d (drop (i * d) points) (omega (arith, length-drop (i * d) points))
-
--- one claim more
+-- ---- one claim more
 
 module _ (s : Store) (g : Good s) (more : s .table .count < s .table .capacity) where
   -- the next claim's place is inside
@@ -170,7 +88,8 @@ module _ (s : Store) (g : Good s) (more : s .table .count < s .table .capacity) 
         ∙ ap (λ (c : Claim). claimsIn s ++ (c ∷ []))
         (claim-eq _ _ (getD-set-same (s .references) n r 0 (omega (arith, g .fit .references))) (point-new (s .coordinates) n p d inside whole))
 
--- what adding keeps of the header
+-- ---- what adding keeps of the header
+
 pub record HeaderKept (t u : Table) (more : ℕ) : Type 0 where
   pub number : u .number ≡ t .number
   pub measure : u .measure ≡ t .measure
@@ -197,7 +116,7 @@ add-way s r u points l i references nodes g e f h =
     e ∙ ap (λ (x : List ℤ). take (n * d) (s .coordinates) ++ x ++ drop (n * d + d) (s .coordinates)) (sym (take-take d d q (le-refl d))) in
     rw (g, f, h, ← e')
 
--- a run
+-- ---- a run
 
 -- a place of a run with d numbers for each claim
 pub in-run : (d i n : ℕ) (points : List ℤ) → length points ≡ d * n → i < n → i * d + d ≤ length points

@@ -1,110 +1,22 @@
--- Entering a claim keeps the nodes a neartree, and adds the claim. Numbers only grow: a claim or a node below that is there stays, and a far distance never falls. Assumes nothing.
+-- Entering a claim keeps the nodes a neartree, and adds the claim. Assumes nothing.
 use Prim.Native.Nat.{ℕ, zero, suc, _+_, _-_, _*_, _<_, _≤_, _^_, max}
-use mathlib.Core.Path.{_≡_, refl, sym, ap, _∙_}
-use mathlib.Core.Logic.{_⊎_, inl, inr, ⊎-elim}
+use mathlib.Core.Path.{_≡_, refl, ap, _∙_}
+use mathlib.Core.Logic.{⊎-elim}
 use mathlib.Core.List.{List}
 use native.Mathlib.Omega.{arith}
 use native.Mathlib.Nat.{le-trans, le-refl, eq-or-lt-of-le}
-use native.Mathlib.Decide.{ℕ-discrete}
-use lib.ListN.{length, getD, length-set}
+use lib.ListN.{length, length-set}
 use lib.Dec.{lit<, leb}
 use mathlib.Core.Bool.{Bool, true, false, cond}
 use borrow.Author.Tests.{leb-true, leb-false}
-use lib.Seq.{getD-set-same, getD-set-other}
-use Rattle.paper.specs.Tree.{Grown, grown, fieldAt, putField, sideClaim, cleared, newNode, nearSide, raise, enteredFrom, entered}
-use Rattle.tree.specs.Rooms.{Inside, RoomOk, Linked, Under, here, deeper, Holds, Neartree}
+use lib.Seq.{getD-set-same}
+use Rattle.paper.specs.Tree.{Grown, grown, fieldAt, putField, sideClaim, newNode, nearSide, raise, enteredFrom, entered}
+use Rattle.tree.specs.Rooms.{Inside, Linked, Under, here, deeper, Holds, Neartree}
 use Rattle.tree.proofs.OneEntering.{other, still-linked, raise-length, side-small, entered-stop, entered-new, entered-down}
+use Rattle.tree.proofs.Stores.{NodesGrow, grows-trans, grows-put, fresh-length, fresh-left, fresh-rest, fresh-small, grows-fresh}
+use Rattle.tree.proofs.Links.{linked-right, linked-new}
 
-pub record NodesGrow (used : ℕ) (nodes nodes' : List ℕ) : Type 0 where
-  pub held : (m s : ℕ) → m < used → s < 2 → (fieldAt nodes m s ≡ 0 → ⊥) → fieldAt nodes' m s ≡ fieldAt nodes m s
-  pub far : (m s : ℕ) → m < used → s < 2 → fieldAt nodes m (2 + s) ≤ fieldAt nodes' m (2 + s)
-  pub below : (m s : ℕ) → m < used → s < 2 → (fieldAt nodes m (4 + s) ≡ 0 → ⊥) → fieldAt nodes' m (4 + s) ≡ fieldAt nodes m (4 + s)
-
-grows-trans : (used : ℕ) (a b c : List ℕ) → NodesGrow used a b → NodesGrow used b c → NodesGrow used a c
-grows-trans used a b c g h =
-    record {
-      held = λ m s hm hs no. let p = g .held m s hm hs no in h .held m s hm hs (λ q. no (sym p ∙ q)) ∙ p;
-      far = λ m s hm hs. le-trans (g .far m s hm hs) (h .far m s hm hs);
-      below = λ m s hm hs no. let p = g .below m s hm hs no in h .below m s hm hs (λ q. no (sym p ∙ q)) ∙ p;
-    }
-
--- a store changes its own field alone
-pub put-cases : (nodes : List ℕ) (m f v n g : ℕ) → m * 6 + f < length nodes
-    → ((n * 6 + g ≡ m * 6 + f) × (fieldAt (putField nodes m f v) n g ≡ v)) ⊎ (fieldAt (putField nodes m f v) n g ≡ fieldAt nodes n g)
-put-cases nodes m f v n g h = go (ℕ-discrete (n * 6 + g) (m * 6 + f))
-  where
-    go : Dec (n * 6 + g ≡ m * 6 + f) → ((n * 6 + g ≡ m * 6 + f) × (fieldAt (putField nodes m f v) n g ≡ v)) ⊎ (fieldAt (putField nodes m f v) n g ≡ fieldAt nodes n g)
-    go (yes p) = inl (p, rw p (getD-set-same nodes (m * 6 + f) v 0 h))
-    go (no q) = inr (getD-set-other nodes (m * 6 + f) (n * 6 + g) v 0 q)
-
--- a store where there was 0, or of a larger far distance, lets the nodes grow
-grows-put : (used : ℕ) (nodes : List ℕ) (m f v : ℕ) → m * 6 + f < length nodes → f < 6
-    → (f < 2 → fieldAt nodes m f ≡ 0) → (4 ≤ f → fieldAt nodes m f ≡ 0) → fieldAt nodes m f ≤ v → NodesGrow used nodes (putField nodes m f v)
-grows-put used nodes m f v h hf zero-held zero-below less =
-    record {
-      held = λ n s hm hs no. ⊎-elim
-          (λ p. absurd (no (ap (λ (i : ℕ). getD nodes i 0) (p .0) ∙ zero-held (omega (arith, p .0)))))
-          (λ q. q) (put-cases nodes m f v n s h);
-      far = λ n s hm hs. ⊎-elim
-          (λ p. omega (arith, p .1, ap (λ (i : ℕ). getD nodes i 0) (p .0)))
-          (λ q. omega arith) (put-cases nodes m f v n (2 + s) h);
-      below = λ n s hm hs no. ⊎-elim
-          (λ p. absurd (no (ap (λ (i : ℕ). getD nodes i 0) (p .0) ∙ zero-below (omega (arith, p .0)))))
-          (λ q. q) (put-cases nodes m f v n (4 + s) h);
-    }
-
--- clearing keeps the other fields
-cleared-other : (nodes : List ℕ) (w g m x : ℕ) → ((y : ℕ) → 0 < y → y ≤ g → m * 6 + x ≡ w * 6 + y → ⊥) → fieldAt (cleared nodes w g) m x ≡ fieldAt nodes m x
-unfolding cleared
-cleared-other nodes w zero m x far = refl
-cleared-other nodes w (suc g) m x far =
-    getD-set-other (cleared nodes w g) (w * 6 + suc g) (m * 6 + x) 0 0 (far (suc g) (omega arith) (omega arith))
-    ∙ cleared-other nodes w g m x (λ y hz hy. far y hz (omega arith))
-
-cleared-length : (nodes : List ℕ) (w g : ℕ) → length (cleared nodes w g) ≡ length nodes
-unfolding cleared
-cleared-length nodes w zero = refl
-cleared-length nodes w (suc g) = length-set (cleared nodes w g) (w * 6 + suc g) 0 ∙ cleared-length nodes w g
-
-cleared-is : (nodes : List ℕ) (w g x : ℕ) → w * 6 + g < length nodes → 0 < x → x ≤ g → fieldAt (cleared nodes w g) w x ≡ 0
-unfolding cleared
-cleared-is nodes w zero x h hz hx = absurd (omega arith)
-cleared-is nodes w (suc g) x h hz hx = ⊎-elim
-    (λ p. let q : x ≡ suc g = p in rw q (getD-set-same (cleared nodes w g) (w * 6 + suc g) 0 0 (omega (arith, cleared-length nodes w g))))
-    (λ l. getD-set-other (cleared nodes w g) (w * 6 + suc g) (w * 6 + x) 0 0 (λ q. omega arith) ∙ cleared-is nodes w g x (omega arith) hz (omega arith))
-    (eq-or-lt-of-le hx)
-
--- a new node leaves the others as they are
-pub fresh-other : (nodes : List ℕ) (w k m g : ℕ) → (m ≡ w → ⊥) → g < 6 → fieldAt (newNode nodes w k) m g ≡ fieldAt nodes m g
-unfolding newNode
-fresh-other nodes w k m g hm hg =
-    cleared-other (putField nodes w 0 (k + 1)) w 5 m g (λ y hz hy q. omega arith)
-    ∙ getD-set-other nodes (w * 6 + 0) (m * 6 + g) (k + 1) 0 (λ q. omega arith)
-
-pub fresh-length : (nodes : List ℕ) (w k : ℕ) → length (newNode nodes w k) ≡ length nodes
-unfolding newNode
-fresh-length nodes w k = cleared-length (putField nodes w 0 (k + 1)) w 5 ∙ length-set nodes (w * 6 + 0) (k + 1)
-
-pub fresh-left : (nodes : List ℕ) (w k : ℕ) → Inside nodes w → fieldAt (newNode nodes w k) w 0 ≡ k + 1
-unfolding newNode
-fresh-left nodes w k h =
-    cleared-other (putField nodes w 0 (k + 1)) w 5 w 0 (λ y hz hy q. omega arith) ∙ getD-set-same nodes (w * 6 + 0) (k + 1) 0 (omega arith)
-
-pub fresh-rest : (nodes : List ℕ) (w k g : ℕ) → Inside nodes w → 0 < g → g < 6 → fieldAt (newNode nodes w k) w g ≡ 0
-unfolding newNode
-fresh-rest nodes w k g h hz hg = cleared-is (putField nodes w 0 (k + 1)) w 5 g (omega (arith, length-set nodes (w * 6 + 0) (k + 1))) hz (omega arith)
-
-fresh-small : (nodes : List ℕ) (w k g : ℕ) → Inside nodes w → g < 6 → fieldAt (newNode nodes w k) w g ≤ k + 1
-fresh-small nodes w k zero h hg = let p = fresh-left nodes w k h in omega arith
-fresh-small nodes w k (suc g) h hg = let p = fresh-rest nodes w k (suc g) h (omega arith) hg in omega arith
-
-grows-fresh : (used : ℕ) (nodes : List ℕ) (k : ℕ) → NodesGrow used nodes (newNode nodes used k)
-grows-fresh used nodes k =
-    record {
-      held = λ m s hm hs no. fresh-other nodes used k m s (λ q. omega arith) (omega arith);
-      far = λ m s hm hs. let p = fresh-other nodes used k m (2 + s) (λ q. omega arith) (omega arith) in omega arith;
-      below = λ m s hm hs no. fresh-other nodes used k m (4 + s) (λ q. omega arith) (omega arith);
-    }
+-- ---- what is under a side
 
 -- what is under a side stays there
 pub under-grows : (used n : ℕ) (e : ℕ → ℕ → ℕ) (nodes nodes' : List ℕ) → Linked nodes used n → NodesGrow used nodes nodes'
@@ -127,61 +39,7 @@ above-holds used e nodes nodes' g m s c o w j hm hs p q p' near r h =
           (g .below m s hm hs (λ q. omega arith) ∙ r) (h .which) (h .under);
     }
 
--- a claim stored on the right keeps them
-linked-right : (nodes : List ℕ) (used k m : ℕ) → m * 6 + 1 < length nodes → Linked nodes used k → Linked (putField nodes m 1 (k + 1)) used (k + 1)
-unfolding Linked
-linked-right nodes used k m h lk w hw =
-    let keep : (g : ℕ) → g < 6 → (1 ≡ g → ⊥) → fieldAt (putField nodes m 1 (k + 1)) w g ≡ fieldAt nodes w g =
-    λ g hg ne. other nodes m 1 (k + 1) w g (lit< tt) hg ne in
-    record {
-      left = rw (keep 0 (lit< tt) (λ q. omega arith)) (lk w hw .left);
-      stored = λ s hs. ⊎-elim (λ p. omega (arith, p .1)) (λ q. omega (arith, q, lk w hw .stored s hs)) (put-cases nodes m 1 (k + 1) w s h);
-      rises = λ s hs ne. rw (keep (4 + s) (omega arith) (λ q. omega arith)) (lk w hw .rises s hs (λ q. ne (keep (4 + s) (omega arith) (λ q. omega arith) ∙ q)));
-      leads = λ s hs. rw (keep (4 + s) (omega arith) (λ q. omega arith)) (lk w hw .leads s hs);
-    }
-
--- so does a new node below a side
-linked-new : (nodes : List ℕ) (used k m s : ℕ) → m < used → s < 2 → used * 6 + 6 ≤ length nodes → Linked nodes used k
-    → Linked (newNode (putField nodes m (4 + s) (used + 1)) used k) (used + 1) (k + 1)
-unfolding Linked
-linked-new nodes used k m s hm hs room lk w hw = ⊎-elim at-new at-old (eq-or-lt-of-le (omega arith))
-  where
-    nodes₂ : List ℕ
-    nodes₂ = putField nodes m (4 + s) (used + 1)
-
-    in-nodes₂ : Inside nodes₂ used
-    in-nodes₂ = simp length-set (omega arith)
-
-    at-new : w ≡ used → RoomOk (newNode nodes₂ used k) (used + 1) (k + 1) w
-    at-new e = rw e (record {
-      left = let p = fresh-left nodes₂ used k in-nodes₂ in omega arith;
-      stored = λ z hz. fresh-small nodes₂ used k z in-nodes₂ (omega arith);
-      rises = λ z hz ne. absurd (ne (fresh-rest nodes₂ used k (4 + z) in-nodes₂ (omega arith) (omega arith)));
-      leads = λ z hz. let p = fresh-rest nodes₂ used k (4 + z) in-nodes₂ (omega arith) (omega arith) in omega arith;
-    })
-
-    at-old : w < used → RoomOk (newNode nodes₂ used k) (used + 1) (k + 1) w
-    at-old h =
-        let keep : (g : ℕ) → g < 6 → (4 + s ≡ g → ⊥) → fieldAt (newNode nodes₂ used k) w g ≡ fieldAt nodes w g =
-        λ g hg ne. fresh-other nodes₂ used k w g (λ q. omega arith) hg ∙ other nodes m (4 + s) (used + 1) w g (omega arith) hg ne in
-        let cases : (z : ℕ) → z < 2 → ((w * 6 + (4 + z) ≡ m * 6 + (4 + s)) × (fieldAt (newNode nodes₂ used k) w (4 + z) ≡ used + 1)) ⊎ (fieldAt (newNode nodes₂ used k) w (4 + z) ≡ fieldAt nodes w (4 + z)) =
-        λ z hz. ⊎-elim (λ p. inl (p .0, fresh-other nodes₂ used k w (4 + z) (λ q. omega arith) (omega arith) ∙ p .1)) (λ q. inr (fresh-other nodes₂ used k w (4 + z) (λ q. omega arith) (omega arith) ∙ q))
-        (put-cases nodes m (4 + s) (used + 1) w (4 + z) (omega arith)) in
-        record {
-          left = rw (keep 0 (lit< tt) (λ q. omega arith)) (lk w h .left);
-          stored = λ z hz. let p = keep z (omega arith) (λ q. omega arith) in omega (arith, lk w h .stored z hz);
-          rises = λ z hz ne. ⊎-elim (λ p. omega (arith, p .0, p .1)) (λ q. omega (arith, q, lk w h .rises z hz (λ y. ne (q ∙ y)))) (cases z hz);
-          leads = λ z hz. ⊎-elim (λ p. omega (arith, p .1)) (λ q. omega (arith, q, lk w h .leads z hz)) (cases z hz);
-        }
-
--- what entering claim k from node m leaves
-pub record EnteredFrom (e : ℕ → ℕ → ℕ) (used k m : ℕ) (nodes : List ℕ) (out : Grown) : Type 0 where
-  pub grows : NodesGrow used nodes (out .nodes)
-  pub linked : Linked (out .nodes) (out .used) (k + 1)
-  pub holds : Holds (out .nodes) e m k
-  pub long : length (out .nodes) ≡ length nodes
-  pub more : used ≤ out .used
-  pub atMost : out .used ≤ used + 1
+-- ---- a far distance raised
 
 module _ (e : ℕ → ℕ → ℕ) (nodes : List ℕ) (m s k : ℕ) (hs : s < 2) (in-m : Inside nodes m) where
   raise-grows : (used : ℕ) → NodesGrow used nodes (raise e nodes m s k)
@@ -203,6 +61,8 @@ module _ (e : ℕ → ℕ → ℕ) (nodes : List ℕ) (m s k : ℕ) (hs : s < 2)
       let r : e (sideClaim nodes m s) k ≡ e c k = ap (λ (x : ℕ). e x k) q in
       omega arith
 
+-- ---- the nearer side
+
 -- the side that claim k goes below is the nearer
 side-near : (e : ℕ → ℕ → ℕ) (nodes : List ℕ) (m k : ℕ) → e (sideClaim nodes m (nearSide e nodes m k)) k + nearSide e nodes m k ≤ e (sideClaim nodes m (1 - nearSide e nodes m k)) k
 unfolding nearSide
@@ -211,6 +71,17 @@ side-near e nodes m k = go (leb (e (sideClaim nodes m 0) k) (e (sideClaim nodes 
     go : (u : Bool) → leb (e (sideClaim nodes m 0) k) (e (sideClaim nodes m 1) k) ≡ u → e (sideClaim nodes m (cond u 0 1)) k + cond u 0 1 ≤ e (sideClaim nodes m (1 - cond u 0 1)) k
     go true p = omega (arith, leb-true (e (sideClaim nodes m 0) k) (e (sideClaim nodes m 1) k) p)
     go false p = omega (arith, leb-false (e (sideClaim nodes m 0) k) (e (sideClaim nodes m 1) k) p)
+
+-- ---- entering from a node
+
+-- what entering claim k from node m leaves
+pub record EnteredFrom (e : ℕ → ℕ → ℕ) (used k m : ℕ) (nodes : List ℕ) (out : Grown) : Type 0 where
+  pub grows : NodesGrow used nodes (out .nodes)
+  pub linked : Linked (out .nodes) (out .used) (k + 1)
+  pub holds : Holds (out .nodes) e m k
+  pub long : length (out .nodes) ≡ length nodes
+  pub more : used ≤ out .used
+  pub atMost : out .used ≤ used + 1
 
 -- the three ways through a node
 module _ (e : ℕ → ℕ → ℕ) (used k m : ℕ) (nodes : List ℕ) (hm : m < used) (room : used * 6 + 6 ≤ length nodes) (lk : Linked nodes used k) where
@@ -316,6 +187,8 @@ place (suc f) e used k m nodes hm en room lk =
         → EnteredFrom e used k m nodes (enteredFrom (suc f) e used k m nodes)
     right zero p deep = rw (entered-stop f e used k m nodes p) (stop e used k m nodes hm room lk p)
     right (suc x) p deep = below (fieldAt nodes m (4 + s)) refl (λ z. omega arith) deep
+
+-- ---- handed on
 
 -- entering the next claim keeps a neartree
 pub keeps : (e : ℕ → ℕ → ℕ) (used n : ℕ) (nodes : List ℕ) → Neartree nodes e used n → used * 6 + 6 ≤ length nodes → n + 1 < 2 ^ 64 - 1

@@ -1,11 +1,15 @@
 -- What the proofs of several functions use, and what the layers above use of the nodes and the tables.
 pub mod Reading
 pub mod OneEntering
+pub mod Stores
+pub mod Links
 pub mod Keeping
 pub mod RoomsInUse
+pub mod Building
 pub mod SameDistances
 pub mod Places
 pub mod Front
 pub mod TestedTables
+pub mod ClaimsInMemory
 pub mod Adding
 pub mod RunLaws

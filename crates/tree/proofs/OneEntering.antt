@@ -11,6 +11,8 @@ use borrow.Author.Tests.{le-leb, lt-leb, eq-eqb, ne-eqb}
 use Rattle.paper.specs.Tree.{grown, fieldAt, putField, sideClaim, newNode, nearSide, raise, enteredFrom, entered}
 use Rattle.tree.specs.Rooms.{Linked, HasClaim}
 
+-- ---- a field stored, and a far distance raised
+
 -- another field keeps its number
 pub other : (nodes : List ℕ) (m f v n g : ℕ) → f < 6 → g < 6 → (f ≡ g → ⊥) → fieldAt (putField nodes m f v) n g ≡ fieldAt nodes n g
 other nodes m f v n g hf hg ne = getD-set-other nodes (m * 6 + f) (n * 6 + g) v 0 (λ q. ne (omega arith))
@@ -61,7 +63,8 @@ module _ (e : ℕ → ℕ → ℕ) (nodes : List ℕ) (m k : ℕ) where
         leads = λ z hz. rw (same-below z hz) (h w hw .leads z hz);
       }
 
--- what one turn of `enteredFrom` does
+-- ---- what one turn of `enteredFrom` does
+
 module _ (f : ℕ) (e : ℕ → ℕ → ℕ) (used k m : ℕ) (nodes : List ℕ) where
   pub entered-stop : fieldAt nodes m 1 ≡ 0 → enteredFrom (suc f) e used k m nodes ≡ grown (putField nodes m 1 (k + 1)) used
   unfolding enteredFrom
@@ -76,6 +79,8 @@ module _ (f : ℕ) (e : ℕ → ℕ → ℕ) (used k m : ℕ) (nodes : List ℕ)
       → enteredFrom (suc f) e used k m nodes ≡ enteredFrom f e used k (fieldAt nodes m (4 + nearSide e nodes m k) - 1) (raise e nodes m (nearSide e nodes m k) k)
   unfolding enteredFrom
   entered-down no1 no4 = rw (ne-eqb (fieldAt nodes m 1) 0 no1, ne-eqb (fieldAt nodes m (4 + nearSide e nodes m k)) 0 no4)
+
+-- ---- the turns of `enter`
 
 -- what holds at each turn of `enter`, at node m of nodes, where it began with nodes₀
 pub record EnteringGoing (e : ℕ → ℕ → ℕ) (used k : ℕ) (nodes₀ nodes : List ℕ) (m : ℕ) : Type 0 where

@@ -8,7 +8,7 @@ use lib.Dec.{lit<}
 use Rattle.paper.specs.Tree.{Grown, fieldAt, sideClaim, nearSide, raise, enteredFrom, entered, built}
 use Rattle.tree.specs.Rooms.{Linked}
 use Rattle.tree.proofs.OneEntering.{still-linked, side-small, entered-stop, entered-new, entered-down}
-use Rattle.tree.proofs.RoomsInUse.{build}
+use Rattle.tree.proofs.Building.{build}
 
 module _ (e e' : ℕ → ℕ → ℕ) (used k m : ℕ) (a : List ℕ) (hm : m < used) (lk : Linked a used k) (no1 : fieldAt a m 1 ≡ 0 → ⊥) (same : (j : ℕ) → j < k → e j k ≡ e' j k) where
   at-side : (s : ℕ) → s < 2 → e (sideClaim a m s) k ≡ e' (sideClaim a m s) k

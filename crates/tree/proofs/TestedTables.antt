@@ -14,14 +14,15 @@ use Rattle.paper.specs.declared.tables.Table.{Table}
 use Rattle.paper.specs.Tree.{Grown, grown, entered, built, Store, apart, apartIn, fits, sameFront, afresh, sound}
 use Rattle.tree.specs.Rooms.{Neartree, Located, Enterable, IsBuilt}
 use Rattle.tree.specs.Soundness.{MemoryHolds, Fit, Good}
-use Rattle.tree.proofs.RoomsInUse.{BuiltOver, build, build-alike, SameInUse, same-list, grown-eq}
+use Rattle.tree.proofs.Building.{BuiltOver, build, build-alike, same-list, grown-eq}
+use Rattle.tree.proofs.RoomsInUse.{SameInUse}
 use Rattle.paper.proofs.Tests.{and-first, and-second}
 use Rattle.tree.proofs.Front.{front-at, front-all, front-ext, agree-at}
 use Rattle.paper.specs.Points.{inRange}
 use Rattle.paper.proofs.Ranges.{range-is, is-range}
 use Rattle.paper.specs.Limits.{mostClaims}
 
--- range and lent memory
+-- ---- range and lent memory
 
 -- a capacity in range, times a d in range, is small
 pub few-points : (c d : ℕ) → c ≤ mostClaims → d ≤ 8 → c * d ≤ 32768
@@ -72,7 +73,7 @@ module _ (s : Store) where
 pub lent-located : (t : Table) (points : List ℤ) (numbers n : ℕ) → MemoryHolds t (length points) numbers → n ≤ t .capacity → Located (t .d) n points
 lent-located t points numbers n l h = record { narrow = l .narrow; inside = omega (arith, mul-le-mul-right (t .d) h, l .coordinates) }
 
--- rebuilding
+-- ---- rebuilding
 
 module _ (measure d : ℕ) (coordinates : List ℤ) (nodes₀ nodes : List ℕ) (k used : ℕ) (is : grown nodes used ≡ built (apart measure d coordinates) k nodes₀) where
   -- after k claims the next can be entered
@@ -106,7 +107,7 @@ pub rebuild-start : (e : ℕ → ℕ → ℕ) (nodes : List ℕ) → grown nodes
 unfolding built
 rebuild-start e nodes = refl
 
--- testing
+-- ---- testing
 
 -- memory of any contents gives what empty nodes give
 alike-afresh : (e : ℕ → ℕ → ℕ) (nodes : List ℕ) (n : ℕ) → n * 6 ≤ length nodes → n ≤ mostClaims → SameInUse (afresh e n) (built e n nodes)
@@ -142,7 +143,7 @@ module _ (s : Store) where
         front-ext n again nodes (s .nodes) (agree-at (s .table .used) again nodes (λ m g hm hg. alike .agree .same m g (omega (arith, alike .used)) hg)) in
         rw (le-leb (s .table .count) (s .table .capacity) hc, eq-eqb (afresh (apartIn s) (s .table .count) .used) (s .table .used) (alike .used ∙ e), f, e)
 
--- a table that passes the tests is good
+-- ---- a table that passes the tests is good
 
 pub sound-good : (s : Store) → Fit s → sound s ≡ true → Good s
 unfolding sound IsBuilt
@@ -169,7 +170,8 @@ sound-good s f hs =
     (λ m g hm hg. b .behind m g (omega (arith, xu)) hg) in
     record { fit = f; count = hc; built = grown-eq x (grown (s .nodes) (t .used)) eq xu }
 
--- and the other way round
+-- ---- and the other way round
+
 module _ (s : Store) (g : Good s) where
   room : s .table .count * 6 ≤ length (s .nodes)
   room = omega (arith, g .count, g .fit .lent .nodes)

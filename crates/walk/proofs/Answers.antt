@@ -34,7 +34,8 @@ use Rattle.orders.proofs.Rooms.{flat-length}
 use Rattle.orders.proofs.Sorted.{rest-start}
 use Rattle.walk.proofs.Bridge.{item-is, filled-page}
 
--- the question as the walk asks it
+-- ---- the question as the walk asks it
+
 module _ (t : Table) (order : Order) (reach : ℕ) (place : Place) (size : ℕ) where
   pub asked-start : place ≡ Start
       → record { order = order; measure = t .measure; d = t .d; claims = t .count; used = t .used; reach = reach; snapshot = t .count; after = false; mark = startMark; size = size }
@@ -48,7 +49,8 @@ module _ (t : Table) (order : Order) (reach : ℕ) (place : Place) (size : ℕ) 
   unfolding askedOf
   asked-after n m p = rw p
 
--- the front is filled
+-- ---- the front is filled
+
 module _ (s : Store) (probe : List ℤ) (asks : Answerable s probe) (order : Order) (reach : ℕ) where
   abbrev Asks : Place → ℕ → Asked
   Asks place size = askedOf (s .table) order reach place size
@@ -97,7 +99,8 @@ pub page-is : (q : Query) (cs : List Claim) (place : Place) (size : ℕ) (o o' :
 unfolding lastOf pageOf
 page-is q cs place size o o' r h = record { room = h .room; count = h .counts; last = ap (λ (x : ℕ). ltb x size) (h .counts) }
 
--- the first of the order: a front of one
+-- ---- the first of the order: a front of one
+
 module _ (s : Store) (order : Order) (probe : List ℤ) (reach : ℕ) where
   abbrev Q : Query
   Q = tableQuery (s .table) order probe reach
@@ -137,7 +140,8 @@ module _ (s : Store) (probe : List ℤ) (r : Answer) where
   unfolding farthestOf
   farthest-is m greatest pm pg h = rw (claims-length (s .table .d) (s .table .count) (s .references) (s .coordinates), ← pm, ← pg) h
 
--- whether the mark holds
+-- ---- whether the mark holds
+
 module _ (t : Table) (coordinates probe : List ℤ) (reach : ℕ) (place : Place) where
   abbrev Holds : Bool → Type 0
   Holds b = (order : Order) (references : List ℕ) → b ≡ markHolds (tableQuery t order probe reach) (claimsFrom (t .d) (t .count) references coordinates) place
@@ -173,6 +177,8 @@ module _ (t : Table) (coordinates probe : List ℤ) (reach : ℕ) (place : Place
       pub mark-within : x ≡ m .distance → Holds (leb (m .distance) reach)
       unfolding markHolds
       mark-within e order references = rw (is, lt-ltb (m .number) n l, far-is order references, eq-eqb (m .distance) x (sym e))
+
+-- ---- handed on
 
 -- what the front of the room shows after a page: the page's items
 pub page-front : (q : Query) (cs : List Claim) (place : Place) (size : ℕ) (o o' : List ℕ) (r : Paged) → PageIs q cs place size o o' r

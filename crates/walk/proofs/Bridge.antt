@@ -24,10 +24,12 @@ use Rattle.tree.proofs.Places.{claims-length}
 use Rattle.walk_keep.specs.Page.{ranks, sooner, insertBy, sortedOf, firstSorted, items, Filled}
 use Rattle.walk_keep.specs.Kept.{key, RisingClaims, none, more}
 use Rattle.walk_keep.proofs.Keeping.{sooner-true, sooner-false, key-sooner, key-differs, scan-rising}
-use Rattle.walk_keep.proofs.Placing.{before-ranks}
+use Rattle.walk_keep.proofs.ItemPlace.{before-ranks}
 use Rattle.walk.specs.Walking.{distOf}
 use Rattle.walk.specs.Asking.{Fills}
 use Rattle.orders.proofs.Sorted.{rest-insert}
+
+-- ---- claims as items
 
 -- claim k as an item, where its reference is `ref k` and it is `dist k` away
 abbrev pub itemAt : (ℕ → ℕ) → (ℕ → ℕ) → ℕ → Item
@@ -61,6 +63,8 @@ module _ (o : Order) (ref dist : ℕ → ℕ) where
       go true p q ih = rw (before-ranks o (dist k) k (dist x) x, q, ih)
       go false p q ih = rw (before-ranks o (dist k) k (dist x) x, q, ne-eqb x k (λ e. omega arith))
 
+-- ---- what follows a place
+
 -- admitted by the query: within reach, and after the place
 abbrev okIn : Query → Place → (ℕ → ℕ) → (ℕ → ℕ) → ℕ → Bool
 okIn q p ref dist k = leb (dist k) (q .reach) && follows (q .order) p (itemAt ref dist k)
@@ -86,6 +90,8 @@ module _ (q : Query) (cs : List Claim) (p : Place) (ref dist : ℕ → ℕ) (n :
       go true false a b ih = rest-insert (q .order) p (itemAt ref dist k) (listed q cs k) ∙ rw b ih
       go false v a b ih = ih
 
+-- ---- claims that are admitted
+
 -- filters that agree, and one that lets nothing pass from s on
 sorted-alike : (rank : ℕ → ℕ) (f g : ℕ → Bool) (n : ℕ) → ((k : ℕ) → k < n → f k ≡ g k) → sortedOf rank f n ≡ sortedOf rank g n
 unfolding sortedOf
@@ -101,7 +107,8 @@ sorted-stops rank g s (suc n) h stop =
 sorted-front : (rank : ℕ → ℕ) (f g : ℕ → Bool) (s n : ℕ) → s ≤ n → ((k : ℕ) → k < s → f k ≡ g k) → ((k : ℕ) → s ≤ k → g k ≡ false) → sortedOf rank f s ≡ sortedOf rank g n
 sorted-front rank f g s n h same stop = sorted-alike rank f g s same ∙ sorted-stops rank g s n h stop
 
--- lists of items
+-- ---- lists of items
+
 take-items : (f : ℕ → Item) (n : ℕ) (l : List ℕ) → take n (map f l) ≡ map f (take n l)
 take-items f zero l = refl
 take-items f (suc n) [] = refl
@@ -112,7 +119,8 @@ unfolding flat items
 flat-items ref dist [] = refl
 flat-items ref dist (k ∷ l) = rw (flat-items ref dist l)
 
--- the claims of the lent memory
+-- ---- the claims of the lent memory
+
 pub claims-at : (d n : ℕ) (references : List ℕ) (coordinates : List ℤ) (k : ℕ) → k < n
     → getD (claimsFrom d n references coordinates) k zeroClaim ≡ record { reference = getD references k 0; point = point d coordinates k }
 unfolding claimsFrom
@@ -125,6 +133,8 @@ claims-at d (suc n) references coordinates k h =
     List·getD-append (claimsFrom d n references coordinates) _ zeroClaim k (rw (claims-length d n references coordinates) l')
     ∙ claims-at d n references coordinates k l')
     (eq-or-lt-of-le h)
+
+-- ---- handed on: what the walk fills in is the page
 
 -- a measure looks at no more than the first d coordinates
 distance-front : (m : Measure) (d e : ℕ) (p q : List ℤ) → d ≤ e → distance m d (take e p) q ≡ distance m d p q

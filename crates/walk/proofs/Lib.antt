@@ -1,5 +1,6 @@
 pub mod Skipping
-pub mod NodesAndSides
+pub mod Sides
+pub mod Nodes
 pub mod Bridge
 pub mod Farthest
 pub mod Answers

@@ -19,6 +19,8 @@ use Rattle.walk_keep.specs.Skips.{admitted, capOf, halfOf, beyondOf, passedOf}
 use Rattle.paper.proofs.Tests.{no-way}
 use Rattle.walk.specs.Walking.{distOf, distBy, apartBy, rankBy, Metric}
 
+-- ---- the measures are metric
+
 -- the triangle inequality with symmetry, the three ways round
 module _ (m : Measure) (d : ℕ) (p q r : List ℤ) where
   triangle-back : distance m d q r ≤ distance m d p q + distance m d p r
@@ -36,6 +38,8 @@ metric ask coordinates probe =
       back = λ k j. triangle-back _ _ _ _ _;
       between = λ k j. triangle-between _ _ _ _ _;
     }
+
+-- ---- ranks
 
 -- either order's ranks, the triangle inequality used either way round
 rank-triangle : (o : Order) (dk dj e : ℕ) → dk ≤ e + dj → dj ≤ e + dk → rank o dk ≤ e + rank o dj
@@ -57,6 +61,8 @@ module _ (ask : Asked) (e : ℕ → ℕ → ℕ) (dist : ℕ → ℕ) (metric : 
   pub rank-between : (k j : ℕ) → ask .order ≡ Near → e k j ≤ rankBy ask dist k + rankBy ask dist j
   rank-between k j p = near-rank (ask .order) (dist k) (dist j) (e k j) p (metric .between k j)
 
+-- ---- a side beyond the bound
+
 -- [4.13] [4.14] by the far distance or halfway: a claim below is beyond the bound; ek and eo are its distances from the two claims, r its
 -- rank
 pub beyond-skips : (o : Order) (bound x y s far ek eo r : ℕ) → beyondOf o bound x y s far ≡ true → x ≤ ek + r → ek ≤ far → ek + s ≤ eo
@@ -68,6 +74,8 @@ beyond-skips o bound x y s far ek eo r test h₁ h₂ h₃ h₄ = go (ltb (bound
     go true z p h f = omega (arith, ltb-true (bound + far) x p)
     go false Far p h f = absurd (no-way (sym h))
     go false Near p h f = omega (arith, ltb-true (y + 2 * bound) (x + s) h, f refl)
+
+-- ---- a side before the mark
 
 -- what comes after another is not at a smaller rank
 before-rank : (o : Order) (x k y j : ℕ) → before o x k y j ≡ true → rank o x ≤ rank o y
@@ -108,6 +116,8 @@ passed-skips ask x far z j test h y = go (ask .after) (ltb (x + far) (rank (ask 
     go true true p q t =
         let b = before-rank (ask .order) (ask .mark .distance) (ask .mark .number) z j (admitted-is ask z j y .after p) in
         omega (arith, ltb-true (x + far) (rank (ask .order) (ask .mark .distance)) q)
+
+-- ---- the cap
 
 -- [4.12] an admitted claim's rank is at most the cap
 capped : (o : Order) (x reach : ℕ) → x ≤ reach → rank o x ≤ capOf o reach

@@ -14,7 +14,8 @@ use Rattle.paper.proofs.Tests.{no-way}
 use Rattle.walk_keep.specs.Page.{ahead, sooner, insertBy, sortedOf, firstSorted}
 use Rattle.walk_keep.specs.Kept.{key, RisingClaims, none, more, Covered, full, there, past, Kept}
 
--- the order as a key
+-- ---- the order as a key
+
 pub sooner-true : (rank : ℕ → ℕ) (j k : ℕ) → j < 2 ^ 64 → k < 2 ^ 64 → sooner rank j k ≡ true → key rank j < key rank k
 unfolding ahead
 sooner-true rank j k hj hk = go (ltb (rank j) (rank k)) (eqb (rank j) (rank k)) refl refl
@@ -42,6 +43,8 @@ key-sooner rank j k hj hk h = go (sooner rank j k) refl
 
 pub key-differs : (rank : ℕ → ℕ) (j k : ℕ) → j < 2 ^ 64 → k < 2 ^ 64 → (j ≡ k → ⊥) → key rank j ≡ key rank k → ⊥
 key-differs rank j k hj hk ne e = ne (omega arith)
+
+-- ---- what a list covers
 
 module _ (rank : ℕ → ℕ) where
   step : (x j s : ℕ) (l l' : List ℕ) → Covered rank j (suc s) (x ∷ l) → (Covered rank j s l → Covered rank j s l') → Covered rank j (suc s) (x ∷ l')
@@ -73,6 +76,8 @@ module _ (rank : ℕ → ℕ) where
   moved k x j (suc s) l h there = past h there
   moved k x j zero l h (past g c) = let f : key rank k < key rank j = omega arith in past f full
   moved k x j (suc s) l h (past g c) = let f : key rank k < key rank j = omega arith in past f (past g (covered-less j s l c))
+
+-- ---- lists that rise
 
 module _ (rank : ℕ → ℕ) (ok : ℕ → Bool) (n : ℕ) where
   pub rising-more : (s lo : ℕ) (l : List ℕ) → RisingClaims rank ok n s lo l → RisingClaims rank ok n (suc s) lo l
@@ -108,6 +113,8 @@ module _ (rank : ℕ → ℕ) (ok : ℕ → Bool) (n : ℕ) where
   rising-last (suc s) lo (k ∷ l) (suc i) zero (more a b c d) hi h = absurd (omega arith)
   rising-last (suc s) lo (k ∷ l) zero (suc m) (more a b c d) hi h = let p = rising-at s (key rank k + 1) l m d (omega arith) in omega (arith, p .0)
   rising-last (suc s) lo (k ∷ l) (suc i) (suc m) (more a b c d) hi h = rising-last s (key rank k + 1) l i m d (omega arith) (omega arith)
+
+  -- ---- insertion
 
   module _ (k : ℕ) (hn : n < 2 ^ 64) (hk : k < n) where
     pub insert-rising : (t lo : ℕ) (l : List ℕ) → lo ≤ key rank k → ok k ≡ true → RisingClaims rank ok n t lo l → RisingClaims rank ok n (suc t) lo (insertBy rank k l)
@@ -150,6 +157,8 @@ module _ (rank : ℕ → ℕ) (ok : ℕ → Bool) (n : ℕ) where
         go false true p q h rec = h
         go false false p q h rec = moved rank k x j s l (omega (arith, sooner-false rank x k (omega arith) (omega arith) p, key-differs rank x k (omega arith) (omega arith) (eqb-false x k q))) h
 
+  -- ---- what walks keep
+
   pub still : (size : ℕ) (C : ℕ → Type 0) (l : List ℕ) → RisingClaims rank ok n size zero l → ((j : ℕ) → C j → ok j ≡ true → Covered rank j size l) → Kept rank ok n size C l l
   still size C l r h = record { rising = r; keeps = λ j c. c; all = h }
 
@@ -175,6 +184,8 @@ module _ (rank : ℕ → ℕ) (ok : ℕ → Bool) (n : ℕ) where
   -- fewer claims
   pub fewer : (size : ℕ) (C D : ℕ → Type 0) (l r : List ℕ) → ((j : ℕ) → C j → D j) → Kept rank ok n size D l r → Kept rank ok n size C l r
   fewer size C D l r h s = record { rising = s .rising; keeps = s .keeps; all = λ j c. s .all j (h j c) }
+
+  -- ---- what covers all claims is the page
 
   -- two lists that cover all claims from key lo on are the same
   pub same : (s lo : ℕ) (l r : List ℕ) → RisingClaims rank ok n s lo l → RisingClaims rank ok n s lo r

@@ -13,6 +13,8 @@ use Rattle.paper.specs.Orders.{rank, before}
 use Rattle.walk_keep.specs.declared.Asked.{Asked}
 use Rattle.walk_keep.specs.Skips.{admitted, capOf, boundOf, halfOf, beyondOf, passedOf}
 
+-- ---- whether a claim is admitted
+
 -- a test by what it tells
 tells : (a b : ℕ) (u : Bool) → cond u (a < b) (b ≤ a) → u ≡ ltb a b
 tells a b true h = sym (lt-ltb a b h)
@@ -34,6 +36,8 @@ module _ (ask : Asked) (x k : ℕ) where
   pub fine : k < ask .snapshot → x ≤ ask .reach → ask .after ≡ false → true ≡ admitted ask x k
   unfolding admitted
   fine h g a = rw (lt-ltb k (ask .snapshot) h, le-leb x (ask .reach) g, a)
+
+-- ---- whether a side is beyond the bound
 
 module _ (o : Order) (bound x y s : ℕ) where
   pub half-far : o ≡ Far → false ≡ halfOf o bound x y s
@@ -67,6 +71,8 @@ module _ (o : Order) (bound x y s : ℕ) where
   pub beyond-half : (far : ℕ) (u r : Bool) → cond u (bound + far < x) (x ≤ bound + far) → u ≡ false → r ≡ halfOf o bound x y s → r ≡ beyondOf o bound x y s far
   unfolding beyondOf
   beyond-half far u r p q h = rw (← tells (bound + far) x u p, q) h
+
+-- ---- the mark, and the rank still wanted
 
 module _ (ask : Asked) where
   pub passed-mark : (x far m : ℕ) (r : Bool) → ask .after ≡ true → m ≡ rank (ask .order) (ask .mark .distance) → cond r (x + far < m) (m ≤ x + far) → r ≡ passedOf ask x far

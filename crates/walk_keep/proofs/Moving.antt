@@ -8,6 +8,8 @@ use lib.Seq.{take-set-le, drop-set-add, set-split, drop-at, take-at, set-at, tak
 use Rattle.rows.proofs.Putting.{three}
 use Rattle.walk_keep.specs.Kept.{shifted}
 
+-- ---- the loop that moves numbers up
+
 pub record Shifting (a e : ℕ) (o₀ o : List ℕ) (i : ℕ) : Type 0 where
   pub low : a ≤ i
   pub high : i ≤ e
@@ -59,6 +61,8 @@ shifting-done a e o₀ o i g h =
     let z : a - a ≡ 0 = omega arith in
     let t : shifted a a o ≡ o = rw z (take-append-drop (a + 3) o) in
     sym t ∙ subst (λ (u : ℕ). shifted a u o ≡ shifted a e o₀) x (g .todo)
+
+-- ---- three numbers put in their place
 
 written-at : (A Y T : List ℕ) (a x y z : ℕ) → length A ≡ a → length Y ≡ 3 → sets ((A ++ Y) ++ T) a (x ∷ y ∷ z ∷ []) ≡ A ++ (x ∷ y ∷ z ∷ T)
 written-at A (p ∷ q ∷ r ∷ []) T a x y z hA hY =

@@ -26,6 +26,8 @@ use Rattle.walk.proofs.Answers.{good-measurable, good-answerable}
 use Rattle.walk_tested.specs.Askable.{Askable}
 use Rattle.walk_tested.proofs.TableLaws.{table-refused, table-good, aim-stops, aim-goes}
 
+-- ---- the tests of a page, one after the other
+
 module _ (order : Order) (s : Store) (probe : List ℤ) (reach : ℕ) (place : Place) (size room : ℕ) where
   abbrev page : Outcome ThePage
   page = pageCall s order probe reach place size room
@@ -98,6 +100,8 @@ module _ (order : Order) (s : Store) (probe : List ℤ) (reach : ℕ) (place : P
 
             pub page-0 : size ≤ room / 3 → 0 ≡ number page
             page-0 h = sym (ap number (past-8 ∙ must-go (leb (size * 3) room) 12 _ (le-leb (size * 3) room (omega arith))))
+
+-- ---- handed on
 
 -- the page itself, where the number says that nothing refuses it
 module _ (order : Order) (s : Store) (probe : List ℤ) (reach : ℕ) (place : Place) (size : ℕ) (room : List ℕ) where

@@ -80,4 +80,28 @@ returns-3 c =
     mark-drawn _ (from-start2 .result) _ _ (start-drawn _ _ _ pre (from-start2 .ensures) (pick2 .ensures)) (c .from-mark .ensures) (pick3 .ensures)
 
 pub drawn-spec : {M : Type 1} → statement M
-drawn-spec = tie.close (tie.spec pick-requires next-requires pick-requires-2 add-size next-requires-2 add-pick pick-requires-3 next-requires-3 reach-of-requires from-start-requires returns pick-requires-4 cast-distance distance-requires next-requires-4 reach-of-requires-2 from-start-requires-2 next-requires-5 pick-requires-5 returns-2 from-mark-requires returns-3)
+drawn-spec =
+    tie.close
+    (tie.spec
+    pick-requires
+    next-requires
+    pick-requires-2
+    add-size
+    next-requires-2
+    add-pick
+    pick-requires-3
+    next-requires-3
+    reach-of-requires
+    from-start-requires
+    returns
+    pick-requires-4
+    cast-distance
+    distance-requires
+    next-requires-4
+    reach-of-requires-2
+    from-start-requires-2
+    next-requires-5
+    pick-requires-5
+    returns-2
+    from-mark-requires
+    returns-3)

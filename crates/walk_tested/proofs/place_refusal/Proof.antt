@@ -10,34 +10,38 @@ snapshot-holds-requires c κs = search needs
 
 returns : tie.Need-returns
 returns c =
-    let a = c .before .before .before .before .args in
-    page-7 (a .order) (store (a .t) (a .references .now) (a .coordinates .now) (a .nodes .now)) (a .probe .now) (a .reach) (a .place) (a .size) (a .room) (c .before .before .before .before .pre) _ (c .before .snapshot-holds .ensures) (c .if1 .taken)
+    let start = c .before .before .before .before in
+    let a = start .args in
+    page-7 (a .order) (store (a .t) (a .references .now) (a .coordinates .now) (a .nodes .now)) (a .probe .now) (a .reach) (a .place) (a .size) (a .room) (start .pre) _
+    (c .before .snapshot-holds .ensures) (c .if1 .taken)
 
 mark-holds-requires : tie.Need-mark-holds-requires
 mark-holds-requires c κs =
-    let a = c .before .before .before .before .args in
-    page-markable (a .order) (store (a .t) (a .references .now) (a .coordinates .now) (a .nodes .now)) (a .probe .now) (a .reach) (a .place) (a .size) (a .room) (c .before .before .before .before .pre) _ (c .before .snapshot-holds .ensures) (c .if1 .left)
+    let start = c .before .before .before .before in
+    let a = start .args in
+    page-markable (a .order) (store (a .t) (a .references .now) (a .coordinates .now) (a .nodes .now)) (a .probe .now) (a .reach) (a .place) (a .size) (a .room) (start .pre) _
+    (c .before .snapshot-holds .ensures) (c .if1 .left)
 
 returns-2 : tie.Need-returns-2
 returns-2 c =
-    let args = c .before .before .before .before .before .before .args in
-    let pre = c .before .before .before .before .before .before .pre in
-    let a = args in
-    page-8 (a .order) (store (a .t) (a .references .now) (a .coordinates .now) (a .nodes .now)) (a .probe .now) (a .reach) (a .place) (a .size) (a .room) pre _ (c .before .before .before .snapshot-holds .ensures) (c .before .before .if1 .left) _ (c .before .mark-holds .ensures (a .order) _) (c .if2 .taken)
+    let start = c .before .before .before .before .before .before in
+    let a = start .args in
+    page-8 (a .order) (store (a .t) (a .references .now) (a .coordinates .now) (a .nodes .now)) (a .probe .now) (a .reach) (a .place) (a .size) (a .room) (start .pre) _
+    (c .before .before .before .snapshot-holds .ensures) (c .before .before .if1 .left) _ (c .before .mark-holds .ensures (a .order) _) (c .if2 .taken)
 
 returns-3 : tie.Need-returns-3
 returns-3 c =
-    let args = c .before .before .before .before .before .before .before .args in
-    let pre = c .before .before .before .before .before .before .before .pre in
-    let a = args in
-    page-12 (a .order) (store (a .t) (a .references .now) (a .coordinates .now) (a .nodes .now)) (a .probe .now) (a .reach) (a .place) (a .size) (a .room) pre _ (c .before .before .before .before .snapshot-holds .ensures) (c .before .before .before .if1 .left) _ (c .before .before .mark-holds .ensures (a .order) _) (c .before .if2 .left) (c .if3 .taken)
+    let start = c .before .before .before .before .before .before .before in
+    let a = start .args in
+    page-12 (a .order) (store (a .t) (a .references .now) (a .coordinates .now) (a .nodes .now)) (a .probe .now) (a .reach) (a .place) (a .size) (a .room) (start .pre) _
+    (c .before .before .before .before .snapshot-holds .ensures) (c .before .before .before .if1 .left) _ (c .before .before .mark-holds .ensures (a .order) _) (c .before .if2 .left) (c .if3 .taken)
 
 returns-4 : tie.Need-returns-4
 returns-4 c =
-    let args = c .before .before .before .before .before .before .before .args in
-    let pre = c .before .before .before .before .before .before .before .pre in
-    let a = args in
-    page-0 (a .order) (store (a .t) (a .references .now) (a .coordinates .now) (a .nodes .now)) (a .probe .now) (a .reach) (a .place) (a .size) (a .room) pre _ (c .before .before .before .before .snapshot-holds .ensures) (c .before .before .before .if1 .left) _ (c .before .before .mark-holds .ensures (a .order) _) (c .before .if2 .left) (c .if3 .left)
+    let start = c .before .before .before .before .before .before .before in
+    let a = start .args in
+    page-0 (a .order) (store (a .t) (a .references .now) (a .coordinates .now) (a .nodes .now)) (a .probe .now) (a .reach) (a .place) (a .size) (a .room) (start .pre) _
+    (c .before .before .before .before .snapshot-holds .ensures) (c .before .before .before .if1 .left) _ (c .before .before .mark-holds .ensures (a .order) _) (c .before .if2 .left) (c .if3 .left)
 
 pub place-refusal-spec : {M : Type 1} → statement M
 place-refusal-spec =

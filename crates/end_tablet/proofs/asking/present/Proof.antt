@@ -1,7 +1,7 @@
 -- `tablet::asking::present` meets its contract: from the start, or after the last item. Assumes nothing.
 use Prim.Native.Nat.{_-_}
 use native.Mathlib.Omega.{arith}
-use Rattle.end_tablet.proofs.TakeLaws.{present-after, present-start}
+use Rattle.end_tablet.proofs.PresentAsk.{present-after, present-start}
 use borrow.Author.Needs.{needs}
 use Rattle.end_tablet.proofs.asking.present.Statement.{statement}
 use Rattle.end_tablet.proofs.asking.present.Tie as tie

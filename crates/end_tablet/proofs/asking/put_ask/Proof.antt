@@ -22,7 +22,9 @@ returns : tie.Need-returns
 returns c =
     let g = c .before .before .before .before .before .before .before .before .args in
     let long : 7 < length (g .l .query .probe) = search (needs, c .before .before .before .before .before .before .before .before .good .0) in
-    ask-written (g .l) (g .room .now) (g .size) (c .before .before .before .before .before .before .before .before .pre .0) (c .before .before .before .before .before .before .before .before .pre .1 .0) (c .before .before .before .before .before .before .before .before .pre .1 .1 .0) long _ (c .before .before .before .before .before .present .ensures) _ (c .before .before .before .before .before .before .before .before .pre .1 .1 .1) _ _ (c .before .before .write-ask .ensures)
+    let pre = c .before .before .before .before .before .before .before .before .pre in
+    ask-written (g .l) (g .room .now) (g .size) (pre .0) (pre .1 .0) (pre .1 .1 .0) long _
+    (c .before .before .before .before .before .present .ensures) _ (pre .1 .1 .1) _ _ (c .before .before .write-ask .ensures)
 
 pub put-ask-spec : {M : Type 1} → statement M
 put-ask-spec =

@@ -17,11 +17,16 @@ before-requires c κs = search needs
 
 returns : tie.Need-returns
 unfolding follows
-returns c = λ y. sym (ap (λ (p : Place). follows (c .before .before .args .order) p (record { number = c .before .before .args .k; reference = y; distance = c .before .before .args .x })) (c .enum-told .given .1))
+returns c =
+    let a = c .before .before .args in
+    λ y. sym (ap (λ (p : Place). follows (a .order) p (record { number = a .k; reference = y; distance = a .x })) (c .enum-told .given .1))
 
 returns-2 : tie.Need-returns-2
 unfolding follows
-returns-2 c = λ y. c .before2 .ensures ∙ sym (ap (λ (p : Place). follows (c .before .before .before .before .args .order) p (record { number = c .before .before .before .before .args .k; reference = y; distance = c .before .before .before .before .args .x })) (c .before .before .place .given .1))
+returns-2 c =
+    let a = c .before .before .before .before .args in
+    λ y. c .before2 .ensures
+    ∙ sym (ap (λ (p : Place). follows (a .order) p (record { number = a .k; reference = y; distance = a .x })) (c .before .before .place .given .1))
 
 pub is-after-spec : {M : Type 1} → statement M
 is-after-spec = tie.close (tie.spec enum-told enum-known-place before-requires returns returns-2)

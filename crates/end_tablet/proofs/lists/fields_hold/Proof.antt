@@ -25,23 +25,49 @@ slice-aggregate-unused-zero c = search needs
 unused-zero-requires : tie.Need-unused-zero-requires
 unused-zero-requires c κs =
     let long : 7 < length (c .before .before .before .before .before .before .before .args .l .query .probe) = search needs in
-    let small : c .before .before .before .before .before .before .before .args .l .query .d ≤ 8 = range-d (c .before .before .before .before .before .before .before .args .l) 0 _ (c .before .before .before .before .has-lines .ensures) (c .before .before .before .if1 .left) _ (c .before .before .in-range .ensures) (c .before .if2 .left) in
+    let l = c .before .before .before .before .before .before .before .args .l in
+    let small : l .query .d ≤ 8 =
+    range-d l 0 _ (c .before .before .before .before .has-lines .ensures) (c .before .before .before .if1 .left) _ (c .before .before .in-range .ensures) (c .before .if2 .left) in
     omega arith
 
 returns-3 : tie.Need-returns-3
-returns-3 c = (way-unused _ _ _ (c .before .before .before .before .before .before .has-lines .ensures) (c .before .before .before .before .before .if1 .left) _ (c .before .before .before .before .in-range .ensures) (c .before .before .before .if2 .left) _ (c .before .unused-zero .ensures) (c .if3 .taken), search needs)
+returns-3 c = (
+  let ranged = c .before .before .before in
+      way-unused _ _ _ (ranged .before .before .before .has-lines .ensures) (ranged .before .before .if1 .left) _ (ranged .before .in-range .ensures)
+      (ranged .if2 .left) _ (c .before .unused-zero .ensures) (c .if3 .taken),
+  search needs,
+)
 
 returns-4 : tie.Need-returns-4
-returns-4 c = (way-most-snapshot _ _ _ (c .before .before .before .before .before .before .before .before .has-lines .ensures) (c .before .before .before .before .before .before .before .if1 .left) _ (c .before .before .before .before .before .before .in-range .ensures) (c .before .before .before .before .before .if2 .left) _ (c .before .before .before .unused-zero .ensures) (c .before .before .if3 .left) (c .if4 .taken), search needs)
+returns-4 c = (
+  let ranged = c .before .before .before .before .before in
+      way-most-snapshot _ _ _ (ranged .before .before .before .has-lines .ensures) (ranged .before .before .if1 .left) _
+      (ranged .before .in-range .ensures) (ranged .if2 .left) _ (c .before .before .before .unused-zero .ensures) (c .before .before .if3 .left)
+      (c .if4 .taken),
+  search needs,
+)
 
 returns-5 : tie.Need-returns-5
-returns-5 c = (way-room _ _ _ (c .before .before .before .before .before .before .before .before .before .before .has-lines .ensures) (c .before .before .before .before .before .before .before .before .before .if1 .left) _ (c .before .before .before .before .before .before .before .before .in-range .ensures) (c .before .before .before .before .before .before .before .if2 .left) _ (c .before .before .before .before .before .unused-zero .ensures) (c .before .before .before .before .if3 .left) (c .before .before .if4 .left) (c .if5 .taken), search needs)
+returns-5 c = (
+  let ranged = c .before .before .before .before .before .before .before in
+      way-room _ _ _ (ranged .before .before .before .has-lines .ensures) (ranged .before .before .if1 .left) _ (ranged .before .in-range .ensures)
+      (ranged .if2 .left) _ (c .before .before .before .before .before .unused-zero .ensures) (c .before .before .before .before .if3 .left)
+      (c .before .before .if4 .left) (c .if5 .taken),
+  search needs,
+)
 
 started-well-requires : tie.Need-started-well-requires
 started-well-requires c κs = search needs
 
 returns-6 : tie.Need-returns-6
-returns-6 c = (way-started _ _ _ (c .before .before .before .before .before .before .before .before .before .before .before .has-lines .ensures) (c .before .before .before .before .before .before .before .before .before .before .if1 .left) _ (c .before .before .before .before .before .before .before .before .before .in-range .ensures) (c .before .before .before .before .before .before .before .before .if2 .left) _ (c .before .before .before .before .before .before .unused-zero .ensures) (c .before .before .before .before .before .if3 .left) (c .before .before .before .if4 .left) (c .before .if5 .left) _ (c .started-well .ensures), search (needs, c .before .before .before .before .before .before .before .before .before .before .before .before .before .before .good .0 .1 .1 .0))
+returns-6 c = (
+  let ranged = c .before .before .before .before .before .before .before .before in
+      way-started _ _ _ (ranged .before .before .before .has-lines .ensures) (ranged .before .before .if1 .left) _ (ranged .before .in-range .ensures)
+      (ranged .if2 .left) _ (c .before .before .before .before .before .before .unused-zero .ensures)
+      (c .before .before .before .before .before .if3 .left) (c .before .before .before .if4 .left) (c .before .if5 .left) _
+      (c .started-well .ensures),
+  search (needs, c .before .before .before .before .before .before .before .before .before .before .before .before .before .before .good .0 .1 .1 .0),
+)
 
 pub fields-hold-spec : {M : Type 1} → statement M
 fields-hold-spec =

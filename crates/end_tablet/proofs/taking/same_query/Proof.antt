@@ -1,5 +1,5 @@
 -- `tablet::taking::same_query` meets its contract, a law for each way. Assumes nothing.
-use Rattle.end_tablet.proofs.TakeLaws.{query-table, query-measure, query-d, query-probe, query-reach}
+use Rattle.end_tablet.proofs.PresentAsk.{query-table, query-measure, query-d, query-probe, query-reach}
 use borrow.Author.Needs.{needs}
 use Rattle.end_tablet.proofs.taking.same_query.Statement.{statement}
 use Rattle.end_tablet.proofs.taking.same_query.Tie as tie

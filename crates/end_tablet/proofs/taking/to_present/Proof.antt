@@ -1,6 +1,6 @@
 -- `tablet::taking::to_present` meets its contract: the same query, and the same place. Assumes nothing.
 use Rattle.paper.proofs.Ranges.{range-is}
-use Rattle.end_tablet.proofs.TakeLaws.{present-query, present-place}
+use Rattle.end_tablet.proofs.PresentAsk.{present-query, present-place}
 use borrow.Author.Needs.{needs}
 use Rattle.end_tablet.proofs.taking.to_present.Statement.{statement}
 use Rattle.end_tablet.proofs.taking.to_present.Tie as tie

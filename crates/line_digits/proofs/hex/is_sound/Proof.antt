@@ -6,7 +6,7 @@ use lib.ListN.{length, getD}
 use borrow.Author.Tests.{le-leb, lt-leb, lt-ltb, le-ltb}
 use borrow.Author.Count.{below-more}
 use Rattle.paper.specs.Frames.{digit, pairsEnded, isLine}
-use Rattle.line_digits.proofs.NumbersAndFrames.{ended-even, ended-bad, ended-good}
+use Rattle.line_digits.proofs.LinesAndFrames.{ended-even, ended-bad, ended-good}
 use borrow.Author.Needs.{needs}
 use Rattle.line_digits.proofs.hex.is_sound.Statement.{statement}
 use Rattle.line_digits.proofs.hex.is_sound.Tie as tie

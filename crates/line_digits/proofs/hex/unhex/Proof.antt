@@ -7,7 +7,7 @@ use lib.ListN.{length, getD, take, drop, set, length-set}
 use lib.Seq.{take-suc, drop-cons, append-snoc, set-at, length-take-le, take-all}
 use borrow.Author.Needs.{needs}
 use Rattle.paper.specs.Frames.{frameOf, digit}
-use Rattle.line_digits.proofs.NumbersAndFrames.{frame-at, length-frame}
+use Rattle.line_digits.proofs.LinesAndFrames.{frame-at, length-frame}
 use Rattle.line_digits.proofs.hex.unhex.Statement.{statement}
 use Rattle.line_digits.proofs.hex.unhex.Tie as tie
 

@@ -6,7 +6,8 @@ use lib.ListN.{length, set, length-set}
 use borrow.Author.Needs.{needs}
 use Rattle.paper.specs.Frames.{be, glyph}
 use Rattle.line_digits.specs.Places.{overlaid}
-use Rattle.line_digits.proofs.NumbersAndFrames.{over-nil, over-last, length-be}
+use Rattle.line_digits.proofs.WritingOver.{over-nil, over-last}
+use Rattle.line_digits.proofs.NumbersAndFrames.{length-be}
 use Rattle.line_digits.proofs.numbers.put.Statement.{statement}
 use Rattle.line_digits.proofs.numbers.put.Tie as tie
 

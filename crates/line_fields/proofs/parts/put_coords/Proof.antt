@@ -11,7 +11,7 @@ use mir.Facts.{toZ-ofZ}
 use borrow.Author.Needs.{needs}
 use Rattle.paper.specs.Frames.{be}
 use Rattle.line_digits.specs.Places.{overlaid}
-use Rattle.line_digits.proofs.NumbersAndFrames.{over-nil}
+use Rattle.line_digits.proofs.WritingOver.{over-nil}
 use Rattle.paper.specs.Fields.{coordBytes}
 use Rattle.line_fields.proofs.PartLaws.{coord-step}
 use Rattle.line_fields.proofs.parts.put_coords.Statement.{statement}

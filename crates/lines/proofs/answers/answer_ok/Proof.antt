@@ -4,7 +4,7 @@ use mathlib.Core.Path.{_≡_, sym, _∙_}
 use Rattle.paper.specs.Lines.{answerOk, countIn}
 use Rattle.line_digits.specs.Places.{frameIn}
 use Rattle.paper.proofs.Tests.{refuted}
-use Rattle.lines.proofs.Tests.{is-answer, answer-rule, count-at}
+use Rattle.lines.proofs.AnswerTests.{is-answer, answer-rule, count-at}
 use borrow.Author.Needs.{needs}
 use Rattle.lines.proofs.answers.answer_ok.Statement.{statement}
 use Rattle.lines.proofs.answers.answer_ok.Tie as tie

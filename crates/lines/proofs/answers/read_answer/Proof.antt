@@ -47,7 +47,10 @@ returns-2 c =
     let args = c .before .before .before .before .before .before .before .before .before .before .args in
     let frame-of = c .before .before .before .before .before .before .before .frame-of in
     let if1 = c .before .before .before .before .before .if1 in
-    ap anAnswer (c .answer-at .ensures) ∙ way-read (answerOk (answerKind (args .order))) (λ f. anAnswer (answerAt (args .order) f)) noAnswer (args .line .now) (frame-of .last .1 .0) (frame-of .result) (frame-of .ensures) (if1 .left) (sym (c .before .before .answer-ok .ensures ∙ ap (λ (k : ℕ). answerOk k (frameIn (take (frame-of .result) (frame-of .last .1 .0)))) (c .before .before .before .answer-kind .ensures)) ∙ c .before .if2 .taken)
+    ap anAnswer (c .answer-at .ensures)
+    ∙ way-read (answerOk (answerKind (args .order))) (λ f. anAnswer (answerAt (args .order) f)) noAnswer (args .line .now) (frame-of .last .1 .0)
+    (frame-of .result) (frame-of .ensures) (if1 .left)
+    (sym (c .before .before .answer-ok .ensures ∙ ap (λ (k : ℕ). answerOk k (frameIn (take (frame-of .result) (frame-of .last .1 .0)))) (c .before .before .before .answer-kind .ensures)) ∙ c .before .if2 .taken)
 
 no-answer-requires-2 : tie.Need-no-answer-requires-2
 no-answer-requires-2 c κs = search needs
@@ -58,7 +61,10 @@ returns-3 c =
     let args = c .before .before .before .before .before .before .before .before .before .before .args in
     let frame-of = c .before .before .before .before .before .before .before .frame-of in
     let if1 = c .before .before .before .before .before .if1 in
-    c .no-answer2 .ensures ∙ way-10 (answerOk (answerKind (args .order))) (λ f. anAnswer (answerAt (args .order) f)) noAnswer (args .line .now) (frame-of .last .1 .0) (frame-of .result) (frame-of .ensures) (if1 .left) (sym (c .before .before .answer-ok .ensures ∙ ap (λ (k : ℕ). answerOk k (frameIn (take (frame-of .result) (frame-of .last .1 .0)))) (c .before .before .before .answer-kind .ensures)) ∙ c .before .if2 .left)
+    c .no-answer2 .ensures
+    ∙ way-10 (answerOk (answerKind (args .order))) (λ f. anAnswer (answerAt (args .order) f)) noAnswer (args .line .now) (frame-of .last .1 .0)
+    (frame-of .result) (frame-of .ensures) (if1 .left)
+    (sym (c .before .before .answer-ok .ensures ∙ ap (λ (k : ℕ). answerOk k (frameIn (take (frame-of .result) (frame-of .last .1 .0)))) (c .before .before .before .answer-kind .ensures)) ∙ c .before .if2 .left)
 
 pub read-answer-spec : {M : Type 1} → statement M
 read-answer-spec =

@@ -2,7 +2,7 @@ use native.Mathlib.Omega.{arith}
 use mathlib.Core.Path.{sym, _∙_}
 use Rattle.paper.specs.Orders.{queryIn}
 use Rattle.lines.proofs.WritersReaders.{wrote-line, refused-12, refused-10}
-use Rattle.lines.proofs.Tests.{answer-fits}
+use Rattle.lines.proofs.AnswerTests.{answer-fits}
 use borrow.Author.Needs.{needs}
 use Rattle.lines.proofs.answers.write_answer.Statement.{statement}
 use Rattle.lines.proofs.answers.write_answer.Tie as tie

@@ -5,7 +5,7 @@ use Rattle.paper.specs.declared.orders.Order.{Order}
 use Rattle.paper.specs.Lines.{askKind, askOrder, askOk, isAsk}
 use Rattle.line_digits.specs.Places.{frameIn}
 use Rattle.paper.proofs.Tests.{refuted}
-use Rattle.lines.proofs.Tests.{any-ask}
+use Rattle.lines.proofs.AskTests.{any-ask}
 use borrow.Author.Needs.{needs}
 use Rattle.lines.proofs.asks.ask_ok.Statement.{statement}
 use Rattle.lines.proofs.asks.ask_ok.Tie as tie

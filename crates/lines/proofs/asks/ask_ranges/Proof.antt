@@ -1,7 +1,7 @@
 -- `lines::asks::ask_ranges` meets its contract, a law for each way. Assumes nothing.
 use mathlib.Core.Path.{sym, _∙_}
 use Rattle.paper.specs.Lines.{askRanges}
-use Rattle.lines.proofs.Tests.{page-out, placed, unplaced}
+use Rattle.lines.proofs.AskTests.{page-out, placed, unplaced}
 use borrow.Author.Needs.{needs}
 use Rattle.lines.proofs.asks.ask_ranges.Statement.{statement}
 use Rattle.lines.proofs.asks.ask_ranges.Tie as tie

@@ -3,7 +3,7 @@ use mathlib.Core.Path.{sym, _∙_}
 use Rattle.paper.specs.Lines.{askOk}
 use Rattle.line_digits.specs.Places.{frameIn}
 use Rattle.paper.proofs.Tests.{refuted}
-use Rattle.lines.proofs.Tests.{is-ask, ask-rule}
+use Rattle.lines.proofs.AskTests.{is-ask, ask-rule}
 use borrow.Author.Needs.{needs}
 use Rattle.lines.proofs.asks.is_kind.Statement.{statement}
 use Rattle.lines.proofs.asks.is_kind.Tie as tie

@@ -2,7 +2,7 @@ use native.Mathlib.Omega.{arith}
 use mathlib.Core.Path.{sym, _∙_}
 use Rattle.paper.specs.Orders.{queryIn}
 use Rattle.lines.proofs.WritersReaders.{wrote-line, refused-12, refused-10}
-use Rattle.lines.proofs.Tests.{ask-fits}
+use Rattle.lines.proofs.AskTests.{ask-fits}
 use borrow.Author.Needs.{needs}
 use Rattle.lines.proofs.asks.write_ask.Statement.{statement}
 use Rattle.lines.proofs.asks.write_ask.Tie as tie

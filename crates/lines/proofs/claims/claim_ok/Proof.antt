@@ -3,7 +3,7 @@ use mathlib.Core.Path.{sym}
 use Rattle.paper.specs.Lines.{claimOk}
 use Rattle.line_digits.specs.Places.{frameIn}
 use Rattle.paper.proofs.Tests.{refuted}
-use Rattle.lines.proofs.Tests.{is-claim}
+use Rattle.lines.proofs.ClaimTests.{is-claim}
 use borrow.Author.Needs.{needs}
 use Rattle.lines.proofs.claims.claim_ok.Statement.{statement}
 use Rattle.lines.proofs.claims.claim_ok.Tie as tie

@@ -5,10 +5,10 @@ use lib.ListN.{length, length-set}
 use Rattle.paper.specs.Fields.{head}
 use Rattle.paper.specs.Lines.{claimFrame}
 use Rattle.line_digits.specs.Places.{overlaid}
-use Rattle.line_digits.proofs.NumbersAndFrames.{length-line}
+use Rattle.line_digits.proofs.LinesAndFrames.{length-line}
 use Rattle.line_fields.proofs.PartLaws.{over-be, over-to, length-head}
 use Rattle.lines.proofs.WritersReaders.{finish}
-use Rattle.lines.proofs.Tests.{length-claim}
+use Rattle.lines.proofs.ClaimTests.{length-claim}
 use borrow.Author.Needs.{needs}
 use Rattle.lines.proofs.claims.fill_claim.Statement.{statement}
 use Rattle.lines.proofs.claims.fill_claim.Tie as tie

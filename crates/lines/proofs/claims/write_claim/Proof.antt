@@ -1,7 +1,7 @@
 use native.Mathlib.Omega.{arith}
 use mathlib.Core.Path.{sym, _∙_}
 use Rattle.lines.proofs.WritersReaders.{wrote-line, refused-12, refused-10}
-use Rattle.lines.proofs.Tests.{claim-fits}
+use Rattle.lines.proofs.ClaimTests.{claim-fits}
 use borrow.Author.Needs.{needs}
 use Rattle.lines.proofs.claims.write_claim.Statement.{statement}
 use Rattle.lines.proofs.claims.write_claim.Tie as tie

@@ -20,26 +20,28 @@ returns-2 : tie.Need-returns-2
 returns-2 c =
     let a = c .before .before .before .before .before .before .before .args in
     let s = store (a .t) (a .references .now) (a .coordinates .now) (a .nodes .now) in
-    page-tells Near s (a .probe .now) (a .reach) (a .place) (a .size) (a .room .now) _ (page-5 Near s (a .probe .now) (a .reach) (a .place) (a .size) (length (a .room .now)) _ (c .before .before .before .table-refusal .ensures) (c .before .before .if1 .left) (c .if2 .taken))
+    page-tells Near s (a .probe .now) (a .reach) (a .place) (a .size) (a .room .now) _
+    (page-5 Near s (a .probe .now) (a .reach) (a .place) (a .size) (length (a .room .now)) _ (c .before .before .before .table-refusal .ensures) (c .before .before .if1 .left) (c .if2 .taken))
 
 size-holds-requires : tie.Need-size-holds-requires
 size-holds-requires c κs = search needs
 
 returns-3 : tie.Need-returns-3
 returns-3 c =
-    let args = c .before .before .before .before .before .before .before .before .before .args in
+    let a = c .before .before .before .before .before .before .before .before .before .args in
     let table-refusal = c .before .before .before .before .before .table-refusal in
-    let a = args in
     let s = store (a .t) (a .references .now) (a .coordinates .now) (a .nodes .now) in
-    page-tells Near s (a .probe .now) (a .reach) (a .place) (a .size) (a .room .now) _ (page-6 Near s (a .probe .now) (a .reach) (a .place) (a .size) (length (a .room .now)) _ (table-refusal .ensures) (c .before .before .before .before .if1 .left) (c .before .before .if2 .left) _ (c .before .size-holds .ensures) (c .if3 .taken))
+    page-tells Near s (a .probe .now) (a .reach) (a .place) (a .size) (a .room .now) _
+    (page-6 Near s (a .probe .now) (a .reach) (a .place) (a .size) (length (a .room .now)) _ (table-refusal .ensures) (c .before .before .before .before .if1 .left) (c .before .before .if2 .left) _ (c .before .size-holds .ensures) (c .if3 .taken))
 
 page-here-requires : tie.Need-page-here-requires
 page-here-requires c κs =
-    let args = c .before .before .before .before .before .before .before .before .before .before .args in
+    let a = c .before .before .before .before .before .before .before .before .before .before .args in
     let table-refusal = c .before .before .before .before .before .before .table-refusal in
     let if1 = c .before .before .before .before .before .if1 in
-    let a = args in
-    page-askable Near (store (a .t) (a .references .now) (a .coordinates .now) (a .nodes .now)) (a .probe .now) (a .reach) (a .place) (a .size) (length (a .room .now)) _ (table-refusal .ensures) (if1 .left) (c .before .before .before .if2 .left) _ (c .before .before .size-holds .ensures) (c .before .if3 .left)
+    page-askable Near (store (a .t) (a .references .now) (a .coordinates .now) (a .nodes .now)) (a .probe .now) (a .reach) (a .place) (a .size)
+    (length (a .room .now)) _ (table-refusal .ensures) (if1 .left) (c .before .before .before .if2 .left) _ (c .before .before .size-holds .ensures)
+    (c .before .if3 .left)
 
 same-length : tie.Need-same-length
 same-length c = search needs

@@ -21,9 +21,10 @@ line-of-requires c κs = search needs
 
 returns : tie.Need-returns
 returns c =
-    let args = c .before .before .before .before .before .args in
-    let a = args in
-    shown-as writtenOf wroteOf putLine _ _ _ _ _ (refused-10 _ _ _ _ (answer-misplaced (nearQuery (a .table) (a .measure) (a .d) (a .probe .now) (a .p .reach)) (scopeFrom (a .p)) _ (c .before .before .placeable .ensures) (c .before .if1 .taken) (a .last) (a .count) (a .items .now))) (c .line-of .ensures)
+    let a = c .before .before .before .before .before .args in
+    shown-as writtenOf wroteOf putLine _ _ _ _ _
+    (refused-10 _ _ _ _ (answer-misplaced (nearQuery (a .table) (a .measure) (a .d) (a .probe .now) (a .p .reach)) (scopeFrom (a .p)) _ (c .before .before .placeable .ensures) (c .before .if1 .taken) (a .last) (a .count) (a .items .now)))
+    (c .line-of .ensures)
 
 query-of-requires : tie.Need-query-of-requires
 query-of-requires c κs =
@@ -44,14 +45,16 @@ same-length c = search needs
 
 returns-2 : tie.Need-returns-2
 returns-2 c =
-    let args = c .before .before .before .before .before .before .before .before .before .before .before .args in
+    let a = c .before .before .before .before .before .before .before .before .before .before .before .args in
     let placeable = c .before .before .before .before .before .before .before .before .placeable in
     let if1 = c .before .before .before .before .before .before .before .if1 in
     let query-of = c .before .before .before .before .before .before .query-of in
     let scope-in = c .before .before .before .before .before .scope-in in
-    let a = args in
-    line-from (λ (q : Query) (p : Scope). bareLine (answerFits q p (a .last) (a .count) (a .items .now)) longestAnswer (answerFrame q p (a .last) (a .count) (a .items .now)) (length (a .out .now))) (nearQuery (a .table) (a .measure) (a .d) (a .probe .now) (a .p .reach)) _ (scopeFrom (a .p)) _ _ _ _ _
-    (placed-query (nearQuery (a .table) (a .measure) (a .d) (a .probe .now) (a .p .reach)) (scopeFrom (a .p)) _ (placeable .ensures) (if1 .left) _ (query-of .ensures)) (scope-in .ensures) (c .before .before .before .write-answer-line .ensures) (c .line-of2 .ensures)
+    line-from
+    (λ (q : Query) (p : Scope). bareLine (answerFits q p (a .last) (a .count) (a .items .now)) longestAnswer (answerFrame q p (a .last) (a .count) (a .items .now)) (length (a .out .now)))
+    (nearQuery (a .table) (a .measure) (a .d) (a .probe .now) (a .p .reach)) _ (scopeFrom (a .p)) _ _ _ _ _
+    (placed-query (nearQuery (a .table) (a .measure) (a .d) (a .probe .now) (a .p .reach)) (scopeFrom (a .p)) _ (placeable .ensures) (if1 .left) _ (query-of .ensures))
+    (scope-in .ensures) (c .before .before .before .write-answer-line .ensures) (c .line-of2 .ensures)
 
 pub nearby-write-answer-line-spec : {M : Type 1} → statement M
 nearby-write-answer-line-spec =

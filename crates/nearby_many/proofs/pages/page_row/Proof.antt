@@ -69,13 +69,14 @@ same-length-2 c = search needs
 
 returns : tie.Need-returns
 returns c =
-    let args = c .before .before .before .before .before .before .before .before .before .before .before .before .before .before .before .args in
+    let a = c .before .before .before .before .before .before .before .before .before .before .before .before .before .before .before .args in
     let pre = c .before .before .before .before .before .before .before .before .before .before .before .before .before .before .before .pre in
     let place-at = c .before .before .before .before .before .before .before .before .before .place-at in
     let page-here = c .before .before .before .before .before .before .page-here in
-    let a = args in
     let s = store (a .t) (a .references .now) (a .coordinates .now) (a .nodes .now) in
-    page-row-is (λ (p : List ℤ) (q : Place) (n : ℕ). pageCall s Near p (a .reach) q (a .size) n) (a .t .d) (a .i) (a .size * 3) (a .probes .now) (a .places .now) _ (a .items .now) (a .outcomes .now) (place-at .ensures) (pre .items) _ _ _ (page-here .ensures) (c .before .before .put-page .ensures)
+    page-row-is (λ (p : List ℤ) (q : Place) (n : ℕ). pageCall s Near p (a .reach) q (a .size) n) (a .t .d) (a .i) (a .size * 3) (a .probes .now)
+    (a .places .now) _ (a .items .now) (a .outcomes .now) (place-at .ensures) (pre .items) _ _ _ (page-here .ensures)
+    (c .before .before .put-page .ensures)
 
 pub page-row-spec : {M : Type 1} → statement M
 page-row-spec =

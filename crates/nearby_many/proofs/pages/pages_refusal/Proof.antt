@@ -22,73 +22,82 @@ is-whole-requires c κs = search needs
 returns-2 : tie.Need-returns-2
 returns-2 c =
     let a = c .before .before .before .before .before .before .args in
-    pages-5 (store (a .t) (a .references .now) (a .coordinates .now) (a .nodes .now)) (a .probes) (a .n) (a .places) (a .size) (a .outcomes) (a .items) _ (c .before .before .before .many-refusal .ensures) (c .before .before .if1 .left) _ (c .before .is-whole .ensures) (c .if2 .taken)
+    pages-5 (store (a .t) (a .references .now) (a .coordinates .now) (a .nodes .now)) (a .probes) (a .n) (a .places) (a .size) (a .outcomes)
+    (a .items) _ (c .before .before .before .many-refusal .ensures) (c .before .before .if1 .left) _ (c .before .is-whole .ensures) (c .if2 .taken)
 
 size-holds-requires : tie.Need-size-holds-requires
 size-holds-requires c κs = search needs
 
 returns-3 : tie.Need-returns-3
 returns-3 c =
-    let args = c .before .before .before .before .before .before .before .before .args in
+    let a = c .before .before .before .before .before .before .before .before .args in
     let many-refusal = c .before .before .before .before .before .many-refusal in
-    let a = args in
-    pages-6 (store (a .t) (a .references .now) (a .coordinates .now) (a .nodes .now)) (a .probes) (a .n) (a .places) (a .size) (a .outcomes) (a .items) _ (many-refusal .ensures) (c .before .before .before .before .if1 .left) _ (c .before .before .before .is-whole .ensures) (c .before .before .if2 .left) _ (c .before .size-holds .ensures) (c .if3 .taken)
+    pages-6 (store (a .t) (a .references .now) (a .coordinates .now) (a .nodes .now)) (a .probes) (a .n) (a .places) (a .size) (a .outcomes)
+    (a .items) _ (many-refusal .ensures) (c .before .before .before .before .if1 .left) _ (c .before .before .before .is-whole .ensures)
+    (c .before .before .if2 .left) _ (c .before .size-holds .ensures) (c .if3 .taken)
 
 has-rows-requires : tie.Need-has-rows-requires
 has-rows-requires c κs = search needs
 
 returns-4 : tie.Need-returns-4
 returns-4 c =
-    let args = c .before .before .before .before .before .before .before .before .before .before .args in
+    let a = c .before .before .before .before .before .before .before .before .before .before .args in
     let many-refusal = c .before .before .before .before .before .before .before .many-refusal in
     let if1 = c .before .before .before .before .before .before .if1 in
     let is-whole = c .before .before .before .before .before .is-whole in
-    let a = args in
-    pages-12 (store (a .t) (a .references .now) (a .coordinates .now) (a .nodes .now)) (a .probes) (a .n) (a .places) (a .size) (a .outcomes) (a .items) _ (many-refusal .ensures) (if1 .left) _ (is-whole .ensures) (c .before .before .before .before .if2 .left) _ (c .before .before .before .size-holds .ensures) (c .before .before .if3 .left) _ (c .before .has-rows .ensures) (c .if4 .taken)
+    pages-12 (store (a .t) (a .references .now) (a .coordinates .now) (a .nodes .now)) (a .probes) (a .n) (a .places) (a .size) (a .outcomes)
+    (a .items) _ (many-refusal .ensures) (if1 .left) _ (is-whole .ensures) (c .before .before .before .before .if2 .left) _
+    (c .before .before .before .size-holds .ensures) (c .before .before .if3 .left) _ (c .before .has-rows .ensures) (c .if4 .taken)
 
 mul-has-rows : tie.Need-mul-has-rows
 mul-has-rows c =
-    let args = c .before .before .before .before .before .before .before .before .before .before .args in
+    let a = c .before .before .before .before .before .before .before .before .before .before .args in
     let many-refusal = c .before .before .before .before .before .before .before .many-refusal in
     let if1 = c .before .before .before .before .before .before .if1 in
     let is-whole = c .before .before .before .before .before .is-whole in
-    let a = args in
     let h : a .size ≤ mostPage =
-    pages-small (store (a .t) (a .references .now) (a .coordinates .now) (a .nodes .now)) (a .probes) (a .n) (a .places) (a .size) (a .outcomes) (a .items) _ (many-refusal .ensures) (if1 .left) _ (is-whole .ensures) (c .before .before .before .before .if2 .left) _ (c .before .before .before .size-holds .ensures) (c .before .before .if3 .left) in
+    pages-small (store (a .t) (a .references .now) (a .coordinates .now) (a .nodes .now)) (a .probes) (a .n) (a .places) (a .size) (a .outcomes)
+    (a .items) _ (many-refusal .ensures) (if1 .left) _ (is-whole .ensures) (c .before .before .before .before .if2 .left) _
+    (c .before .before .before .size-holds .ensures) (c .before .before .if3 .left) in
     omega arith
 
 has-rows-requires-2 : tie.Need-has-rows-requires-2
 has-rows-requires-2 c κs =
-    let args = c .before .before .before .before .before .before .before .before .before .before .args in
+    let a = c .before .before .before .before .before .before .before .before .before .before .args in
     let many-refusal = c .before .before .before .before .before .before .before .many-refusal in
     let if1 = c .before .before .before .before .before .before .if1 in
     let is-whole = c .before .before .before .before .before .is-whole in
-    let a = args in
     let h : 1 ≤ a .size =
-    pages-some (store (a .t) (a .references .now) (a .coordinates .now) (a .nodes .now)) (a .probes) (a .n) (a .places) (a .size) (a .outcomes) (a .items) _ (many-refusal .ensures) (if1 .left) _ (is-whole .ensures) (c .before .before .before .before .if2 .left) _ (c .before .before .before .size-holds .ensures) (c .before .before .if3 .left) in
+    pages-some (store (a .t) (a .references .now) (a .coordinates .now) (a .nodes .now)) (a .probes) (a .n) (a .places) (a .size) (a .outcomes)
+    (a .items) _ (many-refusal .ensures) (if1 .left) _ (is-whole .ensures) (c .before .before .before .before .if2 .left) _
+    (c .before .before .before .size-holds .ensures) (c .before .before .if3 .left) in
     omega arith
 
 returns-5 : tie.Need-returns-5
 returns-5 c =
-    let args = c .before .before .before .before .before .before .before .before .before .before .before .before .args in
+    let a = c .before .before .before .before .before .before .before .before .before .before .before .before .args in
     let many-refusal = c .before .before .before .before .before .before .before .before .before .many-refusal in
     let if1 = c .before .before .before .before .before .before .before .before .if1 in
     let is-whole = c .before .before .before .before .before .before .before .is-whole in
     let if2 = c .before .before .before .before .before .before .if2 in
     let size-holds = c .before .before .before .before .before .size-holds in
-    let a = args in
-    pages-12-items (store (a .t) (a .references .now) (a .coordinates .now) (a .nodes .now)) (a .probes) (a .n) (a .places) (a .size) (a .outcomes) (a .items) _ (many-refusal .ensures) (if1 .left) _ (is-whole .ensures) (if2 .left) _ (size-holds .ensures) (c .before .before .before .before .if3 .left) _ (c .before .before .before .has-rows .ensures) (c .before .before .if4 .left) _ (c .before .has-rows2 .ensures) (c .if5 .taken)
+    pages-12-items (store (a .t) (a .references .now) (a .coordinates .now) (a .nodes .now)) (a .probes) (a .n) (a .places) (a .size) (a .outcomes)
+    (a .items) _ (many-refusal .ensures) (if1 .left) _ (is-whole .ensures) (if2 .left) _ (size-holds .ensures)
+    (c .before .before .before .before .if3 .left) _ (c .before .before .before .has-rows .ensures) (c .before .before .if4 .left) _
+    (c .before .has-rows2 .ensures) (c .if5 .taken)
 
 returns-6 : tie.Need-returns-6
 returns-6 c =
-    let args = c .before .before .before .before .before .before .before .before .before .before .before .before .args in
+    let a = c .before .before .before .before .before .before .before .before .before .before .before .before .args in
     let many-refusal = c .before .before .before .before .before .before .before .before .before .many-refusal in
     let if1 = c .before .before .before .before .before .before .before .before .if1 in
     let is-whole = c .before .before .before .before .before .before .before .is-whole in
     let if2 = c .before .before .before .before .before .before .if2 in
     let size-holds = c .before .before .before .before .before .size-holds in
-    let a = args in
-    pages-0 (store (a .t) (a .references .now) (a .coordinates .now) (a .nodes .now)) (a .probes) (a .n) (a .places) (a .size) (a .outcomes) (a .items) _ (many-refusal .ensures) (if1 .left) _ (is-whole .ensures) (if2 .left) _ (size-holds .ensures) (c .before .before .before .before .if3 .left) _ (c .before .before .before .has-rows .ensures) (c .before .before .if4 .left) _ (c .before .has-rows2 .ensures) (c .if5 .left)
+    pages-0 (store (a .t) (a .references .now) (a .coordinates .now) (a .nodes .now)) (a .probes) (a .n) (a .places) (a .size) (a .outcomes)
+    (a .items) _ (many-refusal .ensures) (if1 .left) _ (is-whole .ensures) (if2 .left) _ (size-holds .ensures)
+    (c .before .before .before .before .if3 .left) _ (c .before .before .before .has-rows .ensures) (c .before .before .if4 .left) _
+    (c .before .has-rows2 .ensures) (c .if5 .left)
 
 pub pages-refusal-spec : {M : Type 1} → statement M
 pages-refusal-spec =

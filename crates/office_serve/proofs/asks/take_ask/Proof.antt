@@ -5,7 +5,7 @@ use native.Mathlib.Omega.{arith}
 use lib.ListN.{length}
 use Rattle.paper.specs.Tree.{store}
 use Rattle.paper.specs.Codec.{askMeant}
-use Rattle.office_serve.proofs.OneLineServed.{ask-none, line-inside, refuse-ready, ask-line, ask-refused}
+use Rattle.office_serve.proofs.AskServed.{ask-none, line-inside, refuse-ready, ask-line, ask-refused}
 use borrow.Author.Needs.{needs}
 use Rattle.office_serve.proofs.asks.take_ask.Statement.{statement}
 use Rattle.office_serve.proofs.asks.take_ask.Tie as tie

@@ -1,5 +1,5 @@
 -- `serve::claims::header_for` meets its contract. Assumes nothing.
-use Rattle.office_serve.proofs.OneLineServed.{header-none, header-some}
+use Rattle.office_serve.proofs.ClaimServed.{header-none, header-some}
 use borrow.Author.Needs.{needs}
 use Rattle.office_serve.proofs.claims.header_for.Statement.{statement}
 use Rattle.office_serve.proofs.claims.header_for.Tie as tie

@@ -3,7 +3,7 @@ use Prim.Native.Nat.{_<_}
 use native.Mathlib.Omega.{arith}
 use lib.ListN.{length}
 use Rattle.paper.specs.Tree.{store}
-use Rattle.office_serve.proofs.OneLineServed.{claim-11, claim-3, add-ready, claim-in}
+use Rattle.office_serve.proofs.ClaimServed.{claim-11, claim-3, add-ready, claim-in}
 use borrow.Author.Needs.{needs}
 use Rattle.office_serve.proofs.claims.take_claim.Statement.{statement}
 use Rattle.office_serve.proofs.claims.take_claim.Tie as tie
@@ -25,8 +25,12 @@ same-length c = search needs
 
 returns : tie.Need-returns
 returns c =
-    let a = c .before .before .before .before .before .before .before .before .before .before .before .args in
-    claim-11 (store (a .t) (a .references .now) (a .coordinates .now) (a .nodes .now)) (a .c) (c .before .before .before .before .before .before .before .before .before .before .before .pre .serving .ready) (c .before .before .before .before .before .before .before .before .before .before .before .pre .range) _ (c .before .before .before .before .before .before .before .header-for .ensures) _ (c .before .before .before .before .before .is-ours .ensures) (a .out .now) (a .at) (c .before .before .before .before .if1 .taken) _ _ (c .before .before .refuse .ensures)
+    let ours = c .before .before .before .before .before in
+    let start = ours .before .before .before .before .before .before in
+    let a = start .args in
+    claim-11 (store (a .t) (a .references .now) (a .coordinates .now) (a .nodes .now)) (a .c) (start .pre .serving .ready) (start .pre .range) _
+    (ours .before .before .header-for .ensures) _ (ours .is-ours .ensures) (a .out .now) (a .at) (c .before .before .before .before .if1 .taken) _ _
+    (c .before .before .refuse .ensures)
 
 refuse-requires-2 : tie.Need-refuse-requires-2
 refuse-requires-2 c κs = search needs
@@ -36,8 +40,13 @@ same-length-2 c = search needs
 
 returns-2 : tie.Need-returns-2
 returns-2 c =
-    let a = c .before .before .before .before .before .before .before .before .before .before .before .before .before .args in
-    claim-3 (store (a .t) (a .references .now) (a .coordinates .now) (a .nodes .now)) (a .c) (c .before .before .before .before .before .before .before .before .before .before .before .before .before .pre .serving .ready) (c .before .before .before .before .before .before .before .before .before .before .before .before .before .pre .range) _ (c .before .before .before .before .before .before .before .before .before .header-for .ensures) _ (c .before .before .before .before .before .before .before .is-ours .ensures) (a .out .now) (a .at) (c .before .before .before .before .before .before .if1 .left) (c .before .before .before .before .if2 .taken) _ _ (c .before .before .refuse2 .ensures)
+    let ours = c .before .before .before .before .before .before .before in
+    let start = ours .before .before .before .before .before .before in
+    let a = start .args in
+    claim-3 (store (a .t) (a .references .now) (a .coordinates .now) (a .nodes .now)) (a .c) (start .pre .serving .ready) (start .pre .range) _
+    (ours .before .before .header-for .ensures) _ (ours .is-ours .ensures) (a .out .now) (a .at)
+    (c .before .before .before .before .before .before .if1 .left) (c .before .before .before .before .if2 .taken) _ _
+    (c .before .before .refuse2 .ensures)
 
 slice-aggregate-add : tie.Need-slice-aggregate-add
 slice-aggregate-add c = search (needs, c .before .before .before .before .before .before .before .before .before .before .before .before .before .before .good .1 .1 .1 .1 .0)
@@ -46,7 +55,11 @@ add-requires : tie.Need-add-requires
 add-requires c κs =
     let a = c .before .before .before .before .before .before .before .before .before .before .before .before .before .before .args in
     let eight : 7 < length (a .c .coordinates) = search (needs, c .before .before .before .before .before .before .before .before .before .before .before .before .before .before .good .1 .1 .1 .1 .0) in
-    add-ready (store (a .t) (a .references .now) (a .coordinates .now) (a .nodes .now)) (a .c) (c .before .before .before .before .before .before .before .before .before .before .before .before .before .before .pre .serving .ready) (c .before .before .before .before .before .before .before .before .before .before .before .before .before .before .pre .range) _ (c .before .before .before .before .before .before .before .before .before .before .header-for .ensures) _ (c .before .before .before .before .before .before .before .before .is-ours .ensures) (a .out .now) (a .at) (c .before .before .before .before .before .before .before .if1 .left) (c .before .before .before .before .before .if2 .left) eight
+    let ours = c .before .before .before .before .before .before .before .before in
+    let start = ours .before .before .before .before .before .before in
+    add-ready (store (a .t) (a .references .now) (a .coordinates .now) (a .nodes .now)) (a .c) (start .pre .serving .ready) (start .pre .range) _
+    (ours .before .before .header-for .ensures) _ (ours .is-ours .ensures) (a .out .now) (a .at)
+    (c .before .before .before .before .before .before .before .if1 .left) (c .before .before .before .before .before .if2 .left) eight
 
 same-length-3 : tie.Need-same-length-3
 same-length-3 c = search needs
@@ -61,7 +74,13 @@ returns-3 : tie.Need-returns-3
 returns-3 c =
     let a = c .before .before .before .before .before .before .before .before .before .before .before .before .before .before .before .before .before .before .before .before .args in
     let eight : 7 < length (a .c .coordinates) = search (needs, c .before .before .before .before .before .before .before .before .before .before .before .before .before .before .before .before .before .before .before .before .good .1 .1 .1 .1 .0) in
-    claim-in (store (a .t) (a .references .now) (a .coordinates .now) (a .nodes .now)) (a .c) (c .before .before .before .before .before .before .before .before .before .before .before .before .before .before .before .before .before .before .before .before .pre .serving .ready) (c .before .before .before .before .before .before .before .before .before .before .before .before .before .before .before .before .before .before .before .before .pre .range) _ (c .before .before .before .before .before .before .before .before .before .before .before .before .before .before .before .before .header-for .ensures) _ (c .before .before .before .before .before .before .before .before .before .before .before .before .before .before .is-ours .ensures) (a .out .now) (a .at) (c .before .before .before .before .before .before .before .before .before .before .before .before .before .if1 .left) (c .before .before .before .before .before .before .before .before .before .before .before .if2 .left) eight _ (c .before .before .before .before .before .add .ensures) (omega (arith, c .before .before .before .before .before .before .before .before .before .before .before .before .before .before .before .before .before .before .before .before .pre .serving .room))
+    let ours = c .before .before .before .before .before .before .before .before .before .before .before .before .before .before in
+    let start = ours .before .before .before .before .before .before in
+    claim-in (store (a .t) (a .references .now) (a .coordinates .now) (a .nodes .now)) (a .c) (start .pre .serving .ready) (start .pre .range) _
+    (ours .before .before .header-for .ensures) _ (ours .is-ours .ensures) (a .out .now) (a .at)
+    (c .before .before .before .before .before .before .before .before .before .before .before .before .before .if1 .left)
+    (c .before .before .before .before .before .before .before .before .before .before .before .if2 .left) eight _
+    (c .before .before .before .before .before .add .ensures) (omega (arith, start .pre .serving .room))
 
 pub take-claim-spec : {M : Type 1} → statement M
 take-claim-spec =

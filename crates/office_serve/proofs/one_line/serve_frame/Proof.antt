@@ -36,12 +36,11 @@ same-length-4 c = search needs
 
 returns : tie.Need-returns
 returns c =
-    let args = c .before .before .before .before .before .before .before .before .before .before .before .before .before .before .before .before .before .before .before .args in
+    let a = c .before .before .before .before .before .before .before .before .before .before .before .before .before .before .before .before .before .before .before .args in
     let claim-ok = c .before .before .before .before .before .before .before .before .before .before .before .before .before .before .claim-ok in
     let if1 = c .before .before .before .before .before .before .before .before .before .before .before .before .before .if1 in
     let claim-at = c .before .before .before .before .before .before .before .before .before .before .before .before .claim-at in
     let take-claim = c .before .before .before .before .before .before .before .take-claim in
-    let a = args in
     frame-claim (store (a .t) (a .references .now) (a .coordinates .now) (a .nodes .now)) (frameIn (a .src .now)) (a .out .now) (a .at) _ _ _ _ (sym (claim-ok .ensures) ∙ if1 .taken) (claim-at .ensures) (take-claim .ensures)
 
 ask-ok-requires : tie.Need-ask-ok-requires
@@ -72,15 +71,15 @@ same-length-8 c = search needs
 
 returns-2 : tie.Need-returns-2
 returns-2 c =
-    let args = c .before .before .before .before .before .before .before .before .before .before .before .before .before .before .before .before .args in
+    let a = c .before .before .before .before .before .before .before .before .before .before .before .before .before .before .before .before .args in
     let pre = c .before .before .before .before .before .before .before .before .before .before .before .before .before .before .before .before .pre in
     let claim-ok = c .before .before .before .before .before .before .before .before .before .before .before .claim-ok in
     let if1 = c .before .before .before .before .before .before .before .before .before .before .if1 in
     let ask-ok = c .before .before .before .before .before .before .before .before .before .ask-ok in
     let if2 = c .before .before .before .before .before .before .before .before .if2 in
     let ask-at = c .before .before .before .before .before .before .before .ask-at in
-    let a = args in
-    frame-ask (store (a .t) (a .references .now) (a .coordinates .now) (a .nodes .now)) (frameIn (a .src .now)) (a .out .now) (a .at) _ _ _ (pre .ready) (sym (claim-ok .ensures) ∙ if1 .left) (sym (ask-ok .ensures) ∙ if2 .taken) (ask-at .ensures) (c .before .before .take-ask .ensures)
+    frame-ask (store (a .t) (a .references .now) (a .coordinates .now) (a .nodes .now)) (frameIn (a .src .now)) (a .out .now) (a .at) _ _ _
+    (pre .ready) (sym (claim-ok .ensures) ∙ if1 .left) (sym (ask-ok .ensures) ∙ if2 .taken) (ask-at .ensures) (c .before .before .take-ask .ensures)
 
 refuse-requires : tie.Need-refuse-requires
 refuse-requires c κs = search needs
@@ -90,13 +89,14 @@ same-length-9 c = search needs
 
 returns-3 : tie.Need-returns-3
 returns-3 c =
-    let args = c .before .before .before .before .before .before .before .before .before .before .before .before .args in
+    let a = c .before .before .before .before .before .before .before .before .before .before .before .before .args in
     let pre = c .before .before .before .before .before .before .before .before .before .before .before .before .pre in
     let claim-ok = c .before .before .before .before .before .before .before .claim-ok in
     let if1 = c .before .before .before .before .before .before .if1 in
     let ask-ok = c .before .before .before .before .before .ask-ok in
-    let a = args in
-    frame-none (store (a .t) (a .references .now) (a .coordinates .now) (a .nodes .now)) (frameIn (a .src .now)) (a .out .now) (a .at) _ _ (pre .ready) (sym (claim-ok .ensures) ∙ if1 .left) (sym (ask-ok .ensures) ∙ c .before .before .before .before .if2 .left) (c .before .before .refuse .ensures)
+    frame-none (store (a .t) (a .references .now) (a .coordinates .now) (a .nodes .now)) (frameIn (a .src .now)) (a .out .now) (a .at) _ _
+    (pre .ready) (sym (claim-ok .ensures) ∙ if1 .left) (sym (ask-ok .ensures) ∙ c .before .before .before .before .if2 .left)
+    (c .before .before .refuse .ensures)
 
 pub serve-frame-spec : {M : Type 1} → statement M
 serve-frame-spec =

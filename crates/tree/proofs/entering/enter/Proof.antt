@@ -23,16 +23,23 @@ small c =
     let l = c .before .before .before .before .before .loop in
     rw (c .nearer .ensures .0) (side-small (apart (a .measure) (a .d) (a .coordinates .now)) (l .nodes) (l .m) (a .k))
 
--- after `widen`: the side's far distance is raised
-lifted : (c : tie.After-widen Inv-loop μ-loop) → c .widen .last .0
-    ≡ raise (apart (c .before .before .before .before .before .before .before .before .before .before .before .before .args .measure) (c .before .before .before .before .before .before .before .before .before .before .before .before .args .d) (c .before .before .before .before .before .before .before .before .before .before .before .before .args .coordinates .now)) (c .before .before .before .before .before .before .before .before .before .loop .nodes) (c .before .before .before .before .before .before .before .before .before .loop .m) (c .before .before .before .before .nearer .result .side) (c .before .before .before .before .before .before .before .before .before .before .before .before .args .k)
-lifted c =
-    let args = c .before .before .before .before .before .before .before .before .before .before .before .before .args in
-    let a = args in
-    c .widen .ensures ∙ raised (apart (a .measure) (a .d) (a .coordinates .now)) _ _ _ _ _ (c .before .before .before .before .nearer .ensures .1)
+-- after `widen`: the distances, the nodes as the turn found them, and the node that it is at
+abbrev distances : tie.After-widen Inv-loop μ-loop → ℕ → ℕ → ℕ
+distances c = let a = c .before .before .before .before .before .before .before .before .before .before .before .before .args in apart (a .measure) (a .d) (a .coordinates .now)
+
+abbrev found : tie.After-widen Inv-loop μ-loop → List ℕ
+found c = c .before .before .before .before .before .before .before .before .before .loop .nodes
+
+abbrev here : tie.After-widen Inv-loop μ-loop → ℕ
+here c = c .before .before .before .before .before .before .before .before .before .loop .m
+
+-- the side's far distance is raised
+lifted : (c : tie.After-widen Inv-loop μ-loop)
+    → c .widen .last .0 ≡ raise (distances c) (found c) (here c) (c .before .before .before .before .nearer .result .side) (c .before .before .before .before .before .before .before .before .before .before .before .before .args .k)
+lifted c = c .widen .ensures ∙ raised (distances c) _ _ _ _ _ (c .before .before .before .before .nearer .ensures .1)
 
 -- and the node has a claim on its right
-full : (c : tie.After-widen Inv-loop μ-loop) → fieldAt (c .before .before .before .before .before .before .before .before .before .loop .nodes) (c .before .before .before .before .before .before .before .before .before .loop .m) 1 ≡ 0 → ⊥
+full : (c : tie.After-widen Inv-loop μ-loop) → fieldAt (found c) (here c) 1 ≡ 0 → ⊥
 full c z = c .before .before .before .before .before .before .if2 .left (c .before .before .before .before .before .before .before .field .ensures ∙ z)
 
 make-requires : tie.Need-make-requires Inv-loop μ-loop

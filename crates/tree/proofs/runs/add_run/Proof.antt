@@ -9,7 +9,8 @@ use Rattle.paper.specs.Points.{point}
 use Rattle.paper.specs.Tree.{Store, store}
 use Rattle.paper.specs.Runs.{added, addedRun}
 use Rattle.tree.specs.Soundness.{Roomy}
-use Rattle.tree.proofs.Adding.{in-run, point-length, run-start, run-next, roomy-next, roomy-less, added-kept}
+use Rattle.tree.proofs.Adding.{in-run, run-start, run-next, roomy-next, roomy-less, added-kept}
+use Rattle.tree.proofs.ClaimsInMemory.{point-length}
 use Rattle.tree.proofs.runs.add_run.Statement.{statement}
 use Rattle.tree.proofs.runs.add_run.Tie as tie
 

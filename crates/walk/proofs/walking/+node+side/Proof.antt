@@ -10,7 +10,8 @@ use Rattle.paper.proofs.orders.Order.rank.Reads as rank-reads
 use Rattle.tree.proofs.nodes.field.Reads as field-reads
 use Rattle.walk.specs.Walking.{distBy, apartBy}
 use Rattle.walk.proofs.Skipping.{metric}
-use Rattle.walk.proofs.NodesAndSides.{side-none, side-down, node-one, node-left-first, node-right-first, stored-here, left-here, in-sight, way-ready, side-ready, side-falls, leftAbove, node-falls, roomy-again}
+use Rattle.walk.proofs.Sides.{side-none, side-down}
+use Rattle.walk.proofs.Nodes.{node-one, node-left-first, node-right-first, stored-here, left-here, in-sight, way-ready, side-ready, side-falls, leftAbove, node-falls, roomy-again}
 use Rattle.walk.proofs.walking.consider.Reads as consider-reads
 use Rattle.walk.proofs.walking.from_probe.Reads as from-probe-reads
 use Rattle.walk.proofs.walking.way_down.Reads as way-down-reads
@@ -67,10 +68,16 @@ node-sub-kl : (t : ℕ) → node-lts.Need-sub-kl (node-calls t) (node-at t) node
 node-sub-kl t c = let h = left-here _ _ _ _ _ (c .before .before .before .before .pre .1 .walk) (c .field .ensures) in omega arith
 
 node-from-probe-requires : (t : ℕ) → node-lts.Need-from-probe-requires (node-calls t) (node-at t) node.Post
-node-from-probe-requires t c κs = let p = c .before .before .before .before .pre .1 in let h = left-here _ _ _ _ _ (p .walk) (c .field .ensures) in in-sight _ _ _ _ _ (p .lent) (stored-here _ _ _ _ 0 _ (p .walk) (lit< tt) (c .field .ensures) (λ z. omega arith))
+node-from-probe-requires t c κs =
+    let p = c .before .before .before .before .pre .1 in
+    let h = left-here _ _ _ _ _ (p .walk) (c .field .ensures) in
+    in-sight _ _ _ _ _ (p .lent) (stored-here _ _ _ _ 0 _ (p .walk) (lit< tt) (c .field .ensures) (λ z. omega arith))
 
 node-consider-requires : (t : ℕ) → node-lts.Need-consider-requires (node-calls t) (node-at t) node.Post
-node-consider-requires t c κs = let p = c .before .before .before .before .before .before .pre .1 in let h = left-here _ _ _ _ _ (p .walk) (c .before .before .field .ensures) in record { stored = stored-here _ _ _ _ 0 _ (p .walk) (lit< tt) (c .before .before .field .ensures) (λ z. omega arith); named = p .lent .named; roomy = p .roomy }
+node-consider-requires t c κs =
+    let p = c .before .before .before .before .before .before .pre .1 in
+    let h = left-here _ _ _ _ _ (p .walk) (c .before .before .field .ensures) in
+    record { stored = stored-here _ _ _ _ 0 _ (p .walk) (lit< tt) (c .before .before .field .ensures) (λ z. omega arith); named = p .lent .named; roomy = p .roomy }
 
 node-field-requires-2 : (t : ℕ) → node-lts.Need-field-requires-2 (node-calls t) (node-at t) node.Post
 node-field-requires-2 t c κs = let p = c .before .before .before .before .before .before .before .before .before .pre .1 .walk in omega arith
@@ -79,16 +86,32 @@ node-same-length : (t : ℕ) → node-lts.Need-same-length (node-calls t) (node-
 node-same-length t c = c .before .before .before .before .consider .kept .1 .1 .1 .1 .0
 
 node-returns : (t : ℕ) → node-lts.Need-returns (node-calls t) (node-at t) node.Post
-node-returns t c = let a = c .before .before .before .before .before .before .before .before .before .before .before .args in node-one (a .ask) (a .references .now) (a .nodes .now) (apartBy (a .ask) (a .coordinates .now)) (distBy (a .ask) (a .coordinates .now) (a .probe .now)) _ _ _ _ (c .before .before .before .before .before .before .before .field .ensures) _ (c .before .field2 .ensures) _ (c .before .before .before .before .before .before .from-probe .ensures) _ _ (c .before .before .before .before .consider .ensures) (c .if1 .taken)
+node-returns t c =
+    let one = c .before .before .before .before in
+    let start = one .before .before .before .before .before .before .before in
+    let a = start .args in
+    node-one (a .ask) (a .references .now) (a .nodes .now) (apartBy (a .ask) (a .coordinates .now))
+    (distBy (a .ask) (a .coordinates .now) (a .probe .now)) _ _ _ _ (one .before .before .before .field .ensures) _ (c .before .field2 .ensures) _
+    (one .before .before .from-probe .ensures) _ _ (one .consider .ensures) (c .if1 .taken)
 
 node-sub-kr : (t : ℕ) → node-lts.Need-sub-kr (node-calls t) (node-at t) node.Post
 node-sub-kr t c = let h = c .if1 .left in omega arith
 
 node-from-probe-requires-2 : (t : ℕ) → node-lts.Need-from-probe-requires-2 (node-calls t) (node-at t) node.Post
-node-from-probe-requires-2 t c κs = let p = c .before .before .before .before .before .before .before .before .before .before .before .pre .1 in in-sight _ _ _ _ _ (p .lent) (stored-here _ _ _ _ 1 _ (p .walk) (lit< tt) (c .before .field2 .ensures) (c .if1 .left))
+node-from-probe-requires-2 t c κs =
+    let p = c .before .before .before .before .before .before .before .before .before .before .before .pre .1 in
+    in-sight _ _ _ _ _ (p .lent) (stored-here _ _ _ _ 1 _ (p .walk) (lit< tt) (c .before .field2 .ensures) (c .if1 .left))
 
 node-consider-requires-2 : (t : ℕ) → node-lts.Need-consider-requires-2 (node-calls t) (node-at t) node.Post
-node-consider-requires-2 t c κs = let p = c .before .before .before .before .before .before .before .before .before .before .before .before .before .pre .1 in record { stored = stored-here _ _ _ _ 1 _ (p .walk) (lit< tt) (c .before .before .before .field2 .ensures) (c .before .before .if1 .left); named = p .lent .named; roomy = roomy-again _ _ _ _ _ (p .roomy) (c .before .before .before .before .before .before .consider .kept .1 .1 .1 .1 .0) (c .before .before .before .before .before .before .consider .ensures .few) }
+node-consider-requires-2 t c κs =
+    let one = c .before .before .before .before .before .before in
+    let start = one .before .before .before .before .before .before .before in
+    let p = start .pre .1 in
+    record {
+      stored = stored-here _ _ _ _ 1 _ (p .walk) (lit< tt) (c .before .before .before .field2 .ensures) (c .before .before .if1 .left);
+      named = p .lent .named;
+      roomy = roomy-again _ _ _ _ _ (p .roomy) (one .consider .kept .1 .1 .1 .1 .0) (one .consider .ensures .few);
+    }
 
 node-rank-requires : (t : ℕ) → node-lts.Need-rank-requires (node-calls t) (node-at t) node.Post
 node-rank-requires t c κs = tt
@@ -97,60 +120,171 @@ node-rank-requires-2 : (t : ℕ) → node-lts.Need-rank-requires-2 (node-calls t
 node-rank-requires-2 t c κs = tt
 
 node-way-down-requires : (t : ℕ) → node-lts.Need-way-down-requires (node-calls t) (node-at t) node.Post
-node-way-down-requires t c κs = way-ready _ _ _ _ _ _ _ _ (c .before .before .before .before .before .before .before .before .before .before .before .before .before .before .before .before .before .before .before .before .pre .1) 1 (lit< tt) _ _ (c .before .before .before .before .before .before .consider2 .kept .1 .1 .1 .1 .0 ∙ c .before .before .before .before .before .before .before .before .before .before .before .before .before .consider .kept .1 .1 .1 .1 .0) (c .before .before .before .before .before .before .consider2 .ensures .few)
+node-way-down-requires t c κs =
+    let two = c .before .before .before .before .before .before in
+    let one = two .before .before .before .before .before .before .before in
+    let start = one .before .before .before .before .before .before .before in
+    way-ready _ _ _ _ _ _ _ _ (start .pre .1) 1 (lit< tt) _ _ (two .consider2 .kept .1 .1 .1 .1 .0 ∙ one .consider .kept .1 .1 .1 .1 .0) (two .consider2 .ensures .few)
 
 node-side-requires : (t : ℕ) → node-lts.Need-side-requires (node-calls t) (node-at t) node.Post
-node-side-requires t c κs = let h = c .before .before .before .before .before .before .before .before .before .before .before .before .before .before .before .before .before .before .before .before .before .before .pre .0 in let q = side-falls _ _ _ _ _ _ _ _ (c .before .before .before .before .before .before .before .before .before .before .before .before .before .before .before .before .before .before .before .before .before .before .pre .1) 1 (lit< tt) _ _ _ _ _ (c .before .way-down .ensures) in (omega (arith, h, q), side-ready _ _ _ _ _ _ _ _ (c .before .before .before .before .before .before .before .before .before .before .before .before .before .before .before .before .before .before .before .before .before .before .pre .1) 1 (lit< tt) _ _ _ _ _ (c .before .way-down .ensures) (c .before .before .before .before .before .before .before .before .consider2 .kept .1 .1 .1 .1 .0 ∙ c .before .before .before .before .before .before .before .before .before .before .before .before .before .before .before .consider .kept .1 .1 .1 .1 .0) (c .before .before .before .before .before .before .before .before .consider2 .ensures .few))
+node-side-requires t c κs =
+    let two = c .before .before .before .before .before .before .before .before in
+    let one = two .before .before .before .before .before .before .before in
+    let start = one .before .before .before .before .before .before .before in
+    let h = start .pre .0 in
+    let q = side-falls _ _ _ _ _ _ _ _ (start .pre .1) 1 (lit< tt) _ _ _ _ _ (c .before .way-down .ensures) in (
+      omega (arith, h, q),
+      side-ready _ _ _ _ _ _ _ _ (start .pre .1) 1 (lit< tt) _ _ _ _ _ (c .before .way-down .ensures)
+          (two .consider2 .kept .1 .1 .1 .1 .0 ∙ one .consider .kept .1 .1 .1 .1 .0) (two .consider2 .ensures .few),
+    )
 
 node-way-down-requires-2 : (t : ℕ) → node-lts.Need-way-down-requires-2 (node-calls t) (node-at t) node.Post
-node-way-down-requires-2 t c κs = way-ready _ _ _ _ _ _ _ _ (c .before .before .before .before .before .before .before .before .before .before .before .before .before .before .before .before .before .before .before .before .before .before .before .before .before .before .pre .1) 0 (lit< tt) _ _ (c .before .before .before .side .kept .1 .1 .1 .1 .1 .1 .0 ∙ c .before .before .before .before .before .before .before .before .before .before .before .before .consider2 .kept .1 .1 .1 .1 .0 ∙ c .before .before .before .before .before .before .before .before .before .before .before .before .before .before .before .before .before .before .before .consider .kept .1 .1 .1 .1 .0) (c .before .before .before .side .ensures .few)
+node-way-down-requires-2 t c κs =
+    let three = c .before .before .before in
+    let two = three .before .before .before .before .before .before .before .before .before in
+    let one = two .before .before .before .before .before .before .before in
+    let start = one .before .before .before .before .before .before .before in
+    way-ready _ _ _ _ _ _ _ _ (start .pre .1) 0 (lit< tt) _ _
+    (three .side .kept .1 .1 .1 .1 .1 .1 .0 ∙ two .consider2 .kept .1 .1 .1 .1 .0 ∙ one .consider .kept .1 .1 .1 .1 .0) (three .side .ensures .few)
 
 node-side-requires-2 : (t : ℕ) → node-lts.Need-side-requires-2 (node-calls t) (node-at t) node.Post
-node-side-requires-2 t c κs = let h = c .before .before .before .before .before .before .before .before .before .before .before .before .before .before .before .before .before .before .before .before .before .before .before .before .before .before .before .before .pre .0 in let q = side-falls _ _ _ _ _ _ _ _ (c .before .before .before .before .before .before .before .before .before .before .before .before .before .before .before .before .before .before .before .before .before .before .before .before .before .before .before .before .pre .1) 0 (lit< tt) _ _ _ _ _ (c .before .way-down2 .ensures) in (omega (arith, h, q), side-ready _ _ _ _ _ _ _ _ (c .before .before .before .before .before .before .before .before .before .before .before .before .before .before .before .before .before .before .before .before .before .before .before .before .before .before .before .before .pre .1) 0 (lit< tt) _ _ _ _ _ (c .before .way-down2 .ensures) (c .before .before .before .before .before .side .kept .1 .1 .1 .1 .1 .1 .0 ∙ c .before .before .before .before .before .before .before .before .before .before .before .before .before .before .consider2 .kept .1 .1 .1 .1 .0 ∙ c .before .before .before .before .before .before .before .before .before .before .before .before .before .before .before .before .before .before .before .before .before .consider .kept .1 .1 .1 .1 .0) (c .before .before .before .before .before .side .ensures .few))
+node-side-requires-2 t c κs =
+    let three = c .before .before .before .before .before in
+    let two = three .before .before .before .before .before .before .before .before .before in
+    let one = two .before .before .before .before .before .before .before in
+    let start = one .before .before .before .before .before .before .before in
+    let h = start .pre .0 in
+    let q = side-falls _ _ _ _ _ _ _ _ (start .pre .1) 0 (lit< tt) _ _ _ _ _ (c .before .way-down2 .ensures) in (
+      omega (arith, h, q),
+      side-ready _ _ _ _ _ _ _ _ (start .pre .1) 0 (lit< tt) _ _ _ _ _ (c .before .way-down2 .ensures)
+          (three .side .kept .1 .1 .1 .1 .1 .1 .0 ∙ two .consider2 .kept .1 .1 .1 .1 .0 ∙ one .consider .kept .1 .1 .1 .1 .0) (three .side .ensures .few),
+    )
 
 node-same-length-2 : (t : ℕ) → node-lts.Need-same-length-2 (node-calls t) (node-at t) node.Post
-node-same-length-2 t c = c .before .before .side2 .kept .1 .1 .1 .1 .1 .1 .0 ∙ c .before .before .before .before .before .before .before .before .side .kept .1 .1 .1 .1 .1 .1 .0 ∙ c .before .before .before .before .before .before .before .before .before .before .before .before .before .before .before .before .before .consider2 .kept .1 .1 .1 .1 .0 ∙ c .before .before .before .before .before .before .before .before .before .before .before .before .before .before .before .before .before .before .before .before .before .before .before .before .consider .kept .1 .1 .1 .1 .0
+node-same-length-2 t c =
+    let three = c .before .before .before .before .before .before .before .before in
+    let two = three .before .before .before .before .before .before .before .before .before in
+    let one = two .before .before .before .before .before .before .before in
+    c .before .before .side2 .kept .1 .1 .1 .1 .1 .1 .0 ∙ three .side .kept .1 .1 .1 .1 .1 .1 .0 ∙ two .consider2 .kept .1 .1 .1 .1 .0
+    ∙ one .consider .kept .1 .1 .1 .1 .0
 
 node-returns-2 : (t : ℕ) → node-lts.Need-returns-2 (node-calls t) (node-at t) node.Post
-node-returns-2 t c = let a = c .before .before .before .before .before .before .before .before .before .before .before .before .before .before .before .before .before .before .before .before .before .before .before .before .before .before .before .before .before .before .before .args in let p = c .before .before .before .before .before .before .before .before .before .before .before .before .before .before .before .before .before .before .before .before .before .before .before .before .before .before .before .before .before .before .before .pre .1 in node-right-first (a .ask) (a .references .now) (a .nodes .now) (apartBy (a .ask) (a .coordinates .now)) (distBy (a .ask) (a .coordinates .now) (a .probe .now)) _ _ _ _ (c .before .before .before .before .before .before .before .before .before .before .before .before .before .before .before .before .before .before .before .before .before .before .before .before .before .before .before .field .ensures) _ (c .before .before .before .before .before .before .before .before .before .before .before .before .before .before .before .before .before .before .before .before .before .field2 .ensures) _ (c .before .before .before .before .before .before .before .before .before .before .before .before .before .before .before .before .before .before .before .before .before .before .before .before .before .before .from-probe .ensures) _ _ (c .before .before .before .before .before .before .before .before .before .before .before .before .before .before .before .before .before .before .before .before .before .before .before .before .consider .ensures) _ (c .before .before .before .before .before .before .before .before .before .before .before .before .before .before .before .before .before .before .before .from-probe2 .ensures) _ _ (c .before .before .before .before .before .before .before .before .before .before .before .before .before .before .before .before .before .consider2 .ensures) _ _ _ _ (metric (a .ask) (a .coordinates .now) (a .probe .now)) (p .roomy .some) _ (c .before .before .before .before .before .before .before .before .before .before .before .before .before .before .rank .ensures) _ (c .before .before .before .before .before .before .before .before .before .before .before .before .before .rank2 .ensures) _ _ (c .before .before .before .before .before .before .before .before .before .before .way-down .ensures) (c .before .before .before .before .before .before .before .before .side .ensures) (c .before .before .before .before .way-down2 .ensures) (c .before .before .side2 .ensures)
+node-returns-2 t c =
+    let three = c .before .before .before .before .before .before .before .before in
+    let two = three .before .before .before .before .before .before .before .before .before in
+    let one = two .before .before .before .before .before .before .before in
+    let start = one .before .before .before .before .before .before .before in
+    let a = start .args in
+    let p = start .pre .1 in
+    node-right-first (a .ask) (a .references .now) (a .nodes .now) (apartBy (a .ask) (a .coordinates .now))
+    (distBy (a .ask) (a .coordinates .now) (a .probe .now)) _ _ _ _ (one .before .before .before .field .ensures) _
+    (two .before .before .before .before .field2 .ensures) _ (one .before .before .from-probe .ensures) _ _ (one .consider .ensures) _
+    (two .before .before .from-probe2 .ensures) _ _ (two .consider2 .ensures) _ _ _ _ (metric (a .ask) (a .coordinates .now) (a .probe .now))
+    (p .roomy .some) _ (three .before .before .before .before .before .before .rank .ensures) _
+    (three .before .before .before .before .before .rank2 .ensures) _ _ (three .before .before .way-down .ensures) (three .side .ensures)
+    (c .before .before .before .before .way-down2 .ensures) (c .before .before .side2 .ensures)
 
 node-way-down-requires-3 : (t : ℕ) → node-lts.Need-way-down-requires-3 (node-calls t) (node-at t) node.Post
-node-way-down-requires-3 t c κs = way-ready _ _ _ _ _ _ _ _ (c .before .before .before .before .before .before .before .before .before .before .before .before .before .before .before .before .before .before .before .before .pre .1) 0 (lit< tt) _ _ (c .before .before .before .before .before .before .consider2 .kept .1 .1 .1 .1 .0 ∙ c .before .before .before .before .before .before .before .before .before .before .before .before .before .consider .kept .1 .1 .1 .1 .0) (c .before .before .before .before .before .before .consider2 .ensures .few)
+node-way-down-requires-3 t c κs =
+    let two = c .before .before .before .before .before .before in
+    let one = two .before .before .before .before .before .before .before in
+    let start = one .before .before .before .before .before .before .before in
+    way-ready _ _ _ _ _ _ _ _ (start .pre .1) 0 (lit< tt) _ _ (two .consider2 .kept .1 .1 .1 .1 .0 ∙ one .consider .kept .1 .1 .1 .1 .0) (two .consider2 .ensures .few)
 
 node-side-requires-3 : (t : ℕ) → node-lts.Need-side-requires-3 (node-calls t) (node-at t) node.Post
-node-side-requires-3 t c κs = let h = c .before .before .before .before .before .before .before .before .before .before .before .before .before .before .before .before .before .before .before .before .before .before .pre .0 in let q = side-falls _ _ _ _ _ _ _ _ (c .before .before .before .before .before .before .before .before .before .before .before .before .before .before .before .before .before .before .before .before .before .before .pre .1) 0 (lit< tt) _ _ _ _ _ (c .before .way-down3 .ensures) in (omega (arith, h, q), side-ready _ _ _ _ _ _ _ _ (c .before .before .before .before .before .before .before .before .before .before .before .before .before .before .before .before .before .before .before .before .before .before .pre .1) 0 (lit< tt) _ _ _ _ _ (c .before .way-down3 .ensures) (c .before .before .before .before .before .before .before .before .consider2 .kept .1 .1 .1 .1 .0 ∙ c .before .before .before .before .before .before .before .before .before .before .before .before .before .before .before .consider .kept .1 .1 .1 .1 .0) (c .before .before .before .before .before .before .before .before .consider2 .ensures .few))
+node-side-requires-3 t c κs =
+    let two = c .before .before .before .before .before .before .before .before in
+    let one = two .before .before .before .before .before .before .before in
+    let start = one .before .before .before .before .before .before .before in
+    let h = start .pre .0 in
+    let q = side-falls _ _ _ _ _ _ _ _ (start .pre .1) 0 (lit< tt) _ _ _ _ _ (c .before .way-down3 .ensures) in (
+      omega (arith, h, q),
+      side-ready _ _ _ _ _ _ _ _ (start .pre .1) 0 (lit< tt) _ _ _ _ _ (c .before .way-down3 .ensures)
+          (two .consider2 .kept .1 .1 .1 .1 .0 ∙ one .consider .kept .1 .1 .1 .1 .0) (two .consider2 .ensures .few),
+    )
 
 node-way-down-requires-4 : (t : ℕ) → node-lts.Need-way-down-requires-4 (node-calls t) (node-at t) node.Post
-node-way-down-requires-4 t c κs = way-ready _ _ _ _ _ _ _ _ (c .before .before .before .before .before .before .before .before .before .before .before .before .before .before .before .before .before .before .before .before .before .before .before .before .before .before .pre .1) 1 (lit< tt) _ _ (c .before .before .before .side3 .kept .1 .1 .1 .1 .1 .1 .0 ∙ c .before .before .before .before .before .before .before .before .before .before .before .before .consider2 .kept .1 .1 .1 .1 .0 ∙ c .before .before .before .before .before .before .before .before .before .before .before .before .before .before .before .before .before .before .before .consider .kept .1 .1 .1 .1 .0) (c .before .before .before .side3 .ensures .few)
+node-way-down-requires-4 t c κs =
+    let three = c .before .before .before in
+    let two = three .before .before .before .before .before .before .before .before .before in
+    let one = two .before .before .before .before .before .before .before in
+    let start = one .before .before .before .before .before .before .before in
+    way-ready _ _ _ _ _ _ _ _ (start .pre .1) 1 (lit< tt) _ _
+    (three .side3 .kept .1 .1 .1 .1 .1 .1 .0 ∙ two .consider2 .kept .1 .1 .1 .1 .0 ∙ one .consider .kept .1 .1 .1 .1 .0) (three .side3 .ensures .few)
 
 node-side-requires-4 : (t : ℕ) → node-lts.Need-side-requires-4 (node-calls t) (node-at t) node.Post
-node-side-requires-4 t c κs = let h = c .before .before .before .before .before .before .before .before .before .before .before .before .before .before .before .before .before .before .before .before .before .before .before .before .before .before .before .before .pre .0 in let q = side-falls _ _ _ _ _ _ _ _ (c .before .before .before .before .before .before .before .before .before .before .before .before .before .before .before .before .before .before .before .before .before .before .before .before .before .before .before .before .pre .1) 1 (lit< tt) _ _ _ _ _ (c .before .way-down4 .ensures) in (omega (arith, h, q), side-ready _ _ _ _ _ _ _ _ (c .before .before .before .before .before .before .before .before .before .before .before .before .before .before .before .before .before .before .before .before .before .before .before .before .before .before .before .before .pre .1) 1 (lit< tt) _ _ _ _ _ (c .before .way-down4 .ensures) (c .before .before .before .before .before .side3 .kept .1 .1 .1 .1 .1 .1 .0 ∙ c .before .before .before .before .before .before .before .before .before .before .before .before .before .before .consider2 .kept .1 .1 .1 .1 .0 ∙ c .before .before .before .before .before .before .before .before .before .before .before .before .before .before .before .before .before .before .before .before .before .consider .kept .1 .1 .1 .1 .0) (c .before .before .before .before .before .side3 .ensures .few))
+node-side-requires-4 t c κs =
+    let three = c .before .before .before .before .before in
+    let two = three .before .before .before .before .before .before .before .before .before in
+    let one = two .before .before .before .before .before .before .before in
+    let start = one .before .before .before .before .before .before .before in
+    let h = start .pre .0 in
+    let q = side-falls _ _ _ _ _ _ _ _ (start .pre .1) 1 (lit< tt) _ _ _ _ _ (c .before .way-down4 .ensures) in (
+      omega (arith, h, q),
+      side-ready _ _ _ _ _ _ _ _ (start .pre .1) 1 (lit< tt) _ _ _ _ _ (c .before .way-down4 .ensures)
+          (three .side3 .kept .1 .1 .1 .1 .1 .1 .0 ∙ two .consider2 .kept .1 .1 .1 .1 .0 ∙ one .consider .kept .1 .1 .1 .1 .0) (three .side3 .ensures .few),
+    )
 
 node-same-length-3 : (t : ℕ) → node-lts.Need-same-length-3 (node-calls t) (node-at t) node.Post
-node-same-length-3 t c = c .before .before .side4 .kept .1 .1 .1 .1 .1 .1 .0 ∙ c .before .before .before .before .before .before .before .before .side3 .kept .1 .1 .1 .1 .1 .1 .0 ∙ c .before .before .before .before .before .before .before .before .before .before .before .before .before .before .before .before .before .consider2 .kept .1 .1 .1 .1 .0 ∙ c .before .before .before .before .before .before .before .before .before .before .before .before .before .before .before .before .before .before .before .before .before .before .before .before .consider .kept .1 .1 .1 .1 .0
+node-same-length-3 t c =
+    let three = c .before .before .before .before .before .before .before .before in
+    let two = three .before .before .before .before .before .before .before .before .before in
+    let one = two .before .before .before .before .before .before .before in
+    c .before .before .side4 .kept .1 .1 .1 .1 .1 .1 .0 ∙ three .side3 .kept .1 .1 .1 .1 .1 .1 .0 ∙ two .consider2 .kept .1 .1 .1 .1 .0
+    ∙ one .consider .kept .1 .1 .1 .1 .0
 
 node-returns-3 : (t : ℕ) → node-lts.Need-returns-3 (node-calls t) (node-at t) node.Post
-node-returns-3 t c = let a = c .before .before .before .before .before .before .before .before .before .before .before .before .before .before .before .before .before .before .before .before .before .before .before .before .before .before .before .before .before .before .before .args in let p = c .before .before .before .before .before .before .before .before .before .before .before .before .before .before .before .before .before .before .before .before .before .before .before .before .before .before .before .before .before .before .before .pre .1 in node-left-first (a .ask) (a .references .now) (a .nodes .now) (apartBy (a .ask) (a .coordinates .now)) (distBy (a .ask) (a .coordinates .now) (a .probe .now)) _ _ _ _ (c .before .before .before .before .before .before .before .before .before .before .before .before .before .before .before .before .before .before .before .before .before .before .before .before .before .before .before .field .ensures) _ (c .before .before .before .before .before .before .before .before .before .before .before .before .before .before .before .before .before .before .before .before .before .field2 .ensures) _ (c .before .before .before .before .before .before .before .before .before .before .before .before .before .before .before .before .before .before .before .before .before .before .before .before .before .before .from-probe .ensures) _ _ (c .before .before .before .before .before .before .before .before .before .before .before .before .before .before .before .before .before .before .before .before .before .before .before .before .consider .ensures) _ (c .before .before .before .before .before .before .before .before .before .before .before .before .before .before .before .before .before .before .before .from-probe2 .ensures) _ _ (c .before .before .before .before .before .before .before .before .before .before .before .before .before .before .before .before .before .consider2 .ensures) _ _ _ _ (metric (a .ask) (a .coordinates .now) (a .probe .now)) (p .roomy .some) _ (c .before .before .before .before .before .before .before .before .before .before .before .before .before .before .rank .ensures) _ (c .before .before .before .before .before .before .before .before .before .before .before .before .before .rank2 .ensures) _ _ (c .before .before .before .before .before .before .before .before .before .before .way-down3 .ensures) (c .before .before .before .before .before .before .before .before .side3 .ensures) (c .before .before .before .before .way-down4 .ensures) (c .before .before .side4 .ensures)
+node-returns-3 t c =
+    let three = c .before .before .before .before .before .before .before .before in
+    let two = three .before .before .before .before .before .before .before .before .before in
+    let one = two .before .before .before .before .before .before .before in
+    let start = one .before .before .before .before .before .before .before in
+    let a = start .args in
+    let p = start .pre .1 in
+    node-left-first (a .ask) (a .references .now) (a .nodes .now) (apartBy (a .ask) (a .coordinates .now))
+    (distBy (a .ask) (a .coordinates .now) (a .probe .now)) _ _ _ _ (one .before .before .before .field .ensures) _
+    (two .before .before .before .before .field2 .ensures) _ (one .before .before .from-probe .ensures) _ _ (one .consider .ensures) _
+    (two .before .before .from-probe2 .ensures) _ _ (two .consider2 .ensures) _ _ _ _ (metric (a .ask) (a .coordinates .now) (a .probe .now))
+    (p .roomy .some) _ (three .before .before .before .before .before .before .rank .ensures) _
+    (three .before .before .before .before .before .rank2 .ensures) _ _ (three .before .before .way-down3 .ensures) (three .side3 .ensures)
+    (c .before .before .before .before .way-down4 .ensures) (c .before .before .side4 .ensures)
 
 side-returns : (t : ℕ) → side-lts.Need-returns (side-calls t) (side-at t) side.Post
-side-returns t c = let a = c .before .before .before .before .args in side-none (a .ask) (a .references .now) (a .nodes .now) (apartBy (a .ask) (a .coordinates .now)) (distBy (a .ask) (a .coordinates .now) (a .probe .now)) _ _ _ (c .before .before .before .before .pre .1 .roomy .few) (c .if1 .taken)
+side-returns t c =
+    let a = c .before .before .before .before .args in
+    side-none (a .ask) (a .references .now) (a .nodes .now) (apartBy (a .ask) (a .coordinates .now))
+    (distBy (a .ask) (a .coordinates .now) (a .probe .now)) _ _ _ (c .before .before .before .before .pre .1 .roomy .few) (c .if1 .taken)
 
 side-sub-m : (t : ℕ) → side-lts.Need-sub-m (side-calls t) (side-at t) side.Post
 side-sub-m t c = let h = c .if1 .left in omega arith
 
 side-node-requires : (t : ℕ) → side-lts.Need-node-requires (side-calls t) (side-at t) side.Post
-side-node-requires t c κs = let a = c .before .before .before .before .before .args in let p = c .before .before .before .before .before .pre .1 in let h = c .before .before .before .before .before .pre .0 in let q = node-falls (a .ask .used) (a .way) (c .before .if1 .left) in (omega (arith, h, q), record { walk = p .walk (c .before .if1 .left); lent = p .lent; roomy = p .roomy })
+side-node-requires t c κs =
+    let start = c .before .before .before .before .before in
+    let a = start .args in
+    let p = start .pre .1 in
+    let h = start .pre .0 in
+    let q = node-falls (a .ask .used) (a .way) (c .before .if1 .left) in
+    (omega (arith, h, q), record { walk = p .walk (c .before .if1 .left); lent = p .lent; roomy = p .roomy })
 
 side-same-length : (t : ℕ) → side-lts.Need-same-length (side-calls t) (side-at t) side.Post
 side-same-length t c = c .before .before .node .kept .1 .1 .1 .1 .1 .1 .0
 
 side-returns-2 : (t : ℕ) → side-lts.Need-returns-2 (side-calls t) (side-at t) side.Post
-side-returns-2 t c = let a = c .before .before .before .before .before .before .before .before .args in side-down (a .ask) (a .references .now) (a .nodes .now) (apartBy (a .ask) (a .coordinates .now)) (distBy (a .ask) (a .coordinates .now) (a .probe .now)) _ _ _ _ _ (c .before .before .node .ensures)
+side-returns-2 t c =
+    let start = c .before .before .before .before .before .before .before .before in
+    let a = start .args in
+    side-down (a .ask) (a .references .now) (a .nodes .now) (apartBy (a .ask) (a .coordinates .now))
+    (distBy (a .ask) (a .coordinates .now) (a .probe .now)) _ _ _ _ _ (c .before .before .node .ensures)
 
 pub +node+side-spec : {M : Type 1} → statement M
 +node+side-spec =
     close μ-node μ-side
     (λ t. node-lts.spec (node-calls t) (node-at t) node.Post
-    (node-field-requires t) (node-sub-kl t) (node-from-probe-requires t) (node-consider-requires t) (node-field-requires-2 t) (node-same-length t) (node-returns t) (node-sub-kr t) (node-from-probe-requires-2 t) (node-consider-requires-2 t) (node-rank-requires t) (node-rank-requires-2 t) (node-way-down-requires t) (node-side-requires t) (node-way-down-requires-2 t) (node-side-requires-2 t) (node-same-length-2 t) (node-returns-2 t) (node-way-down-requires-3 t) (node-side-requires-3 t) (node-way-down-requires-4 t) (node-side-requires-4 t) (node-same-length-3 t) (node-returns-3 t))
+    (node-field-requires t) (node-sub-kl t) (node-from-probe-requires t) (node-consider-requires t) (node-field-requires-2 t) (node-same-length t)
+    (node-returns t) (node-sub-kr t) (node-from-probe-requires-2 t) (node-consider-requires-2 t) (node-rank-requires t) (node-rank-requires-2 t)
+    (node-way-down-requires t) (node-side-requires t) (node-way-down-requires-2 t) (node-side-requires-2 t) (node-same-length-2 t) (node-returns-2 t)
+    (node-way-down-requires-3 t) (node-side-requires-3 t) (node-way-down-requires-4 t) (node-side-requires-4 t) (node-same-length-3 t)
+    (node-returns-3 t))
     (λ t. side-lts.spec (side-calls t) (side-at t) side.Post
     (side-returns t) (side-sub-m t) (side-node-requires t) (side-same-length t) (side-returns-2 t))

@@ -1,5 +1,5 @@
 -- `walk::walking::consider` meets its contract. Assumes nothing.
-use Rattle.walk.proofs.NodesAndSides.{consider-kept, consider-left}
+use Rattle.walk.proofs.Nodes.{consider-kept, consider-left}
 use borrow.Author.Needs.{needs}
 use Rattle.walk.proofs.walking.consider.Statement.{statement}
 use Rattle.walk.proofs.walking.consider.Tie as tie

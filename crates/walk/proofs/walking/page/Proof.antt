@@ -1,5 +1,5 @@
 -- `walk::walking::page` meets its contract. Assumes nothing.
-use Rattle.walk.proofs.NodesAndSides.{page-none, page-all}
+use Rattle.walk.proofs.Nodes.{page-none, page-all}
 use borrow.Author.Needs.{needs}
 use Rattle.walk.proofs.walking.page.Statement.{statement}
 use Rattle.walk.proofs.walking.page.Tie as tie

@@ -1,0 +1,149 @@
+-- What the tests of an answer say, and how long its frame is. No contract cites this file. Assumes nothing.
+use Prim.Native.Nat.{ℕ, _+_, _-_, _*_, _≤_}
+use native.Mathlib.Omega.{arith}
+use mathlib.Core.Path.{_≡_, refl, sym, ap, _∙_}
+use mathlib.Core.Bool.{true, _&&_}
+use mathlib.Core.List.{List, _++_}
+use lib.ListN.{length, drop, length-append}
+use lib.Seq.{drop-drop}
+use lib.Dec.{leb, eqb}
+use borrow.Author.Tests.{leb-true, eqb-true, eq-eqb}
+use Rattle.paper.specs.Frames.{be, num}
+use Rattle.paper.specs.Fields.{front, scopeIn, scopeOk, itemBytes, itemNumbers, itemSlots, numbersOk, referencesOk}
+use Rattle.paper.specs.Orders.{Query}
+use Rattle.paper.specs.Lines.{answerKind, headOk, behind, queryAt, queryFits, answerFrame, answerRanges, answerFits, countIn, answerOk, answerAt}
+use Rattle.paper.specs.declared.lines.Scope.{Scope}
+use Rattle.paper.specs.declared.orders.Order.{Order}
+use Rattle.paper.specs.declared.queries.Query as queries
+use Rattle.line_digits.proofs.LinesAndFrames.{and-both}
+use Rattle.line_digits.proofs.NumbersAndFrames.{Bytes, bytes-append, bytes-be, length-be}
+use Rattle.line_fields.specs.Fronts.{Begun}
+use Rattle.line_fields.proofs.PartLaws.{HeadOk, is-head, length-front, bytes-front}
+use Rattle.line_fields.proofs.ItemLaws.{length-items, bytes-items}
+use Rattle.line_fields.proofs.Round.{behind-eq}
+use Rattle.paper.specs.Limits.{mostPage}
+use Rattle.lines.proofs.QueryTests.{last-at, QueryFits, query-fits}
+
+-- ---- the frame
+
+pub length-answer : (q : Query) (p : Scope) (last n : ℕ) (ns : List ℕ) → length ns ≡ 3 * n
+    → length (answerFrame q p last n ns) ≡ 30 + 4 * length (q .probe) + 14 * n
+unfolding answerFrame
+length-answer q p last n ns e =
+    let l = length-items n ns e in
+    simp (length-append, length-front, length-be) (omega arith)
+
+pub bytes-answer : (q : Query) (p : Scope) (last n : ℕ) (ns : List ℕ) → Bytes (answerFrame q p last n ns)
+unfolding answerFrame
+bytes-answer q p last n ns =
+    bytes-append (front (answerKind (q .order)) q p) (be 1 last ++ (be 1 n ++ itemBytes ns)) (bytes-front (answerKind (q .order)) q p)
+    (bytes-append (be 1 last) (be 1 n ++ itemBytes ns) (bytes-be 1 last) (bytes-append (be 1 n) (itemBytes ns) (bytes-be 1 n) (bytes-items ns)))
+
+-- ---- what the tests say
+
+-- what the writer's test says
+pub record AnswerFits (q : Query) (p : Scope) (last n : ℕ) (ns : List ℕ) : Type 0 where
+  pub query : QueryFits q
+  pub rest : answerRanges p last n ≡ true
+  pub last-high : last ≤ 1
+  pub few : n ≤ mostPage
+  pub count : length ns ≡ 3 * n
+  pub references : referencesOk ns ≡ true
+  pub numbers : numbersOk ns ≡ true
+
+pub few-items : (p : Scope) (last n : ℕ) → answerRanges p last n ≡ true → (last ≤ 1) × (n ≤ mostPage)
+unfolding answerRanges
+few-items p last n e =
+    let a = and-both (scopeOk p) (leb last 1 && leb n mostPage) e in
+    let b = and-both (leb last 1) (leb n mostPage) (a .1) in
+    (leb-true last 1 (b .0), leb-true n mostPage (b .1))
+
+pub answer-fits : (q : Query) (p : Scope) (last n : ℕ) (ns : List ℕ) → answerFits q p last n ns ≡ true → AnswerFits q p last n ns
+unfolding answerFits
+answer-fits q p last n ns e =
+    let t5 = referencesOk ns && numbersOk ns in
+    let t4 = eqb (length ns) (3 * n) && t5 in
+    let a = and-both (queryFits q) (answerRanges p last n && t4) e in
+    let r = and-both (answerRanges p last n) t4 (a .1) in
+    let s = and-both (eqb (length ns) (3 * n)) t5 (r .1) in
+    let u = and-both (referencesOk ns) (numbersOk ns) (s .1) in
+    let w = few-items p last n (r .0) in
+    record {
+      query = query-fits q (a .0);
+      rest = r .0;
+      last-high = w .0;
+      few = w .1;
+      count = eqb-true (length ns) (3 * n) (s .0);
+      references = u .0;
+      numbers = u .1;
+    }
+
+-- what the reader's test says
+pub record AnswerOk (k : ℕ) (f : List ℕ) : Type 0 where
+  pub headed : HeadOk k f
+  pub size : length f ≡ 30 + 4 * num 1 (drop 6 f) + 14 * countIn f
+  pub rest : answerRanges (scopeIn (behind f)) (num 1 (drop 21 (behind f))) (countIn f) ≡ true
+  pub few : countIn f ≤ mostPage
+  pub numbers : numbersOk (itemNumbers (countIn f) (drop 23 (behind f))) ≡ true
+
+pub is-answer : (k : ℕ) (f : List ℕ) → answerOk k f ≡ true → AnswerOk k f
+unfolding answerOk
+is-answer k f e =
+    let numbers = numbersOk (itemNumbers (countIn f) (drop 23 (behind f))) in
+    let ranges = answerRanges (scopeIn (behind f)) (num 1 (drop 21 (behind f))) (countIn f) in
+    let size = eqb (length f) (30 + 4 * num 1 (drop 6 f) + 14 * countIn f) in
+    let p = and-both (headOk k f) (size && (ranges && numbers)) e in
+    let q = and-both size (ranges && numbers) (p .1) in
+    let r = and-both ranges numbers (q .1) in
+    record {
+      headed = is-head k f (p .0);
+      size = eqb-true (length f) (30 + 4 * num 1 (drop 6 f) + 14 * countIn f) (q .0);
+      rest = r .0;
+      few = few-items (scopeIn (behind f)) (num 1 (drop 21 (behind f))) (countIn f) (r .0) .1;
+      numbers = r .1;
+    }
+
+pub answer-begun : (k : ℕ) (f : List ℕ) → answerOk k f ≡ true → Begun f
+answer-begun k f e = let p = is-answer k f e in record { few = p .headed .range .narrow; long = omega arith }
+
+-- ---- where its parts stand
+
+-- where the item count stands
+pub count-at : (f : List ℕ) (at : ℕ) → at ≡ 28 + 4 * num 1 (drop 6 f) → countIn f ≡ num 1 (drop (at + 1) f)
+unfolding countIn behind
+count-at f at e =
+    let q : 7 + 4 * num 1 (drop 6 f) + 22 ≡ at + 1 = omega arith in
+    rw (drop-drop, q)
+
+-- where the items stand
+pub items-from : (f : List ℕ) (at : ℕ) → at ≡ 28 + 4 * num 1 (drop 6 f) → drop (at + 2) f ≡ drop 23 (behind f)
+unfolding behind
+items-from f at e = let q : at + 2 ≡ 7 + 4 * num 1 (drop 6 f) + 23 = omega arith in rw (drop-drop, q)
+
+-- ---- handed on
+
+-- the answer that a frame holds, from its parts
+pub answer-value : (o : Order) (f : List ℕ) (x : queries.Query) (p : Scope) (at last n : ℕ) (ns : List ℕ)
+    → x ≡ queryAt o f → at ≡ 28 + 4 * x .d → p ≡ scopeIn (drop (at - 21) f) → last ≡ num 1 (drop at f) → n ≡ num 1 (drop (at + 1) f)
+    → ns ≡ itemSlots n (itemNumbers n (drop (at + 2) f))
+    → record { query = x; scope = p; last = last; count = n; items = ns } ≡ answerAt o f
+unfolding answerAt
+answer-value o f x p at last n ns e q u v w z =
+    let h : at ≡ 28 + 4 * num 1 (drop 6 f) = q ∙ ap (λ (y : queries.Query). 28 + 4 * y .d) e ∙ (unfold queryAt in refl) in
+    let m : at - 21 ≡ 7 + 4 * num 1 (drop 6 f) = omega arith in
+    let b : drop (at - 21) f ≡ behind f = ap (λ (n : ℕ). drop n f) m ∙ sym (behind-eq f) in
+    let c : n ≡ countIn f = w ∙ sym (count-at f at h) in
+    rw (e, z, v, u, b, last-at f at h, items-from f at h, c)
+
+-- what is left to test where the head and the length are right
+pub answer-rule : (k : ℕ) (f : List ℕ) (at n : ℕ) → headOk k f ≡ true → at ≡ 28 + 4 * num 1 (drop 6 f) → n ≡ num 1 (drop (at + 1) f) → length f ≡ at + 2 + 14 * n
+    → answerOk k f ≡ answerRanges (scopeIn (drop (at - 21) f)) (num 1 (drop at f)) n && numbersOk (itemNumbers n (drop (at + 2) f))
+unfolding answerOk
+answer-rule k f at n h e c l =
+    let d = num 1 (drop 6 f) in
+    let q : countIn f ≡ n = count-at f at e ∙ sym c in
+    let e0 : 7 + 4 * d ≡ at - 21 = omega arith in
+    let e1 : at - 21 + 21 ≡ at = omega arith in
+    let e2 : at - 21 + 23 ≡ at + 2 = omega arith in
+    let e3 : length f ≡ 30 + 4 * d + 14 * n = omega arith in
+    rw (h, q, e3, eq-eqb (30 + 4 * d + 14 * n) (30 + 4 * d + 14 * n) refl, behind-eq f, e0, drop-drop 21 (at - 21) f, drop-drop 23 (at - 21) f, e1, e2)

@@ -1,0 +1,114 @@
+-- What the tests of an ask say, and how long its frame is. No contract cites this file. Assumes nothing.
+use Prim.Native.Nat.{ℕ, _+_, _*_, _≤_}
+use native.Mathlib.Omega.{arith}
+use mathlib.Core.Path.{_≡_, refl, sym, ap, _∙_}
+use mathlib.Core.Bool.{Bool, true, false, _&&_, _||_, not}
+use mathlib.Core.List.{List}
+use lib.ListN.{length, drop, length-append}
+use lib.Seq.{drop-drop}
+use lib.Dec.{leb, eqb}
+use borrow.Author.Tests.{leb-true, eqb-true, eq-eqb, ne-eqb, not-true, not-false}
+use Rattle.paper.specs.Frames.{be, num}
+use Rattle.paper.specs.Ends.{sizeHolds}
+use Rattle.paper.specs.Fields.{front, scopeIn, scopeOk}
+use Rattle.paper.specs.Orders.{Query}
+use Rattle.paper.specs.Lines.{askKind, askOrder, headOk, behind, queryAt, queryFits, askFrame, askRanges, askFits, askOk, isAsk, askAt}
+use Rattle.paper.specs.declared.lines.Scope.{Scope}
+use Rattle.paper.specs.declared.queries.Query as queries
+use Rattle.line_digits.proofs.LinesAndFrames.{and-false, and-both}
+use Rattle.line_digits.proofs.NumbersAndFrames.{Bytes, bytes-append, bytes-be, length-be}
+use Rattle.line_fields.specs.Fronts.{Begun}
+use Rattle.line_fields.proofs.PartLaws.{HeadOk, is-head, length-front, bytes-front}
+use Rattle.line_fields.proofs.Round.{behind-eq}
+use Rattle.paper.specs.Limits.{mostPage}
+use Rattle.lines.proofs.QueryTests.{QueryFits, query-fits}
+
+-- ---- the frame
+
+pub length-ask : (q : Query) (p : Scope) (s : ℕ) → length (askFrame q p s) ≡ 29 + 4 * length (q .probe)
+unfolding askFrame
+length-ask q p s = simp (length-append, length-front, length-be) (omega arith)
+
+pub bytes-ask : (q : Query) (p : Scope) (s : ℕ) → Bytes (askFrame q p s)
+unfolding askFrame
+bytes-ask q p s = bytes-append (front (askKind (q .order)) q p) (be 1 s) (bytes-front (askKind (q .order)) q p) (bytes-be 1 s)
+
+-- ---- what the tests say
+
+pub page-size : (p : Scope) (s : ℕ) → askRanges p s ≡ true → s ≤ mostPage
+unfolding askRanges
+page-size p s e =
+    let a = and-both (scopeOk p) ((eqb (p .from) 1 || eqb (p .snapshot) 0) && (leb 1 s && leb s mostPage)) e in
+    let b = and-both (eqb (p .from) 1 || eqb (p .snapshot) 0) (leb 1 s && leb s mostPage) (a .1) in
+    leb-true s mostPage (and-both (leb 1 s) (leb s mostPage) (b .1) .1)
+
+-- what the writer's test says
+pub record AskFits (q : Query) (p : Scope) (s : ℕ) : Type 0 where
+  pub query : QueryFits q
+  pub rest : askRanges p s ≡ true
+
+pub ask-fits : (q : Query) (p : Scope) (s : ℕ) → askFits q p s ≡ true → AskFits q p s
+unfolding askFits
+ask-fits q p s e = let a = and-both (queryFits q) (askRanges p s) e in record { query = query-fits q (a .0); rest = a .1 }
+
+-- what the reader's test says
+pub record AskOk (k : ℕ) (f : List ℕ) : Type 0 where
+  pub headed : HeadOk k f
+  pub size : length f ≡ 29 + 4 * num 1 (drop 6 f)
+  pub rest : askRanges (scopeIn (behind f)) (num 1 (drop 21 (behind f))) ≡ true
+
+pub is-ask : (k : ℕ) (f : List ℕ) → askOk k f ≡ true → AskOk k f
+unfolding askOk
+is-ask k f e =
+    let last = askRanges (scopeIn (behind f)) (num 1 (drop 21 (behind f))) in
+    let size = eqb (length f) (29 + 4 * num 1 (drop 6 f)) in
+    let p = and-both (headOk k f) (size && last) e in
+    let q = and-both size last (p .1) in
+    record { headed = is-head k f (p .0); size = eqb-true (length f) (29 + 4 * num 1 (drop 6 f)) (q .0); rest = q .1 }
+
+pub any-ask : (f : List ℕ) → isAsk f ≡ true → AskOk (askKind (askOrder (num 1 f))) f
+unfolding isAsk
+any-ask f e = is-ask (askKind (askOrder (num 1 f))) f e
+
+pub ask-begun : (k : ℕ) (f : List ℕ) → AskOk k f → Begun f
+ask-begun k f p = record { few = p .headed .range .narrow; long = omega arith }
+
+-- ---- what is to be tested
+
+and-true : (t : Bool) → t && true ≡ t
+and-true true = refl
+and-true false = refl
+
+-- the rules behind a scope that is in range, one after the other
+module _ (p : Scope) (s : ℕ) (e : scopeOk p ≡ true) where
+  module _ (b : Bool) (be : b ≡ sizeHolds s) where
+    pub page-out : not b ≡ true → askRanges p s ≡ false
+    unfolding askRanges
+    page-out h = rw (e, sym be ∙ not-true b h) (and-false (eqb (p .from) 1 || eqb (p .snapshot) 0))
+
+    module _ (h : not b ≡ false) where
+      pub placed : p .from ≡ 1 → askRanges p s ≡ true
+      unfolding askRanges
+      placed q = rw (e, sym be ∙ not-false b h, eq-eqb (p .from) 1 q)
+
+      pub unplaced : (p .from ≡ 1 → ⊥) → askRanges p s ≡ eqb (p .snapshot) 0
+      unfolding askRanges
+      unplaced q = rw (e, sym be ∙ not-false b h, ne-eqb (p .from) 1 q) (and-true (eqb (p .snapshot) 0))
+
+-- what is left to test where the head and the length are right
+pub ask-rule : (k : ℕ) (f : List ℕ) (d : ℕ) → headOk k f ≡ true → d ≡ num 1 (drop 6 f) → length f ≡ 29 + 4 * d
+    → askOk k f ≡ askRanges (scopeIn (drop (7 + 4 * d) f)) (num 1 (drop (7 + 4 * d + 21) f))
+unfolding askOk behind
+ask-rule k f d h e l = rw (h, ← e, l, eq-eqb (29 + 4 * d) (29 + 4 * d) refl, drop-drop)
+
+-- ---- handed on
+
+-- the ask that a frame holds, from its parts
+pub ask-value : (f : List ℕ) (x : queries.Query) (p : Scope) (at s : ℕ) → x ≡ queryAt (askOrder (num 1 f)) f → at ≡ 7 + 4 * x .d → p ≡ scopeIn (drop at f) → s ≡ num 1 (drop (at + 21) f)
+    → record { query = x; scope = p; size = s } ≡ askAt f
+unfolding askAt
+ask-value f x p at s e q u v =
+    let h : at ≡ 7 + 4 * num 1 (drop 6 f) = q ∙ ap (λ (y : queries.Query). 7 + 4 * y .d) e ∙ (unfold queryAt in refl) in
+    let b : drop at f ≡ behind f = ap (λ (n : ℕ). drop n f) h ∙ sym (behind-eq f) in
+    let c : drop (at + 21) f ≡ drop 21 (behind f) = sym (drop-drop 21 at f) ∙ ap (drop 21) b in
+    rw (e, u, v, b, c)
