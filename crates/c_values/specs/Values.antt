@@ -17,7 +17,7 @@ use Rattle.paper.specs.Orders.{markAt}
 use Rattle.paper.specs.Outcomes.{Outcome, Promise}
 use Rattle.paper.specs.Runs.{emptyTable}
 use Rattle.paper.specs.Fields.{flagOf}
-use Rattle.paper.specs.Lines.{wroteOf, putLine}
+use Rattle.paper.specs.Lines.{wroteShown, putLine}
 use Rattle.c_values.specs.declared.Tabled.{Tabled}
 use Rattle.c_values.specs.declared.Item.{Item}
 use Rattle.c_values.specs.declared.Start.{Start}
@@ -48,11 +48,11 @@ abbrev pub filledOut : Pages.Page → Filled
 filledOut (Pages.the-variants.Refused n) = record { refusal = n; last = 0; count = 0 }
 filledOut (Pages.the-variants.Filled p) = record { refusal = 0; last = flagOf (p .last); count = p .count }
 
-abbrev pub writtenOf : Wrote → Written
-writtenOf (Line n) = record { refusal = 0; length = n }
-writtenOf (Refused n) = record { refusal = n; length = 0 }
+abbrev pub writtenOut : Wrote → Written
+writtenOut (Line n) = record { refusal = 0; length = n }
+writtenOut (Refused n) = record { refusal = n; length = 0 }
 
 -- ---- what a call promises whose result is shown as numbers
 
 abbrev pub WritesOut : Outcome (List ℕ) → List ℕ → Written → List ℕ → Type 0
-WritesOut o before r after = Promise (λ u. writtenOf (wroteOf u)) putLine o before r after
+WritesOut o before r after = Promise (λ u. writtenOut (wroteShown u)) putLine o before r after

@@ -2,7 +2,7 @@
 // refused; where a case is not given its values are 0. A flag from C is off when it is 0 and on otherwise; a flag to C is 0 or 1.
 // This is a crate of its own so that wrong conversions are tried in seconds, apart from the exports.
 ghost use mathlib.Core.Path.{_≡_};
-ghost use Rattle.c_values.specs.Values.{noTable, madeOut, enteredOut, itemOut, filledOut, writtenOf, placeOf};
+ghost use Rattle.c_values.specs.Values.{noTable, madeOut, enteredOut, itemOut, filledOut, writtenOut, placeOf};
 use checks::flag;
 use paper::lines::Wrote;
 use paper::orders::Found;
@@ -153,7 +153,7 @@ pub fn page_of(p: Page) -> Filled
 }
 
 pub fn line_of(w: Wrote) -> Written
-    ensures { λ r. ⌜ r ≡ writtenOf w ⌝ }
+    ensures { λ r. ⌜ r ≡ writtenOut w ⌝ }
 {
     match w {
         Wrote::Line(n) => Written {

@@ -28,9 +28,9 @@ use Rattle.paper.proofs.Tests.{and-first, and-second}
 use Rattle.lines.proofs.WritersReaders.{writes-refused}
 use Rattle.lines.proofs.AskTests.{any-ask}
 use Rattle.paper.specs.Calls.{tableQuery}
-use Rattle.tree.proofs.Places.{claims-length}
+use Rattle.tree.proofs.PointsInMemory.{claims-length}
 use Rattle.end_office.specs.Desk.{Given, Answering, AskOurs, askIn, pageLine, pageReply}
-use Rattle.end_office.proofs.Telling.{own-query}
+use Rattle.end_office.proofs.PageLines.{own-query}
 use Rattle.paper.specs.Limits.{mostPage}
 
 -- ---- answer_here

@@ -1,2 +1,2 @@
-pub mod Telling
+pub mod PageLines
 pub mod AnswerToAsk

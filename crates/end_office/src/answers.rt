@@ -7,7 +7,7 @@ ghost use Rattle.paper.specs.Codec.{lines as Codec·lines};
 ghost use Rattle.paper.specs.Program.{replyTo};
 ghost use Rattle.paper.specs.Lines.{Writes};
 ghost use Rattle.end_office.specs.Desk.{Open, Answering, AskOurs, askIn, pageReply};
-use super::pages::tell_page;
+use super::pages::write_page;
 use checks::is_ours;
 use checks::place_of;
 use checks::snapshot_holds;
@@ -40,7 +40,7 @@ fn answer_here(
     if !walk::questions::mark_holds(t, coordinates, &probe[..d], q.reach, place) {
         return Wrote::Refused(8);
     }
-    tell_page(t, references, coordinates, nodes, q, p, size, out)
+    write_page(t, references, coordinates, nodes, q, p, size, out)
 }
 
 // [6.2] [8.11] Answers an ask that a reader gave.

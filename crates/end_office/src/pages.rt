@@ -1,4 +1,4 @@
-// The page that an ask wants, and the line that tells it.
+// The page that an ask wants, and its line.
 ghost use mathlib.Core.Path.{_≡_};
 ghost use Prim.Native.Nat.{_≤_};
 ghost use lib.ListN.{length};
@@ -33,7 +33,7 @@ fn answer_scope(p: Scope, count: u16) -> Scope
 }
 
 // [6.3] Finds the page and writes its line.
-pub fn tell_page(
+pub fn write_page(
     t: Table,
     references: &[u32],
     coordinates: &[i32],

@@ -74,8 +74,8 @@ fn to_present(l: List, room: &[u64], y: Answer) -> bool
     ensures { λ r. ⌜ r ≡ toPresent (listing (held l (now (room .entry)))) (answerMeant y) ⌝ }
 {
     let asked = l.query;
-    let told = y.query;
-    if !same_query(asked, told) {
+    let answered = y.query;
+    if !same_query(asked, answered) {
         return false;
     }
     let p = present(l, room);

@@ -18,7 +18,7 @@ use Rattle.paper.specs.Ends.{count, tableOf, every}
 use Rattle.paper.proofs.Outcomes.{must-go, must-stop}
 use Rattle.orders.proofs.Lists.{All, all-append, all-map, every-true, every-all}
 use Rattle.tree.specs.Soundness.{Good, Roomy}
-use Rattle.tree.proofs.Places.{claims-length}
+use Rattle.tree.proofs.PointsInMemory.{claims-length}
 use Rattle.tree.proofs.TestedTables.{fits-fit, fit-fits, sound-good, good-sound}
 use Rattle.tree.proofs.Adding.{in-run, HeaderKept, run-claims, run-kept}
 use Rattle.tree.proofs.ClaimsInMemory.{point-length}

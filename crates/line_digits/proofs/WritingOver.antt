@@ -6,7 +6,7 @@ use mathlib.Core.List.{List, [], _∷_, _++_, append-assoc}
 use lib.ListN.{length, take, drop, set, length-append, length-take, take-append-drop}
 use lib.Seq.{take-at, drop-at, drop-drop, take-set-le}
 use Rattle.paper.specs.Frames.{glyph, hexes}
-use Rattle.line_digits.specs.Places.{overlaid}
+use Rattle.line_digits.specs.FrameBytes.{overlaid}
 use Rattle.line_digits.proofs.LinesAndFrames.{length-hexes, hexes-append}
 
 -- ---- what stands before and behind

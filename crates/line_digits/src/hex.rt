@@ -6,7 +6,7 @@ ghost use lib.ListN.{length, drop};
 ghost use Rattle.paper.specs.Frames.{isLine, frameOf};
 ghost use Rattle.paper.specs.Frames.{glyph as Frames·glyph, digit as Frames·digit};
 ghost use Rattle.paper.specs.Limits.{longestFrame};
-ghost use Rattle.line_digits.specs.Places.{Framed};
+ghost use Rattle.line_digits.specs.FrameBytes.{Framed};
 use paper::limits::LONGEST_ANSWER;
 
 // [5.1] The digit of a number below 16.

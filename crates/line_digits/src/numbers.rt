@@ -5,7 +5,7 @@ ghost use lib.ListN.{length};
 ghost use mir.Syntax.{w32};
 ghost use mir.Val.{ofZ, toZ};
 ghost use Rattle.paper.specs.Frames.{be};
-ghost use Rattle.line_digits.specs.Places.{overlaid, frameIn, Field};
+ghost use Rattle.line_digits.specs.FrameBytes.{overlaid, frameIn, Field};
 use crate::hex::glyph;
 
 // [5.2] Writes n in w bytes, as digits, at byte `at` of the line that `out` holds.

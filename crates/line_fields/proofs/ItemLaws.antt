@@ -10,7 +10,7 @@ use lib.Dec.{ltb, leb}
 use borrow.Author.Tests.{ltb-true, leb-true, le-leb, lt-leb, lt-ltb, le-ltb}
 use lib.Seq.{drop-cons, drop-drop}
 use Rattle.paper.specs.Frames.{be, num}
-use Rattle.line_digits.specs.Places.{overlaid}
+use Rattle.line_digits.specs.FrameBytes.{overlaid}
 use Rattle.line_digits.proofs.LinesAndFrames.{and-false, and-both}
 use Rattle.line_digits.proofs.NumbersAndFrames.{num-lt, Bytes, bytes-append, bytes-be, bytes-drop, length-be, field-read, field-back}
 use Rattle.paper.specs.Fields.{itemFrame, itemBytes, itemNumbers, numbersOk, referencesOk}

@@ -13,7 +13,7 @@ use lib.IntN.{ℤ, pos}
 use mir.Syntax.{w32}
 use mir.Val.{ofZ, toZ}
 use Rattle.paper.specs.Frames.{be, num}
-use Rattle.line_digits.specs.Places.{overlaid}
+use Rattle.line_digits.specs.FrameBytes.{overlaid}
 use Rattle.line_digits.proofs.NumbersAndFrames.{Bytes, bytes-append, bytes-be, length-be}
 use Rattle.line_digits.proofs.WritingOver.{over-append}
 use Rattle.line_digits.proofs.LinesAndFrames.{and-both}

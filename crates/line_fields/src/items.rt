@@ -5,7 +5,7 @@ ghost use Prim.Native.Nat.{_+_, _*_, _≤_};
 ghost use lib.ListN.{length, drop};
 ghost use lib.Dec.{eqb};
 ghost use Rattle.paper.specs.Fields.{itemFrame, itemBytes, itemNumbers, itemSlots, numbersOk, referencesOk};
-ghost use Rattle.line_digits.specs.Places.{frameIn, overlaid};
+ghost use Rattle.line_digits.specs.FrameBytes.{frameIn, overlaid};
 ghost use Rattle.paper.specs.Limits.{mostPage};
 use paper::limits::ITEM_ROOM;
 use paper::limits::MOST_NUMBER;

@@ -7,7 +7,7 @@ ghost use Rattle.paper.specs.Fields.{head, coordBytes, coordsIn, inSlots, scope
 ghost use Rattle.paper.specs.Fields.{front as Fields·front};
 ghost use Rattle.paper.specs.Orders.{queryIn};
 ghost use Rattle.paper.specs.Lines.{headOk};
-ghost use Rattle.line_digits.specs.Places.{frameIn, overlaid};
+ghost use Rattle.line_digits.specs.FrameBytes.{frameIn, overlaid};
 ghost use Rattle.paper.specs.Limits.{mostCoordinates};
 use checks::in_range;
 use paper::limits::MOST_COORDINATES;

@@ -5,7 +5,7 @@ ghost use lib.ListN.{length};
 ghost use Rattle.paper.specs.Fields.{inSlots, queryInSlots};
 ghost use Rattle.paper.specs.Orders.{queryIn};
 ghost use Rattle.paper.specs.Lines.{queryAt, queryFits};
-ghost use Rattle.line_digits.specs.Places.{frameIn};
+ghost use Rattle.line_digits.specs.FrameBytes.{frameIn};
 ghost use Rattle.line_fields.specs.Fronts.{Begun};
 ghost use Rattle.paper.specs.Limits.{mostCoordinates};
 use super::parts::coords_at;

@@ -10,10 +10,10 @@ use lib.Dec.{leb}
 use borrow.Author.Tests.{le-leb, lt-leb}
 use Rattle.paper.specs.Frames.{hexes, lineOf, frameOf, isLine, written}
 use Rattle.paper.specs.Outcomes.{Outcome, refused, gives}
-use Rattle.paper.specs.Lines.{wroteOf, putLine, Writes, bareLine, reading}
+use Rattle.paper.specs.Lines.{wroteShown, putLine, Writes, bareLine, reading}
 use Rattle.paper.proofs.Outcomes.{must-go, must-stop, promise-refused, promise-given}
 use Rattle.paper.specs.declared.lines.Wrote.the-variants.{Line, Refused}
-use Rattle.line_digits.specs.Places.{overlaid, frameIn, Framed}
+use Rattle.line_digits.specs.FrameBytes.{overlaid, frameIn, Framed}
 use Rattle.line_digits.proofs.WritingOver.{over-eq}
 use Rattle.line_digits.proofs.LinesAndFrames.{length-hexes, length-line}
 
@@ -35,14 +35,14 @@ finish o f n e h =
 
 -- a refusal, whatever call gives it
 pub writes-refused : (o : Outcome (List ℕ)) (n : ℕ) (before : List ℕ) → o ≡ refused n → Writes o before (Refused n) before
-unfolding wroteOf
-writes-refused o n before e = promise-refused wroteOf putLine o before n (Refused n) e refl
+unfolding wroteShown
+writes-refused o n before e = promise-refused wroteShown putLine o before n (Refused n) e refl
 
 -- a line that was written
 pub writes-line : (o : Outcome (List ℕ)) (line : List ℕ) (n : ℕ) (before after : List ℕ) → o ≡ gives line → n ≡ length line
     → after ≡ putLine line before → Writes o before (Line n) after
-unfolding wroteOf
-writes-line o line n before after e q m = promise-given wroteOf putLine o before line (Line n) after e (ap Line q) m
+unfolding wroteShown
+writes-line o line n before after e q m = promise-given wroteShown putLine o before line (Line n) after e (ap Line q) m
 
 module _ (b : Bool) (need : ℕ) (f o : List ℕ) where
   pub wrote-line : (r : ℕ) (x : List ℕ) → b ≡ true → need ≤ length o → r ≡ length (lineOf f) → x ≡ written f o

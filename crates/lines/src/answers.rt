@@ -8,7 +8,7 @@ ghost use Rattle.paper.specs.Frames.{be, num, lineOf, written};
 ghost use Rattle.paper.specs.Fields.{scopeIn, itemBytes, itemNumbers, numbersOk};
 ghost use Rattle.paper.specs.Orders.{queryIn};
 ghost use Rattle.paper.specs.Lines.{Writes, bareLine, answerFrame, answerRanges, answerFits, answerOk, answerAt, noAnswer, readAsAnswer};
-ghost use Rattle.line_digits.specs.Places.{frameIn, overlaid};
+ghost use Rattle.line_digits.specs.FrameBytes.{frameIn, overlaid};
 ghost use Rattle.lines.specs.Kinds.{IsAnswer};
 ghost use Rattle.paper.specs.Limits.{longestAnswer, mostPage, mostCoordinates};
 use checks::answer_kind;

@@ -6,7 +6,7 @@ ghost use lib.ListN.{length};
 ghost use Rattle.paper.specs.Frames.{lineOf, written};
 ghost use Rattle.paper.specs.Lines.{Writes, bareLine, askFrame, askRanges, askFits, askOk, isAsk, askAt, noAsk, readAsAsk};
 ghost use Rattle.paper.specs.Orders.{queryIn};
-ghost use Rattle.line_digits.specs.Places.{frameIn};
+ghost use Rattle.line_digits.specs.FrameBytes.{frameIn};
 ghost use Rattle.paper.specs.Limits.{longestAsk, mostCoordinates};
 use checks::ask_kind;
 use checks::ask_order;

@@ -5,7 +5,7 @@ ghost use Prim.Native.Nat.{_≤_};
 ghost use lib.ListN.{length};
 ghost use Rattle.paper.specs.Frames.{lineOf, written};
 ghost use Rattle.paper.specs.Lines.{Writes, bareLine, claimFrame, claimFits, claimOk, claimAt, noClaim, readAsClaim};
-ghost use Rattle.line_digits.specs.Places.{frameIn};
+ghost use Rattle.line_digits.specs.FrameBytes.{frameIn};
 ghost use Rattle.paper.specs.Limits.{longestClaim, mostCoordinates};
 use checks::in_range;
 use paper::limits::LONGEST_CLAIM;

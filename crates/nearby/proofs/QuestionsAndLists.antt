@@ -11,7 +11,7 @@ use Rattle.paper.specs.declared.lines.Wrote.{Wrote}
 use Rattle.paper.specs.declared.lines.Wrote.the-variants.{Refused}
 use Rattle.paper.specs.declared.orders.Found as answers
 use Rattle.paper.specs.declared.orders.Nearest as Answers
-use Rattle.paper.specs.Orders.{Found, told, foundShown}
+use Rattle.paper.specs.Orders.{Found, foundIn, foundShown}
 use Rattle.paper.specs.Outcomes.{Outcome, refused, gives, must}
 use Rattle.paper.specs.Tree.{Store}
 use Rattle.paper.specs.Ends.{tableOf, lineAnswered, soundIn, asking, taking}
@@ -29,8 +29,8 @@ use Rattle.paper.specs.Limits.{longestAnswer}
 -- ---- [9.7] nearest and farthest
 
 -- what the walk found, as the call shows it
-pub found-shown : (f : answers.Found) (x : Found) → told f ≡ x → f ≡ foundShown x
-unfolding told foundShown
+pub found-shown : (f : answers.Found) (x : Found) → foundIn f ≡ x → f ≡ foundShown x
+unfolding foundIn foundShown
 found-shown answers.the-variants.Nothing x e = ap foundShown e
 found-shown (answers.the-variants.Item k y d) x e = ap foundShown e
 
@@ -43,7 +43,7 @@ module _ (s : Store) (probe : List ℤ) (n : ℕ) (we : n ≡ tableRefusal s) wh
       pub ask-5 : (length probe ≡ s .table .d → ⊥) → Answers.the-variants.Refused 5 ≡ nearestShown (aimed s probe (gives x))
       ask-5 h = sym (ap nearestShown (aim-stops s probe n we ok (gives x) h))
 
-      pub ask-answered : length probe ≡ s .table .d → (f : answers.Found) → told f ≡ x
+      pub ask-answered : length probe ≡ s .table .d → (f : answers.Found) → foundIn f ≡ x
           → Answers.the-variants.Answer f ≡ nearestShown (aimed s probe (gives x))
       ask-answered h f e = ap Answers.the-variants.Answer (found-shown f x e) ∙ sym (ap nearestShown (aim-goes s probe n we ok (gives x) h))
 

@@ -13,7 +13,7 @@ use Rattle.paper.specs.Tree.{Store}
 use Rattle.nearby_batch.specs.Batch.{Batch, batchStart, lengthGiven, stepBy, step, goes, batchAnswered, alone, lineGiven, answersOf, rowsOf, LineAsAlone}
 use Rattle.nearby_batch.proofs.Cutting.{cut-on}
 use Rattle.nearby_batch.proofs.Steps.{goes-room-for}
-use Rattle.nearby_batch.proofs.BatchSoFar.{said-size, rows-long, out-is, outcomes-is}
+use Rattle.nearby_batch.proofs.BatchSoFar.{given-size, rows-long, out-is, outcomes-is}
 
 -- ---- each line
 
@@ -69,7 +69,7 @@ module _ (s : Store) (asks : List ℕ) where
     line-in =
         let p = parts (Done .lines) k h in
         line-of (answersOf k s asks) (lineGiven (alone s asks k)) (p .rest) (drop (length (answersOf (Done .lines) s asks)) out) (Done .out) (lengthGiven (alone s asks k))
-        (out-is s asks outcomes out f ∙ ap (λ (l : List ℕ). l ++ drop (length (answersOf (Done .lines) s asks)) out) (p .is)) (said-size (alone s asks k))
+        (out-is s asks outcomes out f ∙ ap (λ (l : List ℕ). l ++ drop (length (answersOf (Done .lines) s asks)) out) (p .is)) (given-size (alone s asks k))
 
     pub each-line-as-alone : LineAsAlone s asks Done k
     each-line-as-alone =

@@ -25,7 +25,7 @@ use Rattle.lines.proofs.AnswerTests.{length-answer}
 use Rattle.end_office.proofs.AnswerToAsk.{ask-given}
 use Rattle.nearby_batch.specs.Batch.{Batch, batchStart, lengthGiven, goes, batchAnswered, startAt, nthLine, alone, lineGiven, answersOf, rowsOf, batchAt}
 use Rattle.nearby_batch.proofs.Cutting.{cut-short}
-use Rattle.nearby_batch.proofs.BatchSoFar.{said-size, rows-long, batch-is}
+use Rattle.nearby_batch.proofs.BatchSoFar.{given-size, rows-long, batch-is}
 use Rattle.nearby_batch.proofs.Alone.{stops-for-want}
 use Rattle.paper.specs.Limits.{longestAnswer, mostPage}
 
@@ -84,7 +84,7 @@ module _ (s : Store) (asks : List ℕ) where
   answers-short (suc n) =
       let h = answers-short n in
       let m = length-append (answersOf n s asks) (lineGiven (alone s asks n)) in
-      omega (arith, m, said-size (alone s asks n), office-short s longestAnswer (nthLine n asks))
+      omega (arith, m, given-size (alone s asks n), office-short s longestAnswer (nthLine n asks))
 
 start-inside : (asks : List ℕ) (n : ℕ) → startAt n asks ≤ length asks
 unfolding startAt

@@ -25,10 +25,10 @@ pub office-any-room : (s : Store) (room : ℕ) (line : List ℕ) → longestAnsw
 unfolding officeCall
 office-any-room s room line h = must-go (leb longestAnswer room) 12 _ (le-leb longestAnswer room h)
 
-pub said-size : (o : Outcome (List ℕ)) → length (lineGiven o) ≡ lengthGiven o
+pub given-size : (o : Outcome (List ℕ)) → length (lineGiven o) ≡ lengthGiven o
 unfolding lineGiven lengthGiven
-said-size (refused n) = refl
-said-size (gives line) = refl
+given-size (refused n) = refl
+given-size (gives line) = refl
 
 room-is : (o : Outcome (List ℕ)) (room : List ℕ) → leaves putLine o room ≡ lineGiven o ++ drop (length (lineGiven o)) room
 unfolding lineGiven
@@ -55,8 +55,8 @@ module _ (s : Store) (asks : List ℕ) where
       abbrev Rows : List ℕ
       Rows = rowsOf n s asks
 
-      abbrev Said : List ℕ
-      Said = answersOf n s asks
+      abbrev Given : List ℕ
+      Given = answersOf n s asks
 
       rows-left : 2 ≤ length (drop (2 * n) outcomes)
       unfolding batchAt
@@ -64,18 +64,18 @@ module _ (s : Store) (asks : List ℕ) where
           let h = goes-room-for asks (batchAt n s asks outcomes out) e .row in
           omega (arith, h, length-append Rows (drop (2 * n) outcomes), rows-long n)
 
-      behind-said : drop (length Said) (Said ++ drop (length Said) out) ≡ drop (length Said) out
-      behind-said = drop-at Said (drop (length Said) out) (length Said) refl
+      behind-given : drop (length Given) (Given ++ drop (length Given) out) ≡ drop (length Given) out
+      behind-given = drop-at Given (drop (length Given) out) (length Given) refl
 
-      room-left : longestAnswer ≤ length (drop (length Said) (Said ++ drop (length Said) out))
+      room-left : longestAnswer ≤ length (drop (length Given) (Given ++ drop (length Given) out))
       unfolding batchAt
       room-left =
           let h = goes-room-for asks (batchAt n s asks outcomes out) e .room in
-          omega (arith, h, length-drop (length Said) (Said ++ drop (length Said) out))
+          omega (arith, h, length-drop (length Given) (Given ++ drop (length Given) out))
 
       pub answer-as-alone : answerNow s asks (batchAt n s asks outcomes out) ≡ alone s asks n
       unfolding answerNow alone nthLine batchAt
-      answer-as-alone = office-any-room s (length (drop (length Said) (Said ++ drop (length Said) out))) (lineAt asks (startAt n asks)) room-left
+      answer-as-alone = office-any-room s (length (drop (length Given) (Given ++ drop (length Given) out))) (lineAt asks (startAt n asks)) room-left
 
       row-at : (x y : ℕ) → rowPut (Rows ++ drop (2 * n) outcomes) n x y ≡ (Rows ++ (x ∷ y ∷ [])) ++ drop (2 * suc n) outcomes
       unfolding rowPut
@@ -88,18 +88,18 @@ module _ (s : Store) (asks : List ℕ) where
           ∙ ap (λ (l : List ℕ). (Rows ++ (x ∷ y ∷ [])) ++ l) (drop-drop 2 (2 * n) outcomes ∙ ap (λ (i : ℕ). drop i outcomes) q)
 
       out-at : (o : Outcome (List ℕ))
-          → take (length Said) (Said ++ drop (length Said) out) ++ leaves putLine o (drop (length Said) (Said ++ drop (length Said) out))
-          ≡ (Said ++ lineGiven o) ++ drop (length (Said ++ lineGiven o)) out
+          → take (length Given) (Given ++ drop (length Given) out) ++ leaves putLine o (drop (length Given) (Given ++ drop (length Given) out))
+          ≡ (Given ++ lineGiven o) ++ drop (length (Given ++ lineGiven o)) out
       out-at o =
-          rw (take-at Said (drop (length Said) out) (length Said) refl, behind-said, room-is o (drop (length Said) out), drop-drop (length (lineGiven o)) (length Said) out, length-append Said (lineGiven o))
-          (sym (append-assoc Said (lineGiven o) (drop (length Said + length (lineGiven o)) out)))
+          rw (take-at Given (drop (length Given) out) (length Given) refl, behind-given, room-is o (drop (length Given) out), drop-drop (length (lineGiven o)) (length Given) out, length-append Given (lineGiven o))
+          (sym (append-assoc Given (lineGiven o) (drop (length Given + length (lineGiven o)) out)))
 
       step-by : (o : Outcome (List ℕ)) → o ≡ alone s asks n → stepBy o asks (batchAt n s asks outcomes out) ≡ batchAt (suc n) s asks outcomes out
       unfolding stepBy batchAt startAt answersOf rowsOf
       step-by o q =
           rw q
           (same-batch (add-one n) refl
-          (sym (length-append Said (lineGiven (alone s asks n)) ∙ ap (λ (i : ℕ). length Said + i) (said-size (alone s asks n))))
+          (sym (length-append Given (lineGiven (alone s asks n)) ∙ ap (λ (i : ℕ). length Given + i) (given-size (alone s asks n))))
           (row-at (number (alone s asks n)) (lengthGiven (alone s asks n))) (out-at (alone s asks n)))
 
       pub step-is : step s asks (batchAt n s asks outcomes out) ≡ batchAt (suc n) s asks outcomes out

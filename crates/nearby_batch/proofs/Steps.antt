@@ -15,12 +15,12 @@ use Rattle.paper.specs.Tree.{Store}
 use Rattle.paper.specs.Ends.{tableOf, lineAnswered}
 use Rattle.paper.specs.Codec.{lines}
 use Rattle.paper.proofs.Tests.{and-first, and-second}
-use Rattle.paper.specs.Lines.{wroteOf, putLine, Writes}
+use Rattle.paper.specs.Lines.{wroteShown, putLine, Writes}
 use Rattle.end_office.specs.Desk.{Open}
 use Rattle.nearby.proofs.QuestionsAndLists.{office-open, office-answers}
 use Rattle.nearby_batch.specs.declared.Answered.{Answered}
-use Rattle.nearby_batch.specs.declared.outcomes.Said.{Said}
-use Rattle.nearby_batch.specs.Batch.{cutAt, lineAt, Batch, answerNow, lengthGiven, rowPut, stepBy, step, goes, batchOf, BatchStands, LineLeft, saidBy}
+use Rattle.nearby_batch.specs.declared.outcomes.LineRow.{LineRow}
+use Rattle.nearby_batch.specs.Batch.{cutAt, lineAt, Batch, answerNow, lengthGiven, rowPut, stepBy, step, goes, batchOf, BatchStands, LineLeft, rowShown}
 use Rattle.nearby_batch.proofs.Cutting.{cut-inside}
 use Rattle.paper.specs.Limits.{longestAnswer}
 
@@ -73,22 +73,22 @@ pub goes-is : (asks : List ℕ) (b : Batch) (r x : Bool)
 unfolding goes
 goes-is asks b r x e h = sym e ∙ h
 
--- ---- what was said to a line
+-- ---- what was row to a line
 
-said-refusal : (o : Outcome (List ℕ)) → saidBy (wroteOf o) .refusal ≡ number o
-unfolding saidBy wroteOf
-said-refusal (refused n) = refl
-said-refusal (gives line) = refl
+given-refusal : (o : Outcome (List ℕ)) → rowShown (wroteShown o) .refusal ≡ number o
+unfolding rowShown wroteShown
+given-refusal (refused n) = refl
+given-refusal (gives line) = refl
 
-said-length : (o : Outcome (List ℕ)) → saidBy (wroteOf o) .length ≡ lengthGiven o
-unfolding saidBy wroteOf lengthGiven
-said-length (refused n) = refl
-said-length (gives line) = refl
+given-length : (o : Outcome (List ℕ)) → rowShown (wroteShown o) .length ≡ lengthGiven o
+unfolding rowShown wroteShown lengthGiven
+given-length (refused n) = refl
+given-length (gives line) = refl
 
-said-fits : (o : Outcome (List ℕ)) (room part : List ℕ) → part ≡ leaves putLine o room → length part ≡ length room → lengthGiven o ≤ length room
+given-fits : (o : Outcome (List ℕ)) (room part : List ℕ) → part ≡ leaves putLine o room → length part ≡ length room → lengthGiven o ≤ length room
 unfolding lengthGiven
-said-fits (refused n) room part e k = omega arith
-said-fits (gives line) room part e k =
+given-fits (refused n) room part e k = omega arith
+given-fits (gives line) room part e k =
     let m = ap length e ∙ length-append line (drop (length line) room) in
     omega (arith, m, k)
 
@@ -118,8 +118,8 @@ module _ (s : Store) (asks : List ℕ) (d : Answered) (outcomes out : List ℕ) 
 
       module _ (w : Wrote) (part : List ℕ)
           (says : Writes (lineAnswered lines (tableOf s) (take (e - d .used) (drop (d .used) asks))) (take k (drop (d .written) out)) w part) where
-        abbrev said-now : Outcome (List ℕ)
-        said-now = answerNow s asks (batchOf d outcomes out)
+        abbrev given-now : Outcome (List ℕ)
+        given-now = answerNow s asks (batchOf d outcomes out)
 
         line-is : take (e - d .used) (drop (d .used) asks) ≡ lineAt asks (d .used)
         unfolding lineAt
@@ -127,26 +127,26 @@ module _ (s : Store) (asks : List ℕ) (d : Answered) (outcomes out : List ℕ) 
             let q : e - d .used ≡ cutAt (drop (d .used) asks) = omega arith in
             ap (λ (n : ℕ). take n (drop (d .used) asks)) q
 
-        as-alone : Writes said-now (drop (d .written) out) w part
+        as-alone : Writes given-now (drop (d .written) out) w part
         unfolding answerNow
         as-alone =
             let x = office-answers s (take k (drop (d .written) out)) (take (e - d .used) (drop (d .used) asks)) long 0 (t .sound) refl w part says in
             rw (lent, line-is) at x
 
-        module _ (said : Said) (is : said ≡ saidBy w) where
-          length-is : said .length ≡ lengthGiven said-now
-          length-is = ap (λ (x : Said). x .length) is ∙ ap (λ (x : Wrote). saidBy x .length) (as-alone .result) ∙ said-length said-now
+        module _ (row : LineRow) (is : row ≡ rowShown w) where
+          length-is : row .length ≡ lengthGiven given-now
+          length-is = ap (λ (x : LineRow). x .length) is ∙ ap (λ (x : Wrote). rowShown x .length) (as-alone .result) ∙ given-length given-now
 
-          refusal-is : said .refusal ≡ number said-now
-          refusal-is = ap (λ (x : Said). x .refusal) is ∙ ap (λ (x : Wrote). saidBy x .refusal) (as-alone .result) ∙ said-refusal said-now
+          refusal-is : row .refusal ≡ number given-now
+          refusal-is = ap (λ (x : LineRow). x .refusal) is ∙ ap (λ (x : Wrote). rowShown x .refusal) (as-alone .result) ∙ given-refusal given-now
 
-          pub said-inside : length part ≡ length (take k (drop (d .written) out)) → d .written + said .length ≤ length out
-          said-inside kept =
-              let f = said-fits said-now (drop (d .written) out) part (as-alone .memory) (kept ∙ ap length lent) in
+          pub given-inside : length part ≡ length (take k (drop (d .written) out)) → d .written + row .length ≤ length out
+          given-inside kept =
+              let f = given-fits given-now (drop (d .written) out) part (as-alone .memory) (kept ∙ ap length lent) in
               omega (arith, length-is, length-drop (d .written) out, has .room)
 
-          pub next-stands : (outcomes' : List ℕ) → outcomes' ≡ rowPut outcomes (d .lines) (said .refusal) (said .length)
-              → BatchStands (step s asks (batchOf d outcomes out)) (record { refusal = 0; lines = d .lines + 1; used = e; written = d .written + said .length })
+          pub next-stands : (outcomes' : List ℕ) → outcomes' ≡ rowPut outcomes (d .lines) (row .refusal) (row .length)
+              → BatchStands (step s asks (batchOf d outcomes out)) (record { refusal = 0; lines = d .lines + 1; used = e; written = d .written + row .length })
               outcomes' (take (d .written) out ++ (part ++ drop k (drop (d .written) out)))
           unfolding step stepBy
           next-stands outcomes' put =

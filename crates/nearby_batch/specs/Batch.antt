@@ -13,7 +13,7 @@ use Rattle.paper.specs.Ends.{answerRoom}
 use Rattle.paper.specs.Lines.{putLine}
 use Rattle.paper.specs.Calls.{onTable, tableRefusal, officeCall}
 use Rattle.nearby_batch.specs.declared.Answered.{Answered}
-use Rattle.nearby_batch.specs.declared.outcomes.Said.{Said}
+use Rattle.nearby_batch.specs.declared.outcomes.LineRow.{LineRow}
 use Rattle.paper.specs.Limits.{longestAnswer}
 
 -- [6.5] how long the first line of a buffer is: up to and with its first 0A, or all that there is
@@ -161,6 +161,6 @@ pub record LineLeft (s : Store) (asks : List ℕ) (b : Batch) : Type 0 where
   pub sound : 0 ≡ tableRefusal s
   pub more : goes asks b ≡ true
 
-unfoldable pub saidBy : Wrote → Said
-saidBy (Refused n) = record { refusal = n; length = 0 }
-saidBy (Line n) = record { refusal = 0; length = n }
+unfoldable pub rowShown : Wrote → LineRow
+rowShown (Refused n) = record { refusal = n; length = 0 }
+rowShown (Line n) = record { refusal = 0; length = n }

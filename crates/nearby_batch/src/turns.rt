@@ -9,8 +9,8 @@ ghost use Rattle.paper.specs.Calls.{tableRefusal};
 ghost use Rattle.nearby_batch.specs.Batch.{batchStart, step, batchAnswered, batchOf, BatchStands, LineLeft};
 ghost use Rattle.paper.specs.Limits.{longestAnswer};
 use super::ends::line_end;
+use super::outcomes::line_row;
 use super::outcomes::put_row;
-use super::outcomes::said_of;
 use crate::Answered;
 use paper::limits::LONGEST_ANSWER;
 use paper::tables::Table;
@@ -57,13 +57,13 @@ fn answer_next(
         &asks[at..e],
         &mut out[w..],
     );
-    let said = said_of(wrote);
-    put_row(outcomes, k, said);
+    let row = line_row(wrote);
+    put_row(outcomes, k, row);
     Answered {
         refusal: 0,
         lines: k + 1,
         used: e,
-        written: w + said.length,
+        written: w + row.length,
     }
 }
 

@@ -18,11 +18,11 @@ use Rattle.paper.specs.Ends as Ends
 use Rattle.c_lists.specs.declared.Listed.{Listed}
 use Rattle.c_values.specs.declared.Written.{Written}
 use Rattle.c_lists.specs.Values.{takenOut, TakesOut}
-use Rattle.c_values.specs.Values.{writtenOf, WritesOut}
+use Rattle.c_values.specs.Values.{writtenOut, WritesOut}
 use Rattle.paper.specs.Orders.{Query, queryIn}
 use Rattle.paper.specs.Fields.{queryInSlots}
 use Rattle.paper.specs.Frames.{frameOf, isLine}
-use Rattle.paper.specs.Lines.{Writes, wroteOf, putLine, reading, queryAt, answerKind, askFits, isAsk, askAt, anAsk, noAsk, readAsAsk, answerFits, answerOk, answerAt, anAnswer, noAnswer, readAsAnswer}
+use Rattle.paper.specs.Lines.{Writes, wroteShown, putLine, reading, queryAt, answerKind, askFits, isAsk, askAt, anAsk, noAsk, readAsAsk, answerFits, answerOk, answerAt, anAnswer, noAnswer, readAsAnswer}
 use Rattle.paper.specs.Limits.{mostCoordinates}
 use Rattle.paper.proofs.Tests.{and-first, and-second, and-both, refuted, never}
 use Rattle.lines.proofs.QueryTests.{QueryFits}
@@ -52,9 +52,9 @@ taken-from call l x t r before after e w h =
 
 -- the same of a line's writer, whose query and scope C hands over in parts
 pub line-from : (call : Query → Scope → Outcome (List ℕ)) (q x : Query) (p y : Scope) (before after : List ℕ) (w : Wrote) (r : Written)
-    → x ≡ q → y ≡ p → Writes (call x y) before w after → r ≡ writtenOf w → WritesOut (call q p) before r after
+    → x ≡ q → y ≡ p → Writes (call x y) before w after → r ≡ writtenOut w → WritesOut (call q p) before r after
 line-from call q x p y before after w r e f h k =
-    shown-as writtenOf wroteOf putLine (call q p) before after w r
+    shown-as writtenOut wroteShown putLine (call q p) before after w r
     (subst (λ (u : Scope). Writes (call q u) before w after) f (subst (λ (u : Query). Writes (call u y) before w after) e h)) k
 
 -- a probe that has no slots is refused by whoever writes

@@ -19,7 +19,7 @@ use Rattle.paper.specs.Outcomes.{Outcome, gives, must, leaves}
 use Rattle.paper.specs.Tree.{Store, claimsIn, fits, sound}
 use Rattle.paper.specs.Ends.{sizeHolds}
 use Rattle.paper.specs.Calls.{tableQuery, aimed, ThePage, thePage, nearestCall, farthestCall, pageCall, pageShown, putPage}
-use Rattle.tree.proofs.Places.{before-next}
+use Rattle.tree.proofs.PointsInMemory.{before-next}
 use Rattle.orders.proofs.Rooms.{fronted-length}
 use Rattle.paper.proofs.Outcomes.{must-test, must-rest, must-go, same-given}
 use Rattle.rows.specs.Answers.{foundRow, pageRow}
@@ -109,7 +109,7 @@ module _ (s : Store) (probes : List ℤ) (n : ℕ) (answer : ℕ → Found) (out
             ∙ must-go (fits s) 1 _ (must-test (fits s) 1 _ after h)
             ∙ must-go (sound s) 2 _ (must-test (sound s) 2 _ after past-1)
             ∙ must-go (eqb (length (probeAt s probes i)) (s .table .d)) 5 _ (eq-eqb _ _ (probe-long (s .table .d) i n probes all-aimed j));
-        told = ap (row 4 i) (sym done) ∙ rowed .rows i j;
+        shown = ap (row 4 i) (sym done) ∙ rowed .rows i j;
       }
     where
       all-aimed : length probes ≡ s .table .d * n
@@ -138,13 +138,13 @@ module _ (s : Store) (probes : List ℤ) (reaches places : List ℕ) (size : ℕ
   abbrev page : ℕ → Outcome ThePage
   page = pageAt s probes reaches places size
 
-  abbrev Told : List ℕ
-  Told = each (putOutcome page) n (before .outcomes)
+  abbrev Shown : List ℕ
+  Shown = each (putOutcome page) n (before .outcomes)
 
   abbrev Items : List ℕ
   Items = each (putPageItems page (size * 3)) n (before .items)
 
-  past-6 : must (leb (n * 3) (length (before .outcomes))) 12 (must (leb (n * (size * 3)) (length (before .items))) 12 (gives (bothRooms Told Items))) ≡ gives after
+  past-6 : must (leb (n * 3) (length (before .outcomes))) 12 (must (leb (n * (size * 3)) (length (before .items))) 12 (gives (bothRooms Shown Items))) ≡ gives after
   unfolding pagesEach
   past-6 =
       must-rest (sizeHolds size) 6 _ after
@@ -153,14 +153,14 @@ module _ (s : Store) (probes : List ℤ) (reaches places : List ℕ) (size : ℕ
       (must-rest (sound s) 2 _ after
       (must-rest (fits s) 1 _ after h))))
 
-  past-12 : must (leb (n * (size * 3)) (length (before .items))) 12 (gives (bothRooms Told Items)) ≡ gives after
+  past-12 : must (leb (n * (size * 3)) (length (before .items))) 12 (gives (bothRooms Shown Items)) ≡ gives after
   past-12 = must-rest (leb (n * 3) (length (before .outcomes))) 12 _ after past-6
 
-  both : bothRooms Told Items ≡ after
-  both = same-given (bothRooms Told Items) after (must-rest (leb (n * (size * 3)) (length (before .items))) 12 (gives (bothRooms Told Items)) after past-12)
+  both : bothRooms Shown Items ≡ after
+  both = same-given (bothRooms Shown Items) after (must-rest (leb (n * (size * 3)) (length (before .items))) 12 (gives (bothRooms Shown Items)) after past-12)
 
-  told-rows : Rowed 3 (λ i l. pageRow (pageShown (page i))) n (before .outcomes) Told
-  told-rows =
+  shown-rows : Rowed 3 (λ i l. pageRow (pageShown (page i))) n (before .outcomes) Shown
+  shown-rows =
       each-rowed 3 (putOutcome page) (λ i l. pageRow (pageShown (page i))) (set-rows 3 (λ i. pageRow (pageShown (page i))) (λ i. page-wide (pageShown (page i)))) n (before .outcomes)
       (leb-true (n * 3) (length (before .outcomes)) (must-test (leb (n * 3) (length (before .outcomes))) 12 _ after past-6))
 
@@ -172,7 +172,7 @@ module _ (s : Store) (probes : List ℤ) (reaches places : List ℕ) (size : ℕ
         fills = λ i l e. page-fills s (probeAt s probes i) (getD reaches i 0) (placeAt places i) size (size * 3) l e ∙ e;
       })
       n (before .items)
-      (leb-true (n * (size * 3)) (length (before .items)) (must-test (leb (n * (size * 3)) (length (before .items))) 12 (gives (bothRooms Told Items)) after past-12))
+      (leb-true (n * (size * 3)) (length (before .items)) (must-test (leb (n * (size * 3)) (length (before .items))) 12 (gives (bothRooms Shown Items)) after past-12))
 
   -- row i is what the single call gives for question i
   pub page-as-alone : (i : ℕ) → i < length reaches
@@ -180,13 +180,13 @@ module _ (s : Store) (probes : List ℤ) (reaches places : List ℕ) (size : ℕ
       (row 3 i (after .outcomes)) (row (size * 3) i (before .items)) (row (size * 3) i (after .items))
   page-as-alone i j =
       record {
-        outcome = ap (λ (x : PageRooms). row 3 i (x .outcomes)) (sym both) ∙ told-rows .rows i j;
+        outcome = ap (λ (x : PageRooms). row 3 i (x .outcomes)) (sym both) ∙ shown-rows .rows i j;
         items = ap (λ (x : PageRooms). row (size * 3) i (x .items)) (sym both) ∙ item-rows .rows i j;
       }
 
   pub pages-behind : (drop (length reaches * 3) (after .outcomes) ≡ drop (length reaches * 3) (before .outcomes))
       × (drop (length reaches * (size * 3)) (after .items) ≡ drop (length reaches * (size * 3)) (before .items))
   pages-behind = (
-    ap (λ (x : PageRooms). drop (n * 3) (x .outcomes)) (sym both) ∙ told-rows .behind,
+    ap (λ (x : PageRooms). drop (n * 3) (x .outcomes)) (sym both) ∙ shown-rows .behind,
     ap (λ (x : PageRooms). drop (n * (size * 3)) (x .items)) (sym both) ∙ item-rows .behind,
   )

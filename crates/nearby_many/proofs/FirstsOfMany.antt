@@ -12,10 +12,10 @@ use lib.Seq.{sets, length-take-le}
 use borrow.Author.Tests.{leb-true, eqb-true, not-true, not-false}
 use Rattle.paper.specs.Points.{point}
 use Rattle.paper.specs.declared.orders.Found as answers
-use Rattle.paper.specs.Orders.{Found, told, foundShown}
+use Rattle.paper.specs.Orders.{Found, foundIn, foundShown}
 use Rattle.paper.specs.Outcomes.{Outcome, refused, gives, onto, number, Promise}
 use Rattle.paper.specs.Tree.{Store, fits, sound}
-use Rattle.tree.proofs.Places.{before-next}
+use Rattle.tree.proofs.PointsInMemory.{before-next}
 use Rattle.walk.specs.Asking.{Answerable}
 use Rattle.walk.proofs.Answers.{good-answerable}
 use Rattle.paper.specs.Calls.{tableRefusal}
@@ -66,7 +66,7 @@ row-answerable s probes i w out h =
     (part-length (s .table .d) i probes (h .aimed))
 
 pub row-found : (f : List ℤ → Found) (x : answers.Found) (d i : ℕ) (probes : List ℤ) (before after : List ℕ)
-    → told x ≡ f (take (i * d + d - i * d) (drop (i * d) probes)) → after ≡ sets before (i * 4) (foundRow x)
+    → foundIn x ≡ f (take (i * d + d - i * d) (drop (i * d) probes)) → after ≡ sets before (i * 4) (foundRow x)
     → after ≡ sets before (i * 4) (foundRow (foundShown (f (point d probes i))))
 row-found f x d i probes before after e w =
     w ∙ ap (λ (y : answers.Found). sets before (i * 4) (foundRow y)) (found-shown x _ e ∙ ap (λ (p : List ℤ). foundShown (f p)) (part-point d i probes))

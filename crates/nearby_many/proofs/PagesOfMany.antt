@@ -18,7 +18,7 @@ use Rattle.paper.specs.Tree.{Store, fits, sound}
 use Rattle.paper.specs.Ends.{sizeHolds}
 use Rattle.paper.specs.Calls.{ThePage, pageShown, putPage, tableRefusal}
 use Rattle.paper.proofs.Tests.{and-first, and-second}
-use Rattle.tree.proofs.Places.{before-next}
+use Rattle.tree.proofs.PointsInMemory.{before-next}
 use Rattle.paper.proofs.Outcomes.{must-stop, must-go, number-0, must-behind, stops, promise-refused, promise-given}
 use Rattle.walk_tested.specs.Askable.{Askable}
 use Rattle.rows.specs.Answers.{pageRow}
@@ -126,9 +126,9 @@ module _ (f : List ℤ → Place → ℕ → Outcome ThePage) (d i w : ℕ) (pro
 
 -- ---- question after question
 
-pub one-page : (s : Store) (probes n places size outcomes items i told rest : ℕ) → AllPages s probes n places size outcomes items → i < n
-    → told ≡ outcomes → rest ≡ items → OnePage s probes places i size told rest
-one-page s probes n places size outcomes items i told rest m h te re =
+pub one-page : (s : Store) (probes n places size outcomes items i shown rest : ℕ) → AllPages s probes n places size outcomes items → i < n
+    → shown ≡ outcomes → rest ≡ items → OnePage s probes places i size shown rest
+one-page s probes n places size outcomes items i shown rest m h te re =
     let e : s .table .d * n ≡ n * s .table .d = mul-comm (s .table .d) n in
     record {
       tested = m .tested;
@@ -207,7 +207,7 @@ module _ (s : Store) (probes : List ℤ) (reaches places : List ℕ) (size : ℕ
     pub pages-all : AllPages s (length probes) n (length places) size (length (before .outcomes)) (length (before .items))
     pages-all = passed .0
 
-    pub pages-done : (told rest : List ℕ) → told ≡ done .outcomes → rest ≡ done .items → Promise number instead call before 0 (bothRooms told rest)
-    pages-done told rest te re =
-        promise-given number instead call before done 0 (bothRooms told rest) pages-gives refl
+    pub pages-done : (shown rest : List ℕ) → shown ≡ done .outcomes → rest ≡ done .items → Promise number instead call before 0 (bothRooms shown rest)
+    pages-done shown rest te re =
+        promise-given number instead call before done 0 (bothRooms shown rest) pages-gives refl
         (ap (λ (x : List ℕ). bothRooms x rest) te ∙ ap (bothRooms (done .outcomes)) re)

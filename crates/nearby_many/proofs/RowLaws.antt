@@ -7,7 +7,7 @@ use native.Mathlib.Omega.{arith}
 use native.Mathlib.Decide.{ℕ-discrete}
 use lib.ListN.{length, take, drop, length-append, length-drop, take-append-drop}
 use lib.Seq.{length-take-le, take-append-le, drop-append-le, take-at, drop-at, drop-drop}
-use Rattle.tree.proofs.Places.{before-next}
+use Rattle.tree.proofs.PointsInMemory.{before-next}
 use Rattle.nearby_many.specs.Rows.{row, each}
 
 -- ---- one row

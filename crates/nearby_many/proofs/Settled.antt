@@ -1,4 +1,4 @@
--- A call that tells 0 gave its rows. What the promises settle and what a refusal keeps stand in paper (`settled`, `kept`). Assumes nothing.
+-- A call that gives 0 gave its rows. What the promises settle and what a refusal keeps stand in paper (`settled`, `kept`). Assumes nothing.
 use Prim.Native.Nat.{ℕ, _*_}
 use mathlib.Core.Path.{_≡_, refl, sym, ap, _∙_}
 use mathlib.Core.List.{List}
@@ -36,12 +36,12 @@ number-onto (gives b) x = refl
 
 module _ (s : Store) (probes : List ℤ) (reaches places : List ℕ) (size : ℕ) (before after : PageRooms) (r : ℕ)
     (p : Promise number instead (pagesEach s probes reaches places size before) before r after) (none : r ≡ 0) where
-  told : 0 ≡ pagesRefusal s (length probes) (length reaches) (length places) size (length (before .outcomes)) (length (before .items))
+  shown : 0 ≡ pagesRefusal s (length probes) (length reaches) (length places) size (length (before .outcomes)) (length (before .items))
   unfolding pagesEach pagesRefusal
-  told =
+  shown =
       sym none ∙ p .result
       ∙ ap number (then-pages s (length probes) (length reaches) (length places) size (length (before .outcomes)) (length (before .items)) (gives _))
       ∙ number-onto (onPages s (length probes) (length reaches) (length places) size (length (before .outcomes)) (length (before .items)) (gives (length reaches))) _
 
   pub pages-given : pagesEach s probes reaches places size before ≡ gives after
-  pages-given = stands _ before after _ r p (pages-gives s probes reaches places size before 0 told refl)
+  pages-given = stands _ before after _ r p (pages-gives s probes reaches places size before 0 shown refl)

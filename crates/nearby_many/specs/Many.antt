@@ -36,11 +36,11 @@ nearestEach s probes reaches out = firstsCall s (length probes) (length reaches)
 abbrev pub farthestEach : Store → List ℤ → ℕ → List ℕ → Outcome (List ℕ)
 farthestEach s probes n out = firstsCall s (length probes) n (farthestAt s probes) out
 
--- [4.16] a row beside the single call for its question: the call gives an answer, and the row tells it
+-- [4.16] a row beside the single call for its question: the call gives an answer, and the row shows it
 pub record RowAsAlone (single : Outcome Found) (r : List ℕ) : Type 0 where
   pub answer : Found
   pub given : single ≡ gives answer
-  pub told : r ≡ foundRow (foundShown answer)
+  pub shown : r ≡ foundRow (foundShown answer)
 
 -- ---- what the layers below ask
 

@@ -60,9 +60,9 @@ pagesEach s probes reaches places size before =
     (each (putOutcome (pageAt s probes reaches places size)) (length reaches) (before .outcomes))
     (each (putPageItems (pageAt s probes reaches places size) (size * 3)) (length reaches) (before .items))))
 
--- [4.16] a row beside the single call for its question, in a room for one page: what it tells, and the row of items before and after
-pub record PageAlone (single : Outcome ThePage) (told before after : List ℕ) : Type 0 where
-  pub outcome : told ≡ pageRow (pageShown single)
+-- [4.16] a row beside the single call for its question, in a room for one page: what it shows, and the row of items before and after
+pub record PageAlone (single : Outcome ThePage) (shown before after : List ℕ) : Type 0 where
+  pub outcome : shown ≡ pageRow (pageShown single)
   pub items : after ≡ leaves putPage single before
 
 -- ---- what the layers below ask
@@ -77,10 +77,10 @@ pub record OnePage (s : Store) (probes places i n outcomes rest : ℕ) : Type 0 
   pub items : i * (n * 3) + n * 3 ≤ rest
 
 -- all n
-pub record AllPages (s : Store) (probes n spots k told rest : ℕ) : Type 0 where
+pub record AllPages (s : Store) (probes n spots k shown rest : ℕ) : Type 0 where
   pub tested : 0 ≡ tableRefusal s
   pub aimed : probes ≡ s .table .d * n
   pub places : spots ≡ 4 * n
   pub size : sizeHolds k ≡ true
-  pub outcomes : n * 3 ≤ told
+  pub outcomes : n * 3 ≤ shown
   pub items : n * (k * 3) ≤ rest

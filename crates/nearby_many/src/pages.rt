@@ -35,7 +35,7 @@ fn page_row(
     items: &mut [u64],
 )
     requires { ⌜ OnePage (lent t references coordinates nodes) (length (now probes)) (length (now places)) i size (length (now outcomes)) (length (now items)) ⌝ }
-    ensures told { λ _. ⌜ now (outcomes .exit) ≡ putOutcome (λ k. pageCall (lent t (references .entry) (coordinates .entry) (nodes .entry)) Near (point (t .d) (now (probes .entry)) i) reach (placeAt (now (places .entry)) i) size (size * 3)) i (now (outcomes .entry)) ⌝ }
+    ensures shown { λ _. ⌜ now (outcomes .exit) ≡ putOutcome (λ k. pageCall (lent t (references .entry) (coordinates .entry) (nodes .entry)) Near (point (t .d) (now (probes .entry)) i) reach (placeAt (now (places .entry)) i) size (size * 3)) i (now (outcomes .entry)) ⌝ }
     ensures filled { λ _. ⌜ now (items .exit) ≡ putPageItems (λ k. pageCall (lent t (references .entry) (coordinates .entry) (nodes .entry)) Near (point (t .d) (now (probes .entry)) i) reach (placeAt (now (places .entry)) i) size (size * 3)) (size * 3) i (now (items .entry)) ⌝ }
 {
     let d = t.d;
@@ -74,7 +74,7 @@ fn page_rows(
     items: &mut [u64],
 )
     requires { ⌜ AllPages (lent t references coordinates nodes) (length (now probes)) (length (now reaches)) (length (now places)) size (length (now outcomes)) (length (now items)) ⌝ }
-    ensures told { λ _. ⌜ now (outcomes .exit) ≡ each (putOutcome (pageAt (lent t (references .entry) (coordinates .entry) (nodes .entry)) (now (probes .entry)) (now (reaches .entry)) (now (places .entry)) size)) (length (now (reaches .entry))) (now (outcomes .entry)) ⌝ }
+    ensures shown { λ _. ⌜ now (outcomes .exit) ≡ each (putOutcome (pageAt (lent t (references .entry) (coordinates .entry) (nodes .entry)) (now (probes .entry)) (now (reaches .entry)) (now (places .entry)) size)) (length (now (reaches .entry))) (now (outcomes .entry)) ⌝ }
     ensures filled { λ _. ⌜ now (items .exit) ≡ each (putPageItems (pageAt (lent t (references .entry) (coordinates .entry) (nodes .entry)) (now (probes .entry)) (now (reaches .entry)) (now (places .entry)) size) (size * 3)) (length (now (reaches .entry))) (now (items .entry)) ⌝ }
 {
     let mut i = 0;

@@ -14,7 +14,7 @@ use Rattle.paper.specs.Ends.{Ask, tableOf, matches, answerOf, answerTo}
 use Rattle.paper.specs.Ends as Ends
 use Rattle.paper.specs.Codec.{answerLine}
 use Rattle.paper.specs.Program.{Books, opened, replyTo, reply, refusal, askTurn}
-use Rattle.paper.specs.Lines.{wroteOf, Writes}
+use Rattle.paper.specs.Lines.{wroteShown, Writes}
 use Rattle.office_serve.specs.Serving.{Put, booksOf}
 use Rattle.office_serve.proofs.Written.{lent-length, lent-put, lent-same}
 use Rattle.office_serve.proofs.ClaimServed.{books-none, books-some}
@@ -26,13 +26,13 @@ record Told (o : Outcome (List ℕ)) (n : ℕ) : Type 0 where
   pub is : o ≡ gives line
   pub long : length line ≡ n
 
-told : (o : Outcome (List ℕ)) (n : ℕ) → wroteOf o ≡ Line n → Told o n
-unfolding wroteOf
+told : (o : Outcome (List ℕ)) (n : ℕ) → wroteShown o ≡ Line n → Told o n
+unfolding wroteShown
 told (refused m) n e = absurd (let z : _≡_ {A = ℕ} 0 1 = cc in omega arith)
 told (gives line) n e = record { line = line; is = refl; long = cc }
 
-told-refused : (o : Outcome (List ℕ)) (n : ℕ) → wroteOf o ≡ Refused n → o ≡ refused n
-unfolding wroteOf
+told-refused : (o : Outcome (List ℕ)) (n : ℕ) → wroteShown o ≡ Refused n → o ≡ refused n
+unfolding wroteShown
 told-refused (refused m) n e = let q : m ≡ n = cc in ap refused q
 told-refused (gives line) n e = absurd (let z : _≡_ {A = ℕ} 0 1 = cc in omega arith)
 
@@ -51,20 +51,20 @@ reply-small t a n = go (matches t (a .query)) (snapshotHolds (t .claims) (a .pla
 
 module _ (s : Store) (a : Ask) (out : List ℕ) (at : ℕ) where
   abbrev Reply : List ℕ
-  Reply = askTurn (booksOf s) (reply (booksOf s) a) .said
+  Reply = askTurn (booksOf s) (reply (booksOf s) a) .printed
 
-  said-none : s .table .count ≡ 0 → Reply ≡ refusal 11
+  printed-none : s .table .count ≡ 0 → Reply ≡ refusal 11
   unfolding reply askTurn
-  said-none z = ap (λ (b : Books). askTurn b (reply b a) .said) (books-none s z)
+  printed-none z = ap (λ (b : Books). askTurn b (reply b a) .printed) (books-none s z)
 
-  said-some : (s .table .count ≡ 0 → ⊥) → (o : Outcome (List ℕ)) → replyTo (tableOf s) a ≡ o → Reply ≡ askTurn (opened (tableOf s)) o .said
+  printed-some : (s .table .count ≡ 0 → ⊥) → (o : Outcome (List ℕ)) → replyTo (tableOf s) a ≡ o → Reply ≡ askTurn (opened (tableOf s)) o .printed
   unfolding reply
-  said-some z o e =
-      ap (λ (b : Books). askTurn b (reply b a) .said) (books-some s z)
-      ∙ ap (λ (x : Outcome (List ℕ)). askTurn (opened (tableOf s)) x .said) e
+  printed-some z o e =
+      ap (λ (b : Books). askTurn b (reply b a) .printed) (books-some s z)
+      ∙ ap (λ (x : Outcome (List ℕ)). askTurn (opened (tableOf s)) x .printed) e
 
   pub ask-none : (l : List ℕ) (e : ℕ) → s .table .count ≡ 0 → Put (refusal 11) out at l e → Put Reply out at l e
-  ask-none l e z p = rw (said-none z) p
+  ask-none l e z p = rw (printed-none z) p
 
   module _ (some : s .table .count ≡ 0 → ⊥) (k : ℕ) (rest : k ≡ length out - at) (inside : at ≤ length out) (w : Wrote) (part : List ℕ)
       (says : Writes (replyTo (tableOf s) a) (take k (drop at out)) w part) (n : ℕ) where
@@ -81,7 +81,7 @@ module _ (s : Store) (a : Ask) (out : List ℕ) (at : ℕ) where
     pub ask-refused : w ≡ Refused n → (l : List ℕ) (e : ℕ) → Put (refusal n) (take at out ++ (part ++ drop k (drop at out))) at l e → Put Reply out at l e
     unfolding askTurn
     ask-refused e l f p =
-        let q : Reply ≡ refusal n = said-some some (refused n) (told-refused (replyTo (tableOf s) a) n (sym (says .result) ∙ e)) in
+        let q : Reply ≡ refusal n = printed-some some (refused n) (told-refused (replyTo (tableOf s) a) n (sym (says .result) ∙ e)) in
         subst (λ (x : List ℕ). Put x out at l f) (sym q) (rw (same e) at p)
 
     module _ (e : w ≡ Line n) (kept : length part ≡ length (take k (drop at out))) where
@@ -102,6 +102,6 @@ module _ (s : Store) (a : Ask) (out : List ℕ) (at : ℕ) where
       ask-line =
           let t = line-told in
           let h : at + length (t .line) ≤ length out = omega (arith, line-inside, t .long) in
-          let q : Reply ≡ t .line = said-some some (gives (t .line)) (t .is) in
+          let q : Reply ≡ t .line = printed-some some (gives (t .line)) (t .is) in
           subst (λ (x : List ℕ). Put x out at (take at out ++ (part ++ drop k (drop at out))) (at + n)) (sym q)
           (record { out = lent-put out at k rest (t .line) part h part-is; end = omega (arith, t .long); short = line-inside })

@@ -18,11 +18,11 @@ use Rattle.paper.specs.Outcomes.{refused, gives}
 use Rattle.paper.specs.Ends.{tableOf}
 use Rattle.paper.specs.Program.{closed, opened, tableFor, ours, claimIn, withClaim, claimEntering, refusal, claimTurn}
 use Rattle.paper.proofs.Tests.{and-second}
-use Rattle.tree.specs.Rooms.{IsBuilt}
+use Rattle.tree.specs.BuiltNodes.{IsBuilt}
 use Rattle.tree.specs.Soundness.{Roomy}
 use Rattle.tree.proofs.ClaimsInMemory.{point-length}
 use Rattle.tree.proofs.Adding.{good-end, added-good, added-claims, added-kept}
-use Rattle.tree.proofs.Places.{claims-length}
+use Rattle.tree.proofs.PointsInMemory.{claims-length}
 use Rattle.office_serve.specs.Serving.{Put, booksOf, headerFor, Ready, Served}
 use Rattle.office_serve.proofs.Written.{wrote-none}
 use Rattle.paper.specs.Limits.{officeClaims}
@@ -110,7 +110,7 @@ module _ (s : Store) (c : ClaimLine) (r : Ready s) (i : InRange (c .measure) (c 
   claim-refused : (n : ℕ) (l : List ℕ) (e : ℕ) → claimEntering (tableFor (booksOf s) c) c ≡ refused n → Put (refusal n) out at l e
       → Served (claimTurn (booksOf s) (claimEntering (tableFor (booksOf s) c) c)) s out at l e
   unfolding claimTurn
-  claim-refused n l e q p = rw q (record { books = refl; ready = r; said = p })
+  claim-refused n l e q p = rw q (record { books = refl; ready = r; printed = p })
 
   pub claim-11 : not b ≡ true → (l : List ℕ) (e : ℕ) → Put (refusal 11) out at l e
       → Served (claimTurn (booksOf s) (claimEntering (tableFor (booksOf s) c) c)) s out at l e
@@ -178,5 +178,5 @@ module _ (s : Store) (c : ClaimLine) (r : Ready s) (i : InRange (c .measure) (c 
           (record {
             books = books-some (added (withHeader s h) (c .reference) Point) (λ z. omega (arith, k)) ∙ ap opened entered-is;
             ready = added-ready;
-            said = record { out = sym (wrote-none out at); end = omega arith; short = inside };
+            printed = record { out = sym (wrote-none out at); end = omega arith; short = inside };
           })

@@ -71,7 +71,7 @@ module _ (d : Sitting) (s : Store) (l l' chunk : List ℕ) (p : Piece) (len : le
         stands = record { books = st .books; line = m .kept; left = st .left };
         same = rw (m .rest, rest-none xs unended) (sym (rw unended at f));
         more = [];
-        said = sym (append-nil (o .said));
+        printed = sym (append-nil (o .printed));
         out = sym (wrote-none out (d .written));
         written = omega arith;
       }
@@ -90,17 +90,17 @@ module _ (d : Sitting) (s : Store) (l l' chunk : List ℕ) (p : Piece) (len : le
         after = lineDone o (o .held ++ lineIn xs);
         stands = record { books = v .books; line = rw len' at (kept-none l'); left = omega (arith, st .left) };
         same = rw (m .rest) (sym (rw whole at f));
-        more = lineTurn (o .books) (o .held ++ lineIn xs) .said;
-        said = refl;
-        out = v .said .out;
-        written = v .said .end;
+        more = lineTurn (o .books) (o .held ++ lineIn xs) .printed;
+        printed = refl;
+        out = v .printed .out;
+        written = v .printed .end;
       }
 
 -- ---- turns add up
 
 pub moved-none : (o : OfficeState) (chunk : List ℕ) (d : Sitting) (out : List ℕ) (s : Store) (l : List ℕ) → Stands s l d o → Moved o chunk d out s l d out
 moved-none o chunk d out s l st =
-    record { after = o; stands = st; same = refl; more = []; said = sym (append-nil (o .said)); out = sym (wrote-none out (d .written)); written = omega arith }
+    record { after = o; stands = st; same = refl; more = []; printed = sym (append-nil (o .printed)); out = sym (wrote-none out (d .written)); written = omega arith }
 
 pub moved-more : (o : OfficeState) (chunk : List ℕ) (d₀ d₁ d₂ : Sitting) (out₀ out₁ out₂ : List ℕ) (s₁ s₂ : Store) (l₁ l₂ : List ℕ)
     → Moved o chunk d₀ out₀ s₁ l₁ d₁ out₁ → ((x : OfficeState) → Stands s₁ l₁ d₁ x → Moved x chunk d₁ out₁ s₂ l₂ d₂ out₂) → Moved o chunk d₀ out₀ s₂ l₂ d₂ out₂
@@ -112,7 +112,7 @@ moved-more o chunk d₀ d₁ d₂ out₀ out₁ out₂ s₁ s₂ l₁ l₂ m f =
       stands = n .stands;
       same = n .same ∙ m .same;
       more = m .more ++ n .more;
-      said = n .said ∙ ap (λ (x : List ℕ). x ++ n .more) (m .said) ∙ append-assoc (o .said) (m .more) (n .more);
+      printed = n .printed ∙ ap (λ (x : List ℕ). x ++ n .more) (m .printed) ∙ append-assoc (o .printed) (m .more) (n .more);
       out = n .out ∙ rw (m .out, m .written) (wrote-more out₀ (d₀ .written) (m .more) (n .more));
       written = omega (arith, m .written, n .written, len);
     }
@@ -183,7 +183,7 @@ no-bytes (x ∷ l) h = absurd (omega arith)
 
 ended-none : (o : OfficeState) (out : List ℕ) (w : ℕ) → inputDone o ≡ o → Ended o out w out w
 ended-none o out w e =
-    record { more = []; said = rw e (sym (append-nil (o .said))); out = sym (wrote-none out w); written = omega arith }
+    record { more = []; printed = rw e (sym (append-nil (o .printed))); out = sym (wrote-none out w); written = omega arith }
 
 module _ (s : Store) (l : List ℕ) (d : Sitting) (o : OfficeState) (st : Stands s l d o) (out : List ℕ) where
   pub ended-left : d .left < 1 → Ended o out (d .written) out (d .written)
@@ -198,7 +198,7 @@ module _ (s : Store) (l : List ℕ) (d : Sitting) (o : OfficeState) (st : Stands
   ended-line hl hs s' out' e serves =
       let v : Served (lineTurn (o .books) (o .held)) s' out (d .written) out' e = rw (st .books) at (serves (o .held) (st .line)) in
       let ov = over-some o (omega (arith, st .left)) (omega (arith, st .line .size)) in
-      record { more = lineTurn (o .books) (o .held) .said; said = ap (λ (x : OfficeState). x .said) ov; out = v .said .out; written = v .said .end }
+      record { more = lineTurn (o .books) (o .held) .printed; printed = ap (λ (x : OfficeState). x .printed) ov; out = v .printed .out; written = v .printed .end }
 
 -- ---- chunks add up
 

@@ -34,7 +34,7 @@ ask-books b (gives line) = refl
 -- a refusal leaves the memory as it was
 refused-turn : (s : Store) (n : ℕ) (out : List ℕ) (at : ℕ) (l : List ℕ) (e : ℕ) → Ready s → Put (refusal n) out at l e
     → Served (turn (booksOf s) (refusal n)) s out at l e
-refused-turn s n out at l e r p = record { books = refl; ready = r; said = p }
+refused-turn s n out at l e r p = record { books = refl; ready = r; printed = p }
 
 module _ (s : Store) (f : List ℕ) (out : List ℕ) (at : ℕ) (l : List ℕ) (e : ℕ) where
   pub frame-claim : (x : Store) (c : ClaimLine) → claimOk f ≡ true → c ≡ claimAt f
@@ -43,10 +43,10 @@ module _ (s : Store) (f : List ℕ) (out : List ℕ) (at : ℕ) (l : List ℕ) (
   frame-claim x c q is v = rw q (rw is at v)
 
   pub frame-ask : (a : lines-Ask.Ask) → Ready s → claimOk f ≡ false → isAsk f ≡ true → a ≡ askAt f
-      → Put (askTurn (booksOf s) (reply (booksOf s) (askMeant a)) .said) out at l e → Served (frameTurn (booksOf s) f) s out at l e
+      → Put (askTurn (booksOf s) (reply (booksOf s) (askMeant a)) .printed) out at l e → Served (frameTurn (booksOf s) f) s out at l e
   unfolding frameTurn
   frame-ask a r p q is v =
-      rw (p, q) (record { books = ask-books (booksOf s) (reply (booksOf s) (askMeant (askAt f))); ready = r; said = rw is at v })
+      rw (p, q) (record { books = ask-books (booksOf s) (reply (booksOf s) (askMeant (askAt f))); ready = r; printed = rw is at v })
 
   pub frame-none : Ready s → claimOk f ≡ false → isAsk f ≡ false → Put (refusal 10) out at l e → Served (frameTurn (booksOf s) f) s out at l e
   unfolding frameTurn
@@ -80,4 +80,4 @@ module _ (s : Store) (room : List ℕ) (size : ℕ) (long : length room ≡ long
   pub cut-line : (x : Store) (m : ℕ) → size ≤ length room → m ≡ size → Served (lineTurn (booksOf s) (take m room)) x out at l e
       → ServedCut room size (booksOf s) x out at l e
   cut-line x m o q v =
-      record { served = λ h k. rw (q, k .front (omega arith)) at v; ready = v .ready; short = v .said .short }
+      record { served = λ h k. rw (q, k .front (omega arith)) at v; ready = v .ready; short = v .printed .short }

@@ -7,10 +7,10 @@ use lib.ListN.{length, take, drop, set, length-drop, drop-of-length-le}
 use lib.Seq.{sets, sets-eq, take-all, take-at, drop-drop}
 use borrow.Author.Tests.{lt-ltb, le-ltb}
 use Rattle.paper.specs.Program.{decimal, refusal}
-use Rattle.office_serve.specs.Serving.{wrote, Put}
+use Rattle.office_serve.specs.Serving.{outWith, Put}
 
-pub wrote-none : (out : List ℕ) (i : ℕ) → wrote out i [] ≡ out
-unfolding wrote
+pub wrote-none : (out : List ℕ) (i : ℕ) → outWith out i [] ≡ out
+unfolding outWith
 wrote-none out i = refl
 
 sets-more : (a b out : List ℕ) (i : ℕ) → sets (sets out i a) (i + length a) b ≡ sets out i (a ++ b)
@@ -19,13 +19,13 @@ sets-more (x ∷ a) b out i =
     let q : i + length (x ∷ a) ≡ suc i + length a = omega arith in
     rw q (sets-more a b (set out i x) (suc i))
 
-pub wrote-more : (out : List ℕ) (i : ℕ) (a b : List ℕ) → wrote (wrote out i a) (i + length a) b ≡ wrote out i (a ++ b)
-unfolding wrote
+pub wrote-more : (out : List ℕ) (i : ℕ) (a b : List ℕ) → outWith (outWith out i a) (i + length a) b ≡ outWith out i (a ++ b)
+unfolding outWith
 wrote-more out i a b = sets-more a b out i
 
 -- what is handed to `write_all`: the front of the room
-pub wrote-front : (out bs : List ℕ) → length bs ≤ length out → take (length bs) (wrote out 0 bs) ≡ bs
-unfolding wrote
+pub wrote-front : (out bs : List ℕ) → length bs ≤ length out → take (length bs) (outWith out 0 bs) ≡ bs
+unfolding outWith
 wrote-front out bs h = rw (sets-eq bs out 0 (omega arith)) (take-at bs _ (length bs) refl)
 
 -- ---- a call that was lent the room from `at` on
@@ -41,14 +41,14 @@ module _ (out : List ℕ) (at k : ℕ) (rest : k ≡ length out - at) where
   lent-length = ap length lent ∙ length-drop at out
 
   pub lent-put : (bs part : List ℕ) → at + length bs ≤ length out → part ≡ bs ++ drop (length bs) (take k (drop at out))
-      → take at out ++ (part ++ drop k (drop at out)) ≡ wrote out at bs
-  unfolding wrote
+      → take at out ++ (part ++ drop k (drop at out)) ≡ outWith out at bs
+  unfolding outWith
   lent-put bs part h e =
       rw (e, lent, none, append-nil, drop-drop, sets-eq bs out at h)
       (sym (append-assoc (take at out) bs (drop (at + length bs) out)))
 
   pub lent-same : (part : List ℕ) → at ≤ length out → part ≡ take k (drop at out) → take at out ++ (part ++ drop k (drop at out)) ≡ out
-  unfolding wrote
+  unfolding outWith
   lent-same part h e = lent-put [] part (omega arith) e
 
 -- ---- a refusal

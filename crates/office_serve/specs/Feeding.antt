@@ -7,7 +7,7 @@ use Rattle.paper.specs.Tree.{Store}
 use Rattle.paper.specs.Program.{OfficeState, fed, inputDone}
 use Rattle.office_cut.specs.Cut.{LineHeld}
 use Rattle.office_serve.specs.declared.feeding.Sitting.{Sitting}
-use Rattle.office_serve.specs.Serving.{wrote, booksOf, Ready}
+use Rattle.office_serve.specs.Serving.{outWith, booksOf, Ready}
 use Rattle.paper.specs.Limits.{longestAnswer}
 
 -- the memory stands for the office o
@@ -33,13 +33,13 @@ pub record Moved (o : OfficeState) (chunk : List ℕ) (d₀ : Sitting) (out₀ :
   pub stands : Stands s l d after
   pub same : fed after (drop (d .at) chunk) ≡ fed o (drop (d₀ .at) chunk)
   pub more : List ℕ
-  pub said : after .said ≡ o .said ++ more
-  pub out : b ≡ wrote out₀ (d₀ .written) more
+  pub printed : after .printed ≡ o .printed ++ more
+  pub out : b ≡ outWith out₀ (d₀ .written) more
   pub written : d .written ≡ d₀ .written + length more
 
 -- [10.9] the input is over for the office o, and what it then said is written
 pub record Ended (o : OfficeState) (out₀ : List ℕ) (w : ℕ) (b : List ℕ) (v : ℕ) : Type 0 where
   pub more : List ℕ
-  pub said : inputDone o .said ≡ o .said ++ more
-  pub out : b ≡ wrote out₀ w more
+  pub printed : inputDone o .printed ≡ o .printed ++ more
+  pub out : b ≡ outWith out₀ w more
   pub written : v ≡ w + length more

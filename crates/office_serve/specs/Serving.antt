@@ -19,12 +19,12 @@ use Rattle.end_office.specs.Desk.{Given}
 use Rattle.paper.specs.Limits.{longestAnswer, officeClaims, officeCoordinates}
 
 -- the bytes bs written into out from i on
-unfoldable pub wrote : List ℕ → ℕ → List ℕ → List ℕ
-wrote out i bs = sets out i bs
+unfoldable pub outWith : List ℕ → ℕ → List ℕ → List ℕ
+outWith out i bs = sets out i bs
 
 -- bs are written into out₀ from i to e
 pub record Put (bs out₀ : List ℕ) (i : ℕ) (l : List ℕ) (e : ℕ) : Type 0 where
-  pub out : l ≡ wrote out₀ i bs
+  pub out : l ≡ outWith out₀ i bs
   pub end : e ≡ i + length bs
   pub short : e ≤ length out₀
 
@@ -63,7 +63,7 @@ pub record AskServing (s : Store) (a : Ask) (out at : ℕ) : Type 0 where
 pub record Served (a : Turn) (s : Store) (out₀ : List ℕ) (i : ℕ) (l : List ℕ) (e : ℕ) : Type 0 where
   pub books : booksOf s ≡ a .books
   pub ready : Ready s
-  pub said : Put (a .said) out₀ i l e
+  pub printed : Put (a .printed) out₀ i l e
 
 -- [10.8] the same of the line that was cut into a room: a size over the room's length stands for any longer line
 pub record ServedCut (room : List ℕ) (size : ℕ) (b : Books) (s : Store) (out₀ : List ℕ) (i : ℕ) (l : List ℕ) (e : ℕ) : Type 0 where

@@ -19,7 +19,7 @@ pub fn take_ask(
     at: usize,
 ) -> usize
     requires { ⌜ AskServing (lent t references coordinates nodes) ask (length (now out)) at ⌝ }
-    ensures { λ r. ⌜ Put (askTurn (booksOf (lent t (references .entry) (coordinates .entry) (nodes .entry))) (reply (booksOf (lent t (references .entry) (coordinates .entry) (nodes .entry))) (askMeant ask)) .said) (now (out .entry)) at (now (out .exit)) r ⌝ }
+    ensures { λ r. ⌜ Put (askTurn (booksOf (lent t (references .entry) (coordinates .entry) (nodes .entry))) (reply (booksOf (lent t (references .entry) (coordinates .entry) (nodes .entry))) (askMeant ask)) .printed) (now (out .entry)) at (now (out .exit)) r ⌝ }
 {
     if t.count == 0 {
         return refuse(out, at, 11);

@@ -3,7 +3,7 @@ ghost use mathlib.Core.Path.{_≡_};
 ghost use lib.ListN.{length};
 ghost use Rattle.paper.specs.Tree.{lent};
 ghost use Rattle.paper.specs.Program.{frameTurn, lineTurn};
-ghost use Rattle.line_digits.specs.Places.{frameIn};
+ghost use Rattle.line_digits.specs.FrameBytes.{frameIn};
 ghost use Rattle.office_serve.specs.Serving.{booksOf, Serving, Served, ServedCut};
 ghost use Rattle.paper.specs.Limits.{longestAnswer};
 use super::asks::take_ask;

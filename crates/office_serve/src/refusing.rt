@@ -10,10 +10,10 @@ pub fn refuse(out: &mut [u8], at: usize, n: u8) -> usize
     ensures { λ r. ⌜ Put (refusal n) (now (out .entry)) at (now (out .exit)) r ⌝ }
 {
     if n < 10 {
-        let said = [b'r', b'e', b'f', b'u', b's', b'e', b'd', b' ', 48 + n, 10];
-        return at + bytes::copy(&said, &mut out[at..]);
+        let printed = [b'r', b'e', b'f', b'u', b's', b'e', b'd', b' ', 48 + n, 10];
+        return at + bytes::copy(&printed, &mut out[at..]);
     }
-    let said = [
+    let printed = [
         b'r',
         b'e',
         b'f',
@@ -26,5 +26,5 @@ pub fn refuse(out: &mut [u8], at: usize, n: u8) -> usize
         48 + n % 10,
         10,
     ];
-    at + bytes::copy(&said, &mut out[at..])
+    at + bytes::copy(&printed, &mut out[at..])
 }

@@ -9,7 +9,7 @@ use lib.IntN.{ℤ}
 use lib.ListN.{length, drop, drop-of-length-le}
 use Rattle.paper.specs.Tree.{Store, store, built}
 use Rattle.paper.specs.Program.{OfficeState, fed, officeStart}
-use Rattle.tree.specs.Rooms.{IsBuilt}
+use Rattle.tree.specs.BuiltNodes.{IsBuilt}
 use Rattle.office_cut.proofs.Laws.{kept-none}
 use Rattle.office_serve.specs.declared.feeding.Sitting.{Sitting}
 use Rattle.office_serve.specs.Serving.{booksOf, Ready}

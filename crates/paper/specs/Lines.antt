@@ -59,9 +59,9 @@ claimKind = 3
 -- ---- writing and reading, whatever the kind
 
 -- [5.12] how a call that writes a line shows its outcome: the line's length, or the refusal's number
-unfoldable pub wroteOf : Outcome (List ℕ) → Wrote
-wroteOf (refused n) = Refused n
-wroteOf (gives line) = Line (length line)
+unfoldable pub wroteShown : Outcome (List ℕ) → Wrote
+wroteShown (refused n) = Refused n
+wroteShown (gives line) = Line (length line)
 
 -- [5.12] the line stands at the front of the output room, and the bytes behind it are kept
 abbrev pub putLine : List ℕ → List ℕ → List ℕ
@@ -69,7 +69,7 @@ putLine line out = line ++ drop (length line) out
 
 -- [9.3] what every call that writes a line promises
 abbrev pub Writes : Outcome (List ℕ) → List ℕ → Wrote → List ℕ → Type 0
-Writes o before r after = Promise wroteOf putLine o before r after
+Writes o before r after = Promise wroteShown putLine o before r after
 
 -- [9.14] [8.12] a bare writer refuses by 10 and 12: by whether the fields fit, the room that the kind needs, the frame, and the
 -- room's length

@@ -122,9 +122,9 @@ pub data Found : Type 0 where
   found : Item → Found
 
 -- what each case of the declared answer says
-unfoldable pub told : Answer → Found
-told Nothing = nothing
-told (AnItem k y x) = found (record { number = k; reference = y; distance = x })
+unfoldable pub foundIn : Answer → Found
+foundIn Nothing = nothing
+foundIn (AnItem k y x) = found (record { number = k; reference = y; distance = x })
 
 -- how it is shown by the declared answer
 unfoldable pub foundShown : Found → Answer

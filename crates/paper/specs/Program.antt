@@ -62,10 +62,10 @@ refusal n = (114 ∷ 101 ∷ 102 ∷ 117 ∷ 115 ∷ 101 ∷ 100 ∷ 32 ∷ []) 
 -- what a line leads to: the table after it, and what is printed
 pub record Turn : Type 0 where
   pub books : Books
-  pub said : List ℕ
+  pub printed : List ℕ
 
 abbrev pub turn : Books → List ℕ → Turn
-turn b said = record { books = b; said = said }
+turn b printed = record { books = b; printed = printed }
 
 -- [10.3] a claim that is entered prints nothing
 unfoldable pub claimTurn : Books → Outcome Table → Turn
@@ -95,7 +95,7 @@ pub record OfficeState : Type 0 where
   pub books : Books
   pub held : List ℕ
   pub left : ℕ
-  pub said : List ℕ
+  pub printed : List ℕ
 
 -- a line is over
 unfoldable pub lineDone : OfficeState → List ℕ → OfficeState
@@ -104,11 +104,11 @@ lineDone o l =
       books = lineTurn (o .books) l .books;
       held = [];
       left = o .left - 1;
-      said = o .said ++ lineTurn (o .books) l .said;
+      printed = o .printed ++ lineTurn (o .books) l .printed;
     }
 
 abbrev pub holdingLine : OfficeState → List ℕ → OfficeState
-holdingLine o h = record { books = o .books; held = h; left = o .left; said = o .said }
+holdingLine o h = record { books = o .books; held = h; left = o .left; printed = o .printed }
 
 -- [10.8] [10.10] a byte is read, where a line is left to read; a line reaches to its 0A
 unfoldable pub byte : OfficeState → ℕ → OfficeState
@@ -130,8 +130,8 @@ inputDone o = atEnd (o .left) o (o .held)
 
 -- [10.10] the office before its first byte, with all the lines that it may read
 unfoldable pub officeStart : OfficeState
-officeStart = record { books = closed; held = []; left = 4294967295; said = [] }
+officeStart = record { books = closed; held = []; left = 4294967295; printed = [] }
 
 -- what `office` writes, by what it reads
 unfoldable pub program : List ℕ → List ℕ
-program input = inputDone (fed officeStart input) .said
+program input = inputDone (fed officeStart input) .printed

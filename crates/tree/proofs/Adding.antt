@@ -12,11 +12,11 @@ use Rattle.paper.specs.declared.tables.Table.{Table}
 use Rattle.paper.specs.Points.{Claim, point}
 use Rattle.paper.specs.Tree.{grown, built, Store, store, apart, apartIn, referenceAt, withReference, claimsFrom, claimsIn}
 use Rattle.paper.specs.Runs.{counted, nextGrown, added, addedRun}
-use Rattle.tree.specs.Rooms.{Enterable, IsBuilt}
+use Rattle.tree.specs.BuiltNodes.{Enterable, IsBuilt}
 use Rattle.tree.specs.Soundness.{Good, Roomy}
 use Rattle.tree.proofs.Building.{stays-built, enter-long}
 use Rattle.tree.proofs.SameDistances.{build-ext}
-use Rattle.tree.proofs.Places.{before-next}
+use Rattle.tree.proofs.PointsInMemory.{before-next}
 use Rattle.tree.proofs.TestedTables.{good-few, good-tree, good-used}
 use Rattle.tree.proofs.ClaimsInMemory.{apart-ext, put-before, point-before, point-new, claims-more, claim-eq, claims-ext, point-length}
 

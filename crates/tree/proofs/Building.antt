@@ -8,10 +8,10 @@ use native.Mathlib.Nat.{le-refl}
 use lib.ListN.{length, getD}
 use lib.Seq.{ext-getD}
 use Rattle.paper.specs.Tree.{Grown, grown, fieldAt, entered, built}
-use Rattle.tree.specs.Rooms.{Linked, Neartree, IsBuilt}
+use Rattle.tree.specs.BuiltNodes.{Linked, Neartree, IsBuilt}
 use Rattle.tree.proofs.Stores.{fresh-length}
 use Rattle.tree.proofs.Keeping.{keeps, place}
-use Rattle.tree.proofs.RoomsInUse.{Agree, SameInUse, enter-alike, enter-behind}
+use Rattle.tree.proofs.NodesInUse.{Agree, SameInUse, enter-alike, enter-behind}
 
 -- ---- what building gives, whatever the memory held
 

@@ -9,7 +9,7 @@ use lib.Seq.{length-take-le, take-append-le, drop-append-le, take-at, drop-at, g
 use Rattle.paper.specs.declared.points.Measure.{Measure}
 use Rattle.paper.specs.Points.{measureOf, distance, Claim, point}
 use Rattle.paper.specs.Tree.{apart, referenceAt, claimsFrom}
-use Rattle.tree.proofs.Places.{before-next}
+use Rattle.tree.proofs.PointsInMemory.{before-next}
 
 -- ---- distances
 

@@ -11,7 +11,7 @@ use mathlib.Core.Bool.{Bool, true, false, cond}
 use borrow.Author.Tests.{leb-true, leb-false}
 use lib.Seq.{getD-set-same}
 use Rattle.paper.specs.Tree.{Grown, grown, fieldAt, putField, sideClaim, newNode, nearSide, raise, enteredFrom, entered}
-use Rattle.tree.specs.Rooms.{Inside, Linked, Under, here, deeper, Holds, Neartree}
+use Rattle.tree.specs.BuiltNodes.{Inside, Linked, Under, here, deeper, Holds, Neartree}
 use Rattle.tree.proofs.OneEntering.{other, still-linked, raise-length, side-small, entered-stop, entered-new, entered-down}
 use Rattle.tree.proofs.Stores.{NodesGrow, grows-trans, grows-put, fresh-length, fresh-left, fresh-rest, fresh-small, grows-fresh}
 use Rattle.tree.proofs.Links.{linked-right, linked-new}

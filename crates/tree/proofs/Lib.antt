@@ -4,10 +4,10 @@ pub mod OneEntering
 pub mod Stores
 pub mod Links
 pub mod Keeping
-pub mod RoomsInUse
+pub mod NodesInUse
 pub mod Building
 pub mod SameDistances
-pub mod Places
+pub mod PointsInMemory
 pub mod Front
 pub mod TestedTables
 pub mod ClaimsInMemory

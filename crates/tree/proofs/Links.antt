@@ -8,7 +8,7 @@ use native.Mathlib.Nat.{eq-or-lt-of-le}
 use lib.ListN.{length, length-set}
 use lib.Dec.{lit<}
 use Rattle.paper.specs.Tree.{fieldAt, putField, newNode}
-use Rattle.tree.specs.Rooms.{Inside, RoomOk, Linked}
+use Rattle.tree.specs.BuiltNodes.{Inside, NodeOk, Linked}
 use Rattle.tree.proofs.OneEntering.{other}
 use Rattle.tree.proofs.Stores.{put-cases, fresh-other, fresh-left, fresh-rest, fresh-small}
 
@@ -37,7 +37,7 @@ linked-new nodes used k m s hm hs room lk w hw = ⊎-elim at-new at-old (eq-or-l
     in-nodes₂ : Inside nodes₂ used
     in-nodes₂ = simp length-set (omega arith)
 
-    at-new : w ≡ used → RoomOk (newNode nodes₂ used k) (used + 1) (k + 1) w
+    at-new : w ≡ used → NodeOk (newNode nodes₂ used k) (used + 1) (k + 1) w
     at-new e = rw e (record {
       left = let p = fresh-left nodes₂ used k in-nodes₂ in omega arith;
       stored = λ z hz. fresh-small nodes₂ used k z in-nodes₂ (omega arith);
@@ -45,7 +45,7 @@ linked-new nodes used k m s hm hs room lk w hw = ⊎-elim at-new at-old (eq-or-l
       leads = λ z hz. let p = fresh-rest nodes₂ used k (4 + z) in-nodes₂ (omega arith) (omega arith) in omega arith;
     })
 
-    at-old : w < used → RoomOk (newNode nodes₂ used k) (used + 1) (k + 1) w
+    at-old : w < used → NodeOk (newNode nodes₂ used k) (used + 1) (k + 1) w
     at-old h =
         let keep : (g : ℕ) → g < 6 → (4 + s ≡ g → ⊥) → fieldAt (newNode nodes₂ used k) w g ≡ fieldAt nodes w g =
         λ g hg ne. fresh-other nodes₂ used k w g (λ q. omega arith) hg ∙ other nodes m (4 + s) (used + 1) w g (omega arith) hg ne in

@@ -9,7 +9,7 @@ use mathlib.Core.Bool.{Bool, true, false, cond}
 use lib.Seq.{getD-set-other}
 use borrow.Author.Tests.{le-leb, lt-leb, eq-eqb, ne-eqb}
 use Rattle.paper.specs.Tree.{grown, fieldAt, putField, sideClaim, newNode, nearSide, raise, enteredFrom, entered}
-use Rattle.tree.specs.Rooms.{Linked, HasClaim}
+use Rattle.tree.specs.BuiltNodes.{Linked, HasClaim}
 
 -- ---- a field stored, and a far distance raised
 

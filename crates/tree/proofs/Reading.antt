@@ -5,7 +5,7 @@ use mathlib.Core.Logic.{_⊎_, inl, inr}
 use mathlib.Core.List.{List}
 use native.Mathlib.Omega.{arith}
 use Rattle.paper.specs.Tree.{fieldAt}
-use Rattle.tree.specs.Rooms.{Linked, Under, here, deeper, Holds, Searchable}
+use Rattle.tree.specs.BuiltNodes.{Linked, Under, here, deeper, Holds, Searchable}
 
 module _ (nodes : List ℕ) (e : ℕ → ℕ → ℕ) (m s : ℕ) where
   pub not-free : (j : ℕ) → Under nodes e m s j → fieldAt nodes m s ≡ 0 → ⊥

@@ -6,7 +6,7 @@ use native.Mathlib.Omega.{arith}
 use lib.ListN.{length}
 use lib.Dec.{lit<}
 use Rattle.paper.specs.Tree.{Grown, fieldAt, sideClaim, nearSide, raise, enteredFrom, entered, built}
-use Rattle.tree.specs.Rooms.{Linked}
+use Rattle.tree.specs.BuiltNodes.{Linked}
 use Rattle.tree.proofs.OneEntering.{still-linked, side-small, entered-stop, entered-new, entered-down}
 use Rattle.tree.proofs.Building.{build}
 

@@ -10,7 +10,7 @@ use native.Mathlib.Decide.{ℕ-discrete}
 use lib.ListN.{length, getD, length-set}
 use lib.Seq.{getD-set-same, getD-set-other}
 use Rattle.paper.specs.Tree.{fieldAt, putField, cleared, newNode}
-use Rattle.tree.specs.Rooms.{Inside}
+use Rattle.tree.specs.BuiltNodes.{Inside}
 
 -- ---- nodes that only grow
 

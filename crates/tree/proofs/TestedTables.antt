@@ -12,10 +12,10 @@ use lib.Dec.{leb, eqb}
 use borrow.Author.Tests.{leb-true, eqb-true, le-leb, lt-leb, eq-eqb, ne-eqb}
 use Rattle.paper.specs.declared.tables.Table.{Table}
 use Rattle.paper.specs.Tree.{Grown, grown, entered, built, Store, apart, apartIn, fits, sameFront, afresh, sound}
-use Rattle.tree.specs.Rooms.{Neartree, Located, Enterable, IsBuilt}
+use Rattle.tree.specs.BuiltNodes.{Neartree, Located, Enterable, IsBuilt}
 use Rattle.tree.specs.Soundness.{MemoryHolds, Fit, Good}
 use Rattle.tree.proofs.Building.{BuiltOver, build, build-alike, same-list, grown-eq}
-use Rattle.tree.proofs.RoomsInUse.{SameInUse}
+use Rattle.tree.proofs.NodesInUse.{SameInUse}
 use Rattle.paper.proofs.Tests.{and-first, and-second}
 use Rattle.tree.proofs.Front.{front-at, front-all, front-ext, agree-at}
 use Rattle.paper.specs.Points.{inRange}

@@ -1,2 +1,2 @@
-pub mod Rooms
+pub mod BuiltNodes
 pub mod Soundness

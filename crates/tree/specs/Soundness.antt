@@ -4,7 +4,7 @@ use lib.ListN.{length}
 use Rattle.paper.specs.declared.tables.Table.{Table}
 use Rattle.paper.specs.Points.{InRange}
 use Rattle.paper.specs.Tree.{Store, apartIn}
-use Rattle.tree.specs.Rooms.{IsBuilt}
+use Rattle.tree.specs.BuiltNodes.{IsBuilt}
 use Rattle.paper.specs.Limits.{mostClaims, mostCoordinates}
 
 -- [3.2] the lent memory holds what a table's nodes and its claims' points need: so many coordinates, and so many numbers of nodes

@@ -2,7 +2,7 @@
 ghost use mathlib.Core.Path.{_≡_};
 ghost use Prim.Native.Nat.{_+_, _<_, max};
 ghost use Rattle.paper.specs.Tree.{fieldAt, putField, sideClaim, nearSide, entered, apart};
-ghost use Rattle.tree.specs.Rooms.{Inside, HasClaim, Located, Enterable};
+ghost use Rattle.tree.specs.BuiltNodes.{Inside, HasClaim, Located, Enterable};
 use super::nodes::field;
 use super::nodes::make;
 use super::nodes::store;

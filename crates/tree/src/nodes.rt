@@ -3,7 +3,7 @@
 ghost use mathlib.Core.Path.{_≡_};
 ghost use Prim.Native.Nat.{_+_, _<_, _^_};
 ghost use Rattle.paper.specs.Tree.{fieldAt, putField, newNode};
-ghost use Rattle.tree.specs.Rooms.{Inside};
+ghost use Rattle.tree.specs.BuiltNodes.{Inside};
 
 // Field f of node m.
 pub fn field(nodes: &[u64], m: usize, f: usize) -> u64

@@ -4,7 +4,7 @@ ghost use Prim.Native.Nat.{ℕ, _*_, _≤_};
 ghost use mathlib.Core.List.{List};
 ghost use lib.ListN.{length};
 ghost use Rattle.paper.specs.Tree.{lent, grown, built, apart, store, fits, sameFront, sound};
-ghost use Rattle.tree.specs.Rooms.{Located};
+ghost use Rattle.tree.specs.BuiltNodes.{Located};
 ghost use Rattle.tree.specs.Soundness.{MemoryHolds};
 ghost use Rattle.paper.specs.Limits.{mostClaims};
 use super::entering::enter;

@@ -20,12 +20,12 @@ use Rattle.paper.specs.declared.orders.Place.the-variants.{Start, After}
 use Rattle.paper.specs.declared.points.Measure.{Measure}
 use Rattle.paper.specs.declared.tables.Table.{Table}
 use Rattle.paper.specs.Points.{measureOf, greatestOf, Claim}
-use Rattle.paper.specs.Orders.{Item, Query, startMark, itemOf, listed, follows, snapshotOf, following, pageOf, lastOf, told, firstOf, nearestOf, farthestOf, markHolds, flat, fronted}
+use Rattle.paper.specs.Orders.{Item, Query, startMark, itemOf, listed, follows, snapshotOf, following, pageOf, lastOf, foundIn, firstOf, nearestOf, farthestOf, markHolds, flat, fronted}
 use Rattle.paper.specs.Tree.{Store, claimsFrom, claimsIn}
 use Rattle.paper.specs.Calls.{tableQuery}
 use Rattle.tree.specs.Soundness.{Good}
 use Rattle.tree.proofs.TestedTables.{lent-located, good-tree}
-use Rattle.tree.proofs.Places.{located-at, claims-length}
+use Rattle.tree.proofs.PointsInMemory.{located-at, claims-length}
 use Rattle.walk_keep.specs.declared.Asked.{Asked}
 use Rattle.walk_keep.specs.Skips.{admitted}
 use Rattle.walk.specs.Walking.{distOf, distBy, InSight, PageAsk, AskFilled}
@@ -114,29 +114,29 @@ module _ (s : Store) (order : Order) (probe : List ℤ) (reach : ℕ) where
       rw (claims-length (s .table .d) (s .table .count) (s .references) (s .coordinates), rest-start order L)
 
   module _ (o o' : List ℕ) (r : ℕ) (h : Fills (pageOf Q (claimsIn s) Start 1) o o' r) where
-    pub first-none : r ≡ 0 → told Nothing ≡ firstOf L
-    unfolding told firstOf
+    pub first-none : r ≡ 0 → foundIn Nothing ≡ firstOf L
+    unfolding foundIn firstOf
     first-none z = go L (sym z ∙ h .counts ∙ ap length (start-page 1))
       where
-        go : (l : List Item) → 0 ≡ length (take 1 l) → told Nothing ≡ firstOf l
+        go : (l : List Item) → 0 ≡ length (take 1 l) → foundIn Nothing ≡ firstOf l
         go [] e = refl
         go (a ∷ l) e = absurd (omega arith)
 
-    pub first-some : (r ≡ 0 → ⊥) → told (AnItem (getD o' 0 0) (getD o' 1 0) (getD o' 2 0)) ≡ firstOf L
-    unfolding told firstOf fronted flat
+    pub first-some : (r ≡ 0 → ⊥) → foundIn (AnItem (getD o' 0 0) (getD o' 1 0) (getD o' 2 0)) ≡ firstOf L
+    unfolding foundIn firstOf fronted flat
     first-some some = go L (h .counts ∙ ap length (start-page 1)) (h .room ∙ ap (λ (l : List Item). fronted l o) (start-page 1))
       where
-        go : (l : List Item) → r ≡ length (take 1 l) → o' ≡ fronted (take 1 l) o → told (AnItem (getD o' 0 0) (getD o' 1 0) (getD o' 2 0)) ≡ firstOf l
+        go : (l : List Item) → r ≡ length (take 1 l) → o' ≡ fronted (take 1 l) o → foundIn (AnItem (getD o' 0 0) (getD o' 1 0) (getD o' 2 0)) ≡ firstOf l
         go [] e f = absurd (some e)
         go (a ∷ l) e f = rw f
 
 module _ (s : Store) (probe : List ℤ) (r : Answer) where
-  pub nearest-is : (reach : ℕ) → told r ≡ firstOf (L s Near probe reach) → told r ≡ nearestOf (tableQuery (s .table) Near probe reach) (claimsIn s)
+  pub nearest-is : (reach : ℕ) → foundIn r ≡ firstOf (L s Near probe reach) → foundIn r ≡ nearestOf (tableQuery (s .table) Near probe reach) (claimsIn s)
   unfolding nearestOf
   nearest-is reach h = rw (claims-length (s .table .d) (s .table .count) (s .references) (s .coordinates)) h
 
   pub farthest-is : (m : Measure) (greatest : ℕ) → m ≡ measureOf (s .table .measure) → greatest ≡ greatestOf m (s .table .d)
-      → told r ≡ firstOf (L s Far probe greatest) → told r ≡ farthestOf (tableQuery (s .table) Near probe 0) (claimsIn s)
+      → foundIn r ≡ firstOf (L s Far probe greatest) → foundIn r ≡ farthestOf (tableQuery (s .table) Near probe 0) (claimsIn s)
   unfolding farthestOf
   farthest-is m greatest pm pg h = rw (claims-length (s .table .d) (s .table .count) (s .references) (s .coordinates), ← pm, ← pg) h
 

@@ -20,11 +20,11 @@ use Rattle.paper.specs.Orders.{Item, Query, rank, earlier, itemOf, listed, foll
 use Rattle.paper.specs.Orders.{insert as put}
 use Rattle.paper.specs.Tree.{claimsFrom, referenceAt}
 use Rattle.paper.specs.Calls.{tableQuery}
-use Rattle.tree.proofs.Places.{claims-length}
+use Rattle.tree.proofs.PointsInMemory.{claims-length}
 use Rattle.walk_keep.specs.Page.{ranks, sooner, insertBy, sortedOf, firstSorted, items, Filled}
 use Rattle.walk_keep.specs.Kept.{key, RisingClaims, none, more}
 use Rattle.walk_keep.proofs.Keeping.{sooner-true, sooner-false, key-sooner, key-differs, scan-rising}
-use Rattle.walk_keep.proofs.ItemPlace.{before-ranks}
+use Rattle.walk_keep.proofs.ItemPosition.{before-ranks}
 use Rattle.walk.specs.Walking.{distOf}
 use Rattle.walk.specs.Asking.{Fills}
 use Rattle.orders.proofs.Sorted.{rest-insert}

@@ -10,8 +10,8 @@ use lib.ListN.{length, take}
 use lib.Seq.{take-nil}
 use Rattle.paper.specs.Orders.{rank}
 use Rattle.paper.specs.Tree.{fieldAt, referenceAt}
-use Rattle.tree.proofs.Places.{located-at}
-use Rattle.tree.specs.Rooms.{Linked, Under, here, deeper, Holds, Searchable}
+use Rattle.tree.proofs.PointsInMemory.{located-at}
+use Rattle.tree.specs.BuiltNodes.{Linked, Under, here, deeper, Holds, Searchable}
 use Rattle.walk_keep.specs.declared.Asked.{Asked}
 use Rattle.walk_keep.specs.Page.{items, sortedOf, firstSorted}
 use Rattle.walk_keep.specs.Kept.{none, PageRoomy, KeepIs}

@@ -8,7 +8,7 @@ use native.Mathlib.Omega.{arith}
 use native.Mathlib.Nat.{le-trans}
 use Rattle.paper.specs.Orders.{rank}
 use Rattle.paper.specs.Tree.{fieldAt, referenceAt}
-use Rattle.tree.specs.Rooms.{Holds}
+use Rattle.tree.specs.BuiltNodes.{Holds}
 use Rattle.walk_keep.specs.declared.Asked.{Asked}
 use Rattle.walk_keep.specs.Skips.{capOf, boundOf, beyondOf, passedOf}
 use Rattle.walk_keep.proofs.Walks.{walked-still, walked-then, walked-fewer, beyond-wanted}

@@ -13,7 +13,7 @@ use Rattle.paper.specs.declared.tables.Table.{Table}
 use Rattle.paper.specs.Points.{Claim}
 use Rattle.paper.specs.Orders.{Item, Query, startMark, snapshotOf, following, pageOf, lastOf, fronted}
 use Rattle.paper.specs.Tree.{Store, apartIn}
-use Rattle.tree.specs.Rooms.{Neartree, Located}
+use Rattle.tree.specs.BuiltNodes.{Neartree, Located}
 use Rattle.walk_keep.specs.declared.Asked.{Asked}
 
 -- [4.4] [4.5] the question as the walk asks it: at the start its snapshot is the count, and it has no mark

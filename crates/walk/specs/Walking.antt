@@ -7,7 +7,7 @@ use lib.IntN.{ℤ}
 use lib.ListN.{length, drop}
 use Rattle.paper.specs.Points.{measureOf, distance}
 use Rattle.paper.specs.Tree.{fieldAt, apart, referenceAt}
-use Rattle.tree.specs.Rooms.{Inside, Holds, Searchable, Neartree, Located}
+use Rattle.tree.specs.BuiltNodes.{Inside, Holds, Searchable, Neartree, Located}
 use Rattle.walk_keep.specs.declared.Asked.{Asked}
 use Rattle.walk_keep.specs.Page.{ranks, Filled}
 use Rattle.walk_keep.specs.Kept.{PageRoomy, Walked}

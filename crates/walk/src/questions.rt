@@ -4,7 +4,7 @@ ghost use Prim.Native.Nat.{ℕ};
 ghost use mathlib.Core.List.{List};
 ghost use Rattle.paper.specs.declared.orders.Order.{Order};
 ghost use Rattle.paper.specs.declared.orders.Order.the-variants.{Near, Far};
-ghost use Rattle.paper.specs.Orders.{told, listed, pageOf, firstOf, nearestOf, farthestOf, markHolds};
+ghost use Rattle.paper.specs.Orders.{foundIn, listed, pageOf, firstOf, nearestOf, farthestOf, markHolds};
 ghost use Rattle.paper.specs.Tree.{lent, claimsFrom, claimsIn};
 ghost use Rattle.paper.specs.Calls.{tableQuery};
 ghost use Rattle.walk.specs.Asking.{askedOf, Answerable, Pageable, Markable, Fills, PageIs};
@@ -119,7 +119,7 @@ fn first(
     reach: u64,
 ) -> Found
     requires { ⌜ Answerable (lent t references coordinates nodes) (now probe) ⌝ }
-    ensures { λ r. ⌜ told r ≡ firstOf (listed (tableQuery t order (now (probe .entry)) reach) (claimsIn (lent t (references .entry) (coordinates .entry) (nodes .entry))) (t .count)) ⌝ }
+    ensures { λ r. ⌜ foundIn r ≡ firstOf (listed (tableQuery t order (now (probe .entry)) reach) (claimsIn (lent t (references .entry) (coordinates .entry) (nodes .entry))) (t .count)) ⌝ }
 {
     let mut room = [0u64; 3];
     let start = Place::Start;
@@ -151,7 +151,7 @@ pub fn nearest(
     reach: u64,
 ) -> Found
     requires { ⌜ Answerable (lent t references coordinates nodes) (now probe) ⌝ }
-    ensures { λ r. ⌜ told r ≡ nearestOf (tableQuery t Near (now (probe .entry)) reach) (claimsIn (lent t (references .entry) (coordinates .entry) (nodes .entry))) ⌝ }
+    ensures { λ r. ⌜ foundIn r ≡ nearestOf (tableQuery t Near (now (probe .entry)) reach) (claimsIn (lent t (references .entry) (coordinates .entry) (nodes .entry))) ⌝ }
 {
     let near = Order::Near;
     first(t, references, coordinates, nodes, near, probe, reach)
@@ -166,7 +166,7 @@ pub fn farthest(
     probe: &[i32],
 ) -> Found
     requires { ⌜ Answerable (lent t references coordinates nodes) (now probe) ⌝ }
-    ensures { λ r. ⌜ told r ≡ farthestOf (tableQuery t Near (now (probe .entry)) 0) (claimsIn (lent t (references .entry) (coordinates .entry) (nodes .entry))) ⌝ }
+    ensures { λ r. ⌜ foundIn r ≡ farthestOf (tableQuery t Near (now (probe .entry)) 0) (claimsIn (lent t (references .entry) (coordinates .entry) (nodes .entry))) ⌝ }
 {
     let far = Order::Far;
     let greatest = Measure::numbered(t.measure).greatest(t.d as u64);

@@ -1,6 +1,6 @@
 // One walk for every order and every question. It keeps the first so many claims, in order, in the front of the caller's room.
 ghost use mathlib.Core.Path.{_≡_};
-ghost use Rattle.tree.specs.Rooms.{Holds};
+ghost use Rattle.tree.specs.BuiltNodes.{Holds};
 ghost use Rattle.walk.specs.Walking.{distOf, distBy, InSight, apartBy, wayDown, WayAsk, InOrBelow, AskWalked, Stepped, StepAsk, NodeAsk, SideAsk, PageAsk, AskFilled};
 use tree::nodes::field;
 use tree::rows::reference;

@@ -15,10 +15,10 @@ use Rattle.walk_keep.specs.Skips.{admitted, capOf, boundOf, halfOf, beyo
 
 -- ---- whether a claim is admitted
 
--- a test by what it tells
-tells : (a b : ℕ) (u : Bool) → cond u (a < b) (b ≤ a) → u ≡ ltb a b
-tells a b true h = sym (lt-ltb a b h)
-tells a b false h = sym (le-ltb a b h)
+-- a test by what it test-is
+test-is : (a b : ℕ) (u : Bool) → cond u (a < b) (b ≤ a) → u ≡ ltb a b
+test-is a b true h = sym (lt-ltb a b h)
+test-is a b false h = sym (le-ltb a b h)
 
 module _ (ask : Asked) (x k : ℕ) where
   pub late : ask .snapshot ≤ k → false ≡ admitted ask x k
@@ -66,18 +66,18 @@ module _ (o : Order) (bound x y s : ℕ) where
 
   pub beyond-near : (far : ℕ) (u : Bool) → cond u (bound + far < x) (x ≤ bound + far) → u ≡ true → true ≡ beyondOf o bound x y s far
   unfolding beyondOf
-  beyond-near far u p q = rw (← tells (bound + far) x u p, q)
+  beyond-near far u p q = rw (← test-is (bound + far) x u p, q)
 
   pub beyond-half : (far : ℕ) (u r : Bool) → cond u (bound + far < x) (x ≤ bound + far) → u ≡ false → r ≡ halfOf o bound x y s → r ≡ beyondOf o bound x y s far
   unfolding beyondOf
-  beyond-half far u r p q h = rw (← tells (bound + far) x u p, q) h
+  beyond-half far u r p q h = rw (← test-is (bound + far) x u p, q) h
 
 -- ---- the mark, and the rank still wanted
 
 module _ (ask : Asked) where
   pub passed-mark : (x far m : ℕ) (r : Bool) → ask .after ≡ true → m ≡ rank (ask .order) (ask .mark .distance) → cond r (x + far < m) (m ≤ x + far) → r ≡ passedOf ask x far
   unfolding passedOf
-  passed-mark x far m r a p q = rw (a, ← p) (tells (x + far) m r q)
+  passed-mark x far m r a p q = rw (a, ← p) (test-is (x + far) m r q)
 
   pub passed-none : (x far : ℕ) → ask .after ≡ false → false ≡ passedOf ask x far
   unfolding passedOf

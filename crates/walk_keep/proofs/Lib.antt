@@ -1,6 +1,6 @@
 pub mod Keeping
 pub mod Moving
-pub mod ItemPlace
-pub mod Placing
+pub mod ItemPosition
+pub mod Positions
 pub mod Walks
 pub mod Leaves

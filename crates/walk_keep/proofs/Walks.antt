@@ -14,7 +14,7 @@ use Rattle.walk_keep.specs.Page.{ranks}
 use Rattle.walk_keep.specs.Kept.{Covered, Holding, Walked, KeepIs}
 use Rattle.paper.proofs.Tests.{no-way}
 use Rattle.walk_keep.proofs.Keeping.{still, one, then, fewer, rising-few, rising-past, rising-last, rising-at}
-use Rattle.walk_keep.proofs.ItemPlace.{item-at}
+use Rattle.walk_keep.proofs.ItemPosition.{item-at}
 
 module _ (order : Order) (ref dist : ℕ → ℕ) (ok : ℕ → Bool) (n size : ℕ) where
   pub walked-still : (C : ℕ → Type 0) (o : List ℕ) (count : ℕ) → count ≤ size

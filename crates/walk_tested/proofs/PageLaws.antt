@@ -20,7 +20,7 @@ use Rattle.paper.specs.Ends.{sizeHolds}
 use Rattle.paper.specs.Calls.{tableQuery, tableRefusal, ThePage, thePage, pageCall, pageShown, putPage}
 use Rattle.paper.proofs.Tests.{and-first}
 use Rattle.paper.proofs.Outcomes.{must-stop, must-go, number-0, number-is, promise-refused, promise-given}
-use Rattle.tree.proofs.Places.{claims-length}
+use Rattle.tree.proofs.PointsInMemory.{claims-length}
 use Rattle.walk.specs.Asking.{Answerable, Pageable, Markable, PageIs}
 use Rattle.walk.proofs.Answers.{good-measurable, good-answerable}
 use Rattle.walk_tested.specs.Askable.{Askable}
@@ -108,26 +108,26 @@ module _ (order : Order) (s : Store) (probe : List ℤ) (reach : ℕ) (place : P
   abbrev there : Outcome ThePage
   there = pageCall s order probe reach place size (length room)
 
-  -- a refusal as the call tells it
-  pub page-tells : (n : ℕ) → there ≡ refused n → Promise pageShown putPage there room (Pages.the-variants.Refused n) room
-  page-tells n e = promise-refused pageShown putPage there room n (Pages.the-variants.Refused n) e refl
+  -- a refusal as the call shows it
+  pub page-refusal : (n : ℕ) → there ≡ refused n → Promise pageShown putPage there room (Pages.the-variants.Refused n) room
+  page-refusal n e = promise-refused pageShown putPage there room n (Pages.the-variants.Refused n) e refl
 
   module _ (k : Askable s (length probe) size) (n : ℕ) (ne : n ≡ number there) where
     pub page-refuses : (n ≡ 0 → ⊥) → Promise pageShown putPage there room (Pages.the-variants.Refused n) room
-    page-refuses h = page-tells n (number-is there n ne h)
+    page-refuses h = page-refusal n (number-is there n ne h)
 
     module _ (z : n ≡ 0) where
-      told-0 : number (from-7 order s probe reach place size (length room)) ≡ 0
-      told-0 = sym (ap number (past-6 order s probe reach place size (length room) k)) ∙ sym ne ∙ z
+      number-at-7 : number (from-7 order s probe reach place size (length room)) ≡ 0
+      number-at-7 = sym (ap number (past-6 order s probe reach place size (length room) k)) ∙ sym ne ∙ z
 
       stored : snapshotHolds (claimsIn s) place ≡ true
-      stored = number-0 (snapshotHolds (claimsIn s) place) 6 (from-8 order s probe reach place size (length room)) told-0 .0
+      stored = number-0 (snapshotHolds (claimsIn s) place) 6 (from-8 order s probe reach place size (length room)) number-at-7 .0
 
-      told-8 : number (from-8 order s probe reach place size (length room)) ≡ 0
-      told-8 = number-0 (snapshotHolds (claimsIn s) place) 6 (from-8 order s probe reach place size (length room)) told-0 .1
+      number-at-8 : number (from-8 order s probe reach place size (length room)) ≡ 0
+      number-at-8 = number-0 (snapshotHolds (claimsIn s) place) 6 (from-8 order s probe reach place size (length room)) number-at-7 .1
 
       marked : (markHolds (tableQuery (s .table) order probe reach) (claimsIn s) place ≡ true) × (number (from-12 order s probe reach place size (length room)) ≡ 0)
-      marked = number-0 (markHolds (tableQuery (s .table) order probe reach) (claimsIn s) place) 7 (from-12 order s probe reach place size (length room)) told-8
+      marked = number-0 (markHolds (tableQuery (s .table) order probe reach) (claimsIn s) place) 7 (from-12 order s probe reach place size (length room)) number-at-8
 
       long : leb (size * 3) (length room) ≡ true
       long = number-0 (leb (size * 3) (length room)) 11 (gives (thePage (tableQuery (s .table) order probe reach) s place size)) (marked .1) .0

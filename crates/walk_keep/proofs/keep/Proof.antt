@@ -1,5 +1,5 @@
 -- `keep::keep` meets its contract. Assumes nothing.
-use Rattle.walk_keep.proofs.Placing.{keep-full, keep-same, keep-more, keep-over}
+use Rattle.walk_keep.proofs.Positions.{keep-full, keep-same, keep-more, keep-over}
 use borrow.Author.Needs.{needs}
 use Rattle.walk_keep.proofs.keep.Statement.{statement}
 use Rattle.walk_keep.proofs.keep.Tie as tie

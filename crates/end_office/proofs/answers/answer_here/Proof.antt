@@ -5,7 +5,7 @@ use mathlib.Core.Path.{sym}
 use lib.ListN.{length}
 use lib.Seq.{length-take-le}
 use Rattle.paper.specs.Tree.{store}
-use Rattle.end_office.proofs.Telling.{markable}
+use Rattle.end_office.proofs.PageLines.{markable}
 use Rattle.end_office.proofs.AnswerToAsk.{stored-at, here-7, here-stored, here-8, here-page}
 use borrow.Author.Needs.{needs}
 use Rattle.end_office.proofs.answers.answer_here.Statement.{statement}
@@ -50,8 +50,8 @@ returns-2 c =
     _ (c .before .before .before .before .before .before .before .before .before .before .pre) _ _ (c .before .before .before .before .before .before .place-of .ensures)
     (c .before .mark-holds .ensures (a .q .order) (a .references .now)) (c .before .before .before .before .if1 .left) _ (c .if2 .taken)
 
-tell-page-requires : tie.Need-tell-page-requires
-tell-page-requires c κs =
+write-page-requires : tie.Need-write-page-requires
+write-page-requires c κs =
     let a = c .before .before .before .before .before .before .before .before .before .before .before .args in
     let s = store (a .t) (a .references .now) (a .coordinates .now) (a .nodes .now) in
     let holds = stored-at (a .p) (a .t .count) _ _ (c .before .before .before .before .before .before .before .place-of .ensures) (c .before .before .before .before .before .before .snapshot-holds .ensures) in
@@ -66,7 +66,7 @@ returns-3 c =
     let holds = stored-at (a .p) (a .t .count) _ _ (c .before .before .before .before .before .before .before .before .before .before .place-of .ensures) (c .before .before .before .before .before .before .before .before .before .snapshot-holds .ensures) in
     here-page (store (a .t) (a .references .now) (a .coordinates .now) (a .nodes .now)) (a .q) (a .p) (a .size) _ holds
     _ (c .before .before .before .before .before .before .before .before .before .before .before .before .before .before .pre) _ _ (c .before .before .before .before .before .before .before .before .before .before .place-of .ensures)
-    (c .before .before .before .before .before .mark-holds .ensures (a .q .order) (a .references .now)) (c .before .before .before .before .before .before .before .before .if1 .left) _ _ _ (c .before .before .before .before .if2 .left) (c .before .before .tell-page .ensures)
+    (c .before .before .before .before .before .mark-holds .ensures (a .q .order) (a .references .now)) (c .before .before .before .before .before .before .before .before .if1 .left) _ _ _ (c .before .before .before .before .if2 .left) (c .before .before .write-page .ensures)
 
 pub answer-here-spec : {M : Type 1} → statement M
 answer-here-spec =
@@ -79,6 +79,6 @@ answer-here-spec =
     slice-aggregate-mark-holds
     mark-holds-requires
     returns-2
-    tell-page-requires
+    write-page-requires
     same-length
     returns-3)

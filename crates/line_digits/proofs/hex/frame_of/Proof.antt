@@ -12,7 +12,7 @@ use borrow.Author.Tests.{ltb-true, not-true, not-false}
 use Rattle.paper.specs.Limits.{longestAnswer}
 use Rattle.paper.specs.Frames.{frameOf, pairsEnded, isLine}
 use Rattle.paper.proofs.Tests.{and-first}
-use Rattle.line_digits.specs.Places.{Framed}
+use Rattle.line_digits.specs.FrameBytes.{Framed}
 use Rattle.line_digits.proofs.LinesAndFrames.{length-frame, sound-size}
 use Rattle.line_digits.proofs.NumbersAndFrames.{held-all}
 use Rattle.line_digits.proofs.hex.frame_of.Statement.{statement}

@@ -8,7 +8,7 @@ use lib.ListN.{getD, drop}
 use lib.Seq.{getD-drop}
 use borrow.Author.Needs.{needs}
 use Rattle.paper.specs.Frames.{num}
-use Rattle.line_digits.specs.Places.{frameIn}
+use Rattle.line_digits.specs.FrameBytes.{frameIn}
 use Rattle.line_digits.proofs.numbers.number.Statement.{statement}
 use Rattle.line_digits.proofs.numbers.number.Tie as tie
 

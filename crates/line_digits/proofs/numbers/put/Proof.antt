@@ -5,7 +5,7 @@ use mathlib.Core.List.{List}
 use lib.ListN.{length, set, length-set}
 use borrow.Author.Needs.{needs}
 use Rattle.paper.specs.Frames.{be, glyph}
-use Rattle.line_digits.specs.Places.{overlaid}
+use Rattle.line_digits.specs.FrameBytes.{overlaid}
 use Rattle.line_digits.proofs.WritingOver.{over-nil, over-last}
 use Rattle.line_digits.proofs.NumbersAndFrames.{length-be}
 use Rattle.line_digits.proofs.numbers.put.Statement.{statement}

@@ -1,6 +1,6 @@
 use mathlib.Core.Path.{refl}
 use Rattle.paper.specs.Frames.{}
-use Rattle.line_digits.specs.Places.{frameIn}
+use Rattle.line_digits.specs.FrameBytes.{frameIn}
 use Rattle.line_digits.proofs.numbers.size.Statement.{statement}
 use Rattle.line_digits.proofs.numbers.size.Tie as tie
 

@@ -5,7 +5,7 @@ use mathlib.Core.List.{_++_}
 use lib.ListN.{drop, replicate}
 use lib.Seq.{drop-drop}
 use Rattle.paper.specs.Frames.{num}
-use Rattle.line_digits.specs.Places.{frameIn}
+use Rattle.line_digits.specs.FrameBytes.{frameIn}
 use Rattle.line_digits.proofs.NumbersAndFrames.{held-le}
 use Rattle.paper.specs.Fields.{itemNumbers, itemSlots}
 use Rattle.line_fields.proofs.ItemLaws.{slots-step}

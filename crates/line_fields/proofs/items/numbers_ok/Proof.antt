@@ -7,7 +7,7 @@ use lib.ListN.{drop}
 use lib.Seq.{drop-drop}
 use Rattle.paper.specs.Frames.{num}
 use Rattle.paper.specs.Fields.{itemNumbers, numbersOk}
-use Rattle.line_digits.specs.Places.{frameIn}
+use Rattle.line_digits.specs.FrameBytes.{frameIn}
 use Rattle.line_digits.proofs.NumbersAndFrames.{held-le}
 use Rattle.line_fields.proofs.ItemLaws.{number-more, number-bad}
 use borrow.Author.Needs.{needs}

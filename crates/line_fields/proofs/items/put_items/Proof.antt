@@ -4,7 +4,7 @@ use native.Mathlib.Nat.{add-zero}
 use mathlib.Core.Path.{_≡_, refl, sym, ap, _∙_}
 use mathlib.Core.List.{List}
 use lib.ListN.{length, drop, drop-of-length-le}
-use Rattle.line_digits.specs.Places.{overlaid}
+use Rattle.line_digits.specs.FrameBytes.{overlaid}
 use Rattle.line_digits.proofs.WritingOver.{over-nil}
 use Rattle.paper.specs.Fields.{itemBytes}
 use Rattle.line_fields.proofs.ItemLaws.{item-step}

@@ -10,7 +10,7 @@ use mir.Val.{ofZ, toZ}
 use mir.Facts.{toZ-ofZ}
 use borrow.Author.Needs.{needs}
 use Rattle.paper.specs.Frames.{num}
-use Rattle.line_digits.specs.Places.{frameIn}
+use Rattle.line_digits.specs.FrameBytes.{frameIn}
 use Rattle.line_digits.proofs.NumbersAndFrames.{held-le}
 use Rattle.paper.specs.Fields.{coordsIn, inSlots}
 use Rattle.line_fields.proofs.PartLaws.{place-step}

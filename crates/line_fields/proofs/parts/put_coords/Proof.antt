@@ -10,7 +10,7 @@ use mir.Val.{ofZ}
 use mir.Facts.{toZ-ofZ}
 use borrow.Author.Needs.{needs}
 use Rattle.paper.specs.Frames.{be}
-use Rattle.line_digits.specs.Places.{overlaid}
+use Rattle.line_digits.specs.FrameBytes.{overlaid}
 use Rattle.line_digits.proofs.WritingOver.{over-nil}
 use Rattle.paper.specs.Fields.{coordBytes}
 use Rattle.line_fields.proofs.PartLaws.{coord-step}

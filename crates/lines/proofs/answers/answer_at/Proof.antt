@@ -6,7 +6,7 @@ use lib.ListN.{drop}
 use Rattle.paper.specs.declared.queries.Query as queries
 use Rattle.paper.specs.Frames.{num}
 use Rattle.paper.specs.Lines.{queryAt, countIn}
-use Rattle.line_digits.specs.Places.{frameIn}
+use Rattle.line_digits.specs.FrameBytes.{frameIn}
 use Rattle.lines.proofs.AnswerTests.{is-answer, answer-begun, answer-value, count-at}
 use borrow.Author.Needs.{needs}
 use Rattle.lines.proofs.answers.answer_at.Statement.{statement}

@@ -7,7 +7,7 @@ use lib.Seq.{length-take-le}
 use Rattle.paper.specs.Orders.{queryIn}
 use Rattle.paper.specs.Fields.{front}
 use Rattle.paper.specs.Lines.{answerKind, answerFrame}
-use Rattle.line_digits.specs.Places.{overlaid}
+use Rattle.line_digits.specs.FrameBytes.{overlaid}
 use Rattle.line_digits.proofs.LinesAndFrames.{length-line}
 use Rattle.line_fields.proofs.PartLaws.{over-to, length-front}
 use Rattle.lines.proofs.WritersReaders.{finish}

@@ -2,7 +2,7 @@
 use mathlib.Core.Path.{_≡_, sym, ap, _∙_}
 use native.Mathlib.Omega.{arith}
 use lib.ListN.{take, length-take}
-use Rattle.line_digits.specs.Places.{frameIn}
+use Rattle.line_digits.specs.FrameBytes.{frameIn}
 use Rattle.lines.proofs.WritersReaders.{way-9, way-10, way-read}
 use Prim.Native.Nat.{ℕ}
 use Rattle.paper.specs.Lines.{answerKind, readAsAnswer, answerOk, answerAt, anAnswer, noAnswer}

@@ -6,7 +6,7 @@ use lib.ListN.{drop}
 use Rattle.paper.specs.declared.queries.Query as queries
 use Rattle.paper.specs.Frames.{num}
 use Rattle.paper.specs.Lines.{askKind, askOrder, queryAt}
-use Rattle.line_digits.specs.Places.{frameIn}
+use Rattle.line_digits.specs.FrameBytes.{frameIn}
 use Rattle.lines.proofs.AskTests.{any-ask, ask-begun, ask-value}
 use borrow.Author.Needs.{needs}
 use Rattle.lines.proofs.asks.ask_at.Statement.{statement}

@@ -3,7 +3,7 @@ use native.Mathlib.Omega.{arith}
 use mathlib.Core.Path.{sym, ap, _∙_}
 use Rattle.paper.specs.declared.orders.Order.{Order}
 use Rattle.paper.specs.Lines.{askKind, askOrder, askOk, isAsk}
-use Rattle.line_digits.specs.Places.{frameIn}
+use Rattle.line_digits.specs.FrameBytes.{frameIn}
 use Rattle.paper.proofs.Tests.{refuted}
 use Rattle.lines.proofs.AskTests.{any-ask}
 use borrow.Author.Needs.{needs}

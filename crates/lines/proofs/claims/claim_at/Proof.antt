@@ -1,6 +1,6 @@
 use native.Mathlib.Omega.{arith}
 use Rattle.paper.specs.Lines.{claimAt}
-use Rattle.line_digits.specs.Places.{frameIn}
+use Rattle.line_digits.specs.FrameBytes.{frameIn}
 use Rattle.lines.proofs.ClaimTests.{is-claim}
 use borrow.Author.Needs.{needs}
 use Rattle.lines.proofs.claims.claim_at.Statement.{statement}

@@ -4,7 +4,7 @@ use mathlib.Core.Path.{_≡_, sym, _∙_}
 use lib.ListN.{length, length-set}
 use Rattle.paper.specs.Fields.{head}
 use Rattle.paper.specs.Lines.{claimFrame}
-use Rattle.line_digits.specs.Places.{overlaid}
+use Rattle.line_digits.specs.FrameBytes.{overlaid}
 use Rattle.line_digits.proofs.LinesAndFrames.{length-line}
 use Rattle.line_fields.proofs.PartLaws.{over-be, over-to, length-head}
 use Rattle.lines.proofs.WritersReaders.{finish}

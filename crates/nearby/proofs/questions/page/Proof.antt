@@ -2,7 +2,7 @@
 use lib.ListN.{length}
 use Rattle.paper.specs.declared.orders.Order.the-variants.{Near}
 use Rattle.paper.specs.Tree.{store}
-use Rattle.walk_tested.proofs.PageLaws.{page-refused, page-5, page-6, page-askable, page-tells}
+use Rattle.walk_tested.proofs.PageLaws.{page-refused, page-5, page-6, page-askable, page-refusal}
 use borrow.Author.Needs.{needs}
 use Rattle.nearby.proofs.questions.page.Statement.{statement}
 use Rattle.nearby.proofs.questions.page.Tie as tie
@@ -14,13 +14,13 @@ returns : tie.Need-returns
 returns c =
     let a = c .before .before .before .before .before .args in
     let s = store (a .t) (a .references .now) (a .coordinates .now) (a .nodes .now) in
-    page-tells Near s (a .probe .now) (a .reach) (a .place) (a .size) (a .room .now) _ (page-refused Near s (a .probe .now) (a .reach) (a .place) (a .size) (length (a .room .now)) _ (c .before .table-refusal .ensures) (c .if1 .taken))
+    page-refusal Near s (a .probe .now) (a .reach) (a .place) (a .size) (a .room .now) _ (page-refused Near s (a .probe .now) (a .reach) (a .place) (a .size) (length (a .room .now)) _ (c .before .table-refusal .ensures) (c .if1 .taken))
 
 returns-2 : tie.Need-returns-2
 returns-2 c =
     let a = c .before .before .before .before .before .before .before .args in
     let s = store (a .t) (a .references .now) (a .coordinates .now) (a .nodes .now) in
-    page-tells Near s (a .probe .now) (a .reach) (a .place) (a .size) (a .room .now) _
+    page-refusal Near s (a .probe .now) (a .reach) (a .place) (a .size) (a .room .now) _
     (page-5 Near s (a .probe .now) (a .reach) (a .place) (a .size) (length (a .room .now)) _ (c .before .before .before .table-refusal .ensures) (c .before .before .if1 .left) (c .if2 .taken))
 
 size-holds-requires : tie.Need-size-holds-requires
@@ -31,7 +31,7 @@ returns-3 c =
     let a = c .before .before .before .before .before .before .before .before .before .args in
     let table-refusal = c .before .before .before .before .before .table-refusal in
     let s = store (a .t) (a .references .now) (a .coordinates .now) (a .nodes .now) in
-    page-tells Near s (a .probe .now) (a .reach) (a .place) (a .size) (a .room .now) _
+    page-refusal Near s (a .probe .now) (a .reach) (a .place) (a .size) (a .room .now) _
     (page-6 Near s (a .probe .now) (a .reach) (a .place) (a .size) (length (a .room .now)) _ (table-refusal .ensures) (c .before .before .before .before .if1 .left) (c .before .before .if2 .left) _ (c .before .size-holds .ensures) (c .if3 .taken))
 
 page-here-requires : tie.Need-page-here-requires

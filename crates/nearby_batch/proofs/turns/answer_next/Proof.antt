@@ -4,7 +4,7 @@ use mathlib.Core.Path.{refl}
 use native.Mathlib.Omega.{arith}
 use lib.ListN.{length}
 use Rattle.paper.specs.Tree.{store}
-use Rattle.nearby_batch.proofs.Steps.{has, end-inside, line-open, said-inside, next-stands}
+use Rattle.nearby_batch.proofs.Steps.{has, end-inside, line-open, given-inside, next-stands}
 use borrow.Author.Needs.{needs}
 use Rattle.nearby_batch.proofs.turns.answer_next.Statement.{statement}
 use Rattle.nearby_batch.proofs.turns.answer_next.Tie as tie
@@ -50,8 +50,8 @@ answer-line-requires c κs =
     let s = store (a .t) (a .references .now) (a .coordinates .now) (a .nodes .now) in
     line-open s (a .asks .now) (a .d) (a .outcomes .now) (a .out .now) (c .before .before .before .before .before .before .before .before .pre) _ (c .before .before .line-end .ensures) _ refl
 
-said-of-requires : tie.Need-said-of-requires
-said-of-requires c κs = search needs
+line-row-requires : tie.Need-line-row-requires
+line-row-requires c κs = search needs
 
 put-row-requires : tie.Need-put-row-requires
 put-row-requires c κs =
@@ -74,11 +74,11 @@ add-t20 c =
     let pre = c .before .before .before .before .before .before .before .before .before .before .before .before .before .before .before .before .before .pre in
     let line-end = c .before .before .before .before .before .before .before .before .before .before .before .line-end in
     let answer-line = c .before .before .before .before .before .before .before .before .answer-line in
-    let said-of = c .before .before .before .before .before .said-of in
+    let line-row = c .before .before .before .before .before .line-row in
     let a = args in
     let s = store (a .t) (a .references .now) (a .coordinates .now) (a .nodes .now) in
     let g = good .1 .1 .1 .1 .1 .1 .1 .0 in
-    let h = said-inside s (a .asks .now) (a .d) (a .outcomes .now) (a .out .now) pre _ (line-end .ensures) _ refl _ _ (answer-line .ensures) _ (said-of .ensures) (answer-line .kept .1 .1 .1 .1 .1 .0) in
+    let h = given-inside s (a .asks .now) (a .d) (a .outcomes .now) (a .out .now) pre _ (line-end .ensures) _ refl _ _ (answer-line .ensures) _ (line-row .ensures) (answer-line .kept .1 .1 .1 .1 .1 .0) in
     omega arith
 
 same-length : tie.Need-same-length
@@ -93,10 +93,10 @@ returns c =
     let pre = c .before .before .before .before .before .before .before .before .before .before .before .before .before .before .before .before .before .pre in
     let line-end = c .before .before .before .before .before .before .before .before .before .before .before .line-end in
     let answer-line = c .before .before .before .before .before .before .before .before .answer-line in
-    let said-of = c .before .before .before .before .before .said-of in
+    let line-row = c .before .before .before .before .before .line-row in
     let a = args in
     let s = store (a .t) (a .references .now) (a .coordinates .now) (a .nodes .now) in
-    next-stands s (a .asks .now) (a .d) (a .outcomes .now) (a .out .now) pre _ (line-end .ensures) _ refl _ _ (answer-line .ensures) _ (said-of .ensures) _ (c .before .before .before .put-row .ensures)
+    next-stands s (a .asks .now) (a .d) (a .outcomes .now) (a .out .now) pre _ (line-end .ensures) _ refl _ _ (answer-line .ensures) _ (line-row .ensures) _ (c .before .before .before .put-row .ensures)
 
 pub answer-next-spec : {M : Type 1} → statement M
 answer-next-spec =
@@ -110,7 +110,7 @@ answer-next-spec =
     part-answer-line-start-2
     part-answer-line-end-2
     answer-line-requires
-    said-of-requires
+    line-row-requires
     put-row-requires
     add-t16
     add-t20

@@ -3,10 +3,10 @@
 use lib.ListN.{length}
 use Rattle.paper.specs.Orders.{Query}
 use Rattle.paper.specs.declared.lines.Scope.{Scope}
-use Rattle.paper.specs.Lines.{wroteOf, putLine, bareLine, answerFits, answerFrame}
+use Rattle.paper.specs.Lines.{wroteShown, putLine, bareLine, answerFits, answerFrame}
 use Rattle.paper.specs.Limits.{longestAnswer}
 use Rattle.c_lists.specs.Values.{nearQuery, scopeFrom}
-use Rattle.c_values.specs.Values.{writtenOf}
+use Rattle.c_values.specs.Values.{writtenOut}
 use Rattle.lines.proofs.WritersReaders.{refused-10}
 use Rattle.nearby_c.proofs.Exports.{shown-as, line-from, answer-misplaced, placed, placed-query}
 use borrow.Author.Needs.{needs}
@@ -22,7 +22,7 @@ line-of-requires c κs = search needs
 returns : tie.Need-returns
 returns c =
     let a = c .before .before .before .before .before .args in
-    shown-as writtenOf wroteOf putLine _ _ _ _ _
+    shown-as writtenOut wroteShown putLine _ _ _ _ _
     (refused-10 _ _ _ _ (answer-misplaced (nearQuery (a .table) (a .measure) (a .d) (a .probe .now) (a .p .reach)) (scopeFrom (a .p)) _ (c .before .before .placeable .ensures) (c .before .if1 .taken) (a .last) (a .count) (a .items .now)))
     (c .line-of .ensures)
 

@@ -3,10 +3,10 @@
 use lib.ListN.{length}
 use Rattle.paper.specs.Orders.{Query}
 use Rattle.paper.specs.declared.lines.Scope.{Scope}
-use Rattle.paper.specs.Lines.{wroteOf, putLine, bareLine, askFits, askFrame}
+use Rattle.paper.specs.Lines.{wroteShown, putLine, bareLine, askFits, askFrame}
 use Rattle.paper.specs.Limits.{longestAsk}
 use Rattle.c_lists.specs.Values.{nearQuery, scopeFrom}
-use Rattle.c_values.specs.Values.{writtenOf}
+use Rattle.c_values.specs.Values.{writtenOut}
 use Rattle.lines.proofs.WritersReaders.{refused-10}
 use Rattle.nearby_c.proofs.Exports.{shown-as, line-from, ask-misplaced, placed, placed-query}
 use borrow.Author.Needs.{needs}
@@ -22,7 +22,7 @@ line-of-requires c κs = search needs
 returns : tie.Need-returns
 returns c =
     let a = c .before .before .before .before .args in
-    shown-as writtenOf wroteOf putLine _ _ _ _ _ (refused-10 _ _ _ _ (ask-misplaced (nearQuery (a .table) (a .measure) (a .d) (a .probe .now) (a .p .reach)) (scopeFrom (a .p)) _ (c .before .before .placeable .ensures) (c .before .if1 .taken) (a .size))) (c .line-of .ensures)
+    shown-as writtenOut wroteShown putLine _ _ _ _ _ (refused-10 _ _ _ _ (ask-misplaced (nearQuery (a .table) (a .measure) (a .d) (a .probe .now) (a .p .reach)) (scopeFrom (a .p)) _ (c .before .before .placeable .ensures) (c .before .if1 .taken) (a .size))) (c .line-of .ensures)
 
 query-of-requires : tie.Need-query-of-requires
 query-of-requires c κs =

@@ -1,6 +1,6 @@
 -- `nearby_c::bare::nearby_write_claim_line` meets its contract: what `nearby::write_claim_line` gives. Assumes nothing.
-use Rattle.paper.specs.Lines.{wroteOf, putLine}
-use Rattle.c_values.specs.Values.{writtenOf}
+use Rattle.paper.specs.Lines.{wroteShown, putLine}
+use Rattle.c_values.specs.Values.{writtenOut}
 use Rattle.nearby_c.proofs.Exports.{shown-as}
 use borrow.Author.Needs.{needs}
 use Rattle.nearby_c.proofs.bare.nearby_write_claim_line.Statement.{statement}
@@ -16,7 +16,7 @@ same-length : tie.Need-same-length
 same-length c = search needs
 
 returns : tie.Need-returns
-returns c = shown-as writtenOf wroteOf putLine _ _ _ _ _ (c .before .before .before .write-claim-line .ensures) (c .line-of .ensures)
+returns c = shown-as writtenOut wroteShown putLine _ _ _ _ _ (c .before .before .before .write-claim-line .ensures) (c .line-of .ensures)
 
 pub nearby-write-claim-line-spec : {M : Type 1} → statement M
 nearby-write-claim-line-spec =

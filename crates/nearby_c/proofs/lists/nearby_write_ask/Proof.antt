@@ -2,8 +2,8 @@
 use lib.ListN.{length}
 use Rattle.paper.specs.Lists.{held, askingHeld}
 use Rattle.paper.specs.Codec.{lines}
-use Rattle.paper.specs.Lines.{wroteOf, putLine}
-use Rattle.c_values.specs.Values.{writtenOf}
+use Rattle.paper.specs.Lines.{wroteShown, putLine}
+use Rattle.c_values.specs.Values.{writtenOut}
 use Rattle.nearby_c.proofs.Exports.{shown-from}
 use borrow.Author.Needs.{needs}
 use Rattle.nearby_c.proofs.lists.nearby_write_ask.Statement.{statement}
@@ -25,7 +25,7 @@ returns : tie.Need-returns
 returns c =
     let args = c .before .before .before .before .before .before .before .before .args in
     let list-in = c .before .before .before .before .before .list-in in
-    shown-from writtenOf wroteOf putLine (λ x. askingHeld lines (held x (args .room .now)) (args .size) (length (args .out .now))) _ _ _ _ _ _ (list-in .ensures) (c .before .before .before .write-ask .ensures) (c .line-of .ensures)
+    shown-from writtenOut wroteShown putLine (λ x. askingHeld lines (held x (args .room .now)) (args .size) (length (args .out .now))) _ _ _ _ _ _ (list-in .ensures) (c .before .before .before .write-ask .ensures) (c .line-of .ensures)
 
 pub nearby-write-ask-spec : {M : Type 1} → statement M
 nearby-write-ask-spec =

@@ -1,6 +1,6 @@
 -- `nearby_c::office::nearby_answer` meets its contract: what `nearby::answer` gives. Assumes nothing.
-use Rattle.paper.specs.Lines.{wroteOf, putLine}
-use Rattle.c_values.specs.Values.{writtenOf}
+use Rattle.paper.specs.Lines.{wroteShown, putLine}
+use Rattle.c_values.specs.Values.{writtenOut}
 use Rattle.nearby_c.proofs.Exports.{shown-as}
 use borrow.Author.Needs.{needs}
 use Rattle.nearby_c.proofs.office.nearby_answer.Statement.{statement}
@@ -16,7 +16,7 @@ same-length : tie.Need-same-length
 same-length c = search needs
 
 returns : tie.Need-returns
-returns c = shown-as writtenOf wroteOf putLine _ _ _ _ _ (c .before .before .before .answer .ensures) (c .line-of .ensures)
+returns c = shown-as writtenOut wroteShown putLine _ _ _ _ _ (c .before .before .before .answer .ensures) (c .line-of .ensures)
 
 pub nearby-answer-spec : {M : Type 1} → statement M
 nearby-answer-spec = tie.close (tie.spec answer-requires line-of-requires same-length returns)

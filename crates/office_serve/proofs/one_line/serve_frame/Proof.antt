@@ -1,7 +1,7 @@
 -- `serve::one_line::serve_frame` meets its contract: a claim, an ask, or 10. Assumes nothing.
 use mathlib.Core.Path.{sym, _∙_}
 use Rattle.paper.specs.Tree.{store}
-use Rattle.line_digits.specs.Places.{frameIn}
+use Rattle.line_digits.specs.FrameBytes.{frameIn}
 use Rattle.end_office.proofs.AnswerToAsk.{ask-given}
 use Rattle.office_serve.proofs.OneLineServed.{claim-range, frame-claim, frame-ask, frame-none}
 use borrow.Author.Needs.{needs}

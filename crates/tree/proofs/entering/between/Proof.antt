@@ -2,7 +2,7 @@
 use Prim.Native.Nat.{_+_}
 use native.Mathlib.Omega.{arith}
 use Rattle.paper.specs.Tree.{apart}
-use Rattle.tree.proofs.Places.{located-at}
+use Rattle.tree.proofs.PointsInMemory.{located-at}
 use Rattle.tree.proofs.entering.between.Statement.{statement}
 use Rattle.tree.proofs.entering.between.Tie as tie
 

@@ -8,7 +8,7 @@ use lib.IntN.{ℤ}
 use lib.ListN.{length, getD, length-append}
 use Rattle.paper.specs.Points.{point}
 use Rattle.paper.specs.Tree.{claimsFrom}
-use Rattle.tree.specs.Rooms.{Located}
+use Rattle.tree.specs.BuiltNodes.{Located}
 
 -- j's d numbers end before those of claim n begin
 pub before-next : (d j n : ℕ) → j < n → j * d + d ≤ n * d

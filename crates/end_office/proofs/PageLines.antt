@@ -30,14 +30,14 @@ use Rattle.checks.proofs.Naming.{place-start, place-after}
 use Rattle.tree.proofs.TestedTables.{good-few}
 use Rattle.paper.specs.Calls.{tableQuery}
 use Rattle.walk.specs.Asking.{Pageable, Markable, PageIs}
-use Rattle.tree.proofs.Places.{claims-length}
+use Rattle.tree.proofs.PointsInMemory.{claims-length}
 use Rattle.orders.proofs.Rooms.{flat-length}
 use Rattle.walk.proofs.Bridge.{claims-at}
 use Rattle.walk.proofs.Answers.{good-measurable}
 use Rattle.end_office.specs.Desk.{AskOurs, Paging, askIn, pageLine}
 use Rattle.paper.specs.Limits.{itemRoom, longestAnswer, mostClaims, mostNumber, mostPage}
 
--- ---- items that an answer can tell
+-- ---- items that an answer has room for
 
 pub record SmallItem (a : Item) : Type 0 where
   pub number : a .number ≤ mostNumber
@@ -154,9 +154,9 @@ module _ (s : Store) (q : queries.Query) (p : Scope) (size out : ℕ) (h : AskOu
 
 -- ---- the page, written
 
-line-told : (fits : Bool) (f before : List ℕ) (w : Wrote) (after : List ℕ) → fits ≡ true → longestAnswer ≤ length before
+line-written : (fits : Bool) (f before : List ℕ) (w : Wrote) (after : List ℕ) → fits ≡ true → longestAnswer ≤ length before
     → Writes (bareLine fits longestAnswer f (length before)) before w after → Writes (gives (lineOf f)) before w after
-line-told fits f before w after e h x = rw (bare-fits fits longestAnswer f (length before) e h) at x
+line-written fits f before w after e h x = rw (bare-fits fits longestAnswer f (length before) e h) at x
 
 flag-small : (b : Bool) → flagOf b ≤ 1
 flag-small true = omega arith
@@ -198,14 +198,14 @@ module _ (s : Store) (q : queries.Query) (p : Scope) (size out : ℕ) (h : Pagin
     is-page =
         subst (λ (x : Query). PageIs x (claimsIn s) (placeIn p) size room room' r) (sym (own-query s q p size out (h .asking))) (rw at at is)
 
-    pub told-few : r .count ≤ mostPage
-    told-few = omega (arith, is-page .count, page-few, h .asking .ask .most)
+    pub page-count : r .count ≤ mostPage
+    page-count = omega (arith, is-page .count, page-few, h .asking .ask .most)
 
-    module _ (scope : Scope) (told : scope ≡ Scoped) (last : ℕ) (flag : last ≡ flagOf (r .last)) (n : ℕ) (three : n ≡ 3 * r .count)
+    module _ (scope : Scope) (is-scope : scope ≡ Scoped) (last : ℕ) (flag : last ≡ flagOf (r .last)) (n : ℕ) (three : n ≡ 3 * r .count)
         (known : (i : ℕ) → getD (s .references) i 0 < 4294967296) (eight : 7 < length (q .probe)) where
-      told-items : take n room' ≡ flat Page
+      page-items : take n room' ≡ flat Page
       unfolding fronted
-      told-items =
+      page-items =
           let k : n ≡ length (flat Page) = omega (arith, flat-length Page, is-page .count) in
           rw (is-page .room, k) (take-at (flat Page) _ (length (flat Page)) refl)
 
@@ -223,10 +223,10 @@ module _ (s : Store) (q : queries.Query) (p : Scope) (size out : ℕ) (h : Pagin
       unfolding answerLine answerOf
       line-is = rw (claims-length (s .table .d) (s .table .count) (s .references) (s .coordinates), is-page .last)
 
-      pub page-told : (before : List ℕ) (w : Wrote) (after : List ℕ) → longestAnswer ≤ length before
+      pub page-written : (before : List ℕ) (w : Wrote) (after : List ℕ) → longestAnswer ≤ length before
           → Writes (bareLine (answerFits (queryIn q) scope last (r .count) (take n room')) longestAnswer
           (answerFrame (queryIn q) scope last (r .count) (take n room')) (length before)) before w after
           → Writes (pageLine (tableOf s) (askIn q p size)) before w after
-      page-told before w after long x =
-          let y = rw (told, flag, told-items, is-page .count) at x in
-          rw line-is at (line-told _ _ before w after fits long y)
+      page-written before w after long x =
+          let y = rw (is-scope, flag, page-items, is-page .count) at x in
+          rw line-is at (line-written _ _ before w after fits long y)

@@ -15,7 +15,7 @@ use Rattle.walk_keep.specs.Kept.{PageRoomy, PositionIs, shifted, heldAt,
 use Rattle.paper.proofs.Tests.{no-way}
 use Rattle.walk_keep.proofs.Keeping.{rising-few, rising-take, insert-rising}
 use Rattle.walk_keep.proofs.Moving.{moved-in}
-use Rattle.walk_keep.proofs.ItemPlace.{items-append, items-length, item-at, insert-at, insert-same, place-in}
+use Rattle.walk_keep.proofs.ItemPosition.{items-append, items-length, item-at, insert-at, insert-same, place-in}
 
 -- ---- the room with a claim more
 

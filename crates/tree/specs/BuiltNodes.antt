@@ -13,14 +13,14 @@ abbrev pub Inside : List ℕ → ℕ → Type 0
 Inside nodes m = m * 6 + 5 < length nodes
 
 -- the numbers of node m are claims that are stored, and nodes in use that lie above m
-pub record RoomOk (nodes : List ℕ) (used n m : ℕ) : Type 0 where
+pub record NodeOk (nodes : List ℕ) (used n m : ℕ) : Type 0 where
   pub left : 0 < fieldAt nodes m 0
   pub stored : (s : ℕ) → s < 2 → fieldAt nodes m s ≤ n
   pub rises : (s : ℕ) → s < 2 → (fieldAt nodes m (4 + s) ≡ 0 → ⊥) → m + 1 < fieldAt nodes m (4 + s)
   pub leads : (s : ℕ) → s < 2 → fieldAt nodes m (4 + s) ≤ used
 
 unfoldable pub Linked : List ℕ → ℕ → ℕ → Type 0
-Linked nodes used n = (m : ℕ) → m < used → RoomOk nodes used n m
+Linked nodes used n = (m : ℕ) → m < used → NodeOk nodes used n m
 
 -- [3.8] [3.9] claim j is on side s of node m, or below it: then the side's far distance reaches it, and the side is the nearer one of the
 -- node's two, the left one of two as near

@@ -11,7 +11,7 @@ use lib.ListN.{length, length-set}
 use lib.Dec.{lit<}
 use lib.Seq.{getD-set-same, getD-set-other}
 use Rattle.paper.specs.Tree.{Grown, fieldAt, putField, newNode, nearSide, raise, enteredFrom, entered}
-use Rattle.tree.specs.Rooms.{Inside, Linked}
+use Rattle.tree.specs.BuiltNodes.{Inside, Linked}
 use Rattle.tree.proofs.OneEntering.{still-linked, raise-length, side-small, entered-stop, entered-new, entered-down}
 use Rattle.tree.proofs.Stores.{fresh-other, fresh-length, fresh-left, fresh-rest}
 use Rattle.tree.proofs.Keeping.{place}

@@ -1,4 +1,4 @@
--- `desk::pages::tell_page` meets its contract: the page fits a line, and its line is written. Assumes nothing.
+-- `desk::pages::write_page` meets its contract: the page fits a line, and its line is written. Assumes nothing.
 use Prim.Native.Nat.{_<_}
 use mathlib.Core.Path.{refl, sym}
 use native.Mathlib.Omega.{arith}
@@ -6,11 +6,11 @@ use lib.Dec.{lit≤}
 use lib.ListN.{length, take}
 use lib.Seq.{length-take-le}
 use Rattle.paper.specs.Tree.{store}
-use Rattle.end_office.proofs.Telling.{scope-from, aimed, pageable, told-few, page-told}
+use Rattle.end_office.proofs.PageLines.{scope-from, aimed, pageable, page-count, page-written}
 use Rattle.walk.proofs.Answers.{good-answerable}
 use borrow.Author.Needs.{needs}
-use Rattle.end_office.proofs.pages.tell_page.Statement.{statement}
-use Rattle.end_office.proofs.pages.tell_page.Tie as tie
+use Rattle.end_office.proofs.pages.write_page.Statement.{statement}
+use Rattle.end_office.proofs.pages.write_page.Tie as tie
 
 place-of-requires : tie.Need-place-of-requires
 place-of-requires c κs = search needs
@@ -47,7 +47,7 @@ mul-n : tie.Need-mul-n
 mul-n c =
     let a = c .before .before .before .before .before .before .before .before .before .before .before .args in
     let s = store (a .t) (a .references .now) (a .coordinates .now) (a .nodes .now) in
-    let f = told-few s (a .q) (a .p) (a .size) _ (c .before .before .before .before .before .before .before .before .before .before .before .pre) _ _ _ _ (c .before .before .before .before .before .before .place-of .ensures) (c .before .before .before .page-of .ensures) in
+    let f = page-count s (a .q) (a .p) (a .size) _ (c .before .before .before .before .before .before .before .before .before .before .before .pre) _ _ _ _ (c .before .before .before .before .before .before .place-of .ensures) (c .before .before .before .page-of .ensures) in
     omega arith
 
 flag-requires : tie.Need-flag-requires
@@ -57,14 +57,14 @@ cast-write-answer : tie.Need-cast-write-answer
 cast-write-answer c =
     let a = c .before .before .before .before .before .before .before .before .before .before .before .before .args in
     let s = store (a .t) (a .references .now) (a .coordinates .now) (a .nodes .now) in
-    let f = told-few s (a .q) (a .p) (a .size) _ (c .before .before .before .before .before .before .before .before .before .before .before .before .pre) _ _ _ _ (c .before .before .before .before .before .before .before .place-of .ensures) (c .before .before .before .before .page-of .ensures) in
+    let f = page-count s (a .q) (a .p) (a .size) _ (c .before .before .before .before .before .before .before .before .before .before .before .before .pre) _ _ _ _ (c .before .before .before .before .before .before .before .place-of .ensures) (c .before .before .before .before .page-of .ensures) in
     omega arith
 
 array-share-prefix-room : tie.Need-array-share-prefix-room
 array-share-prefix-room c =
     let a = c .before .before .before .before .before .before .before .before .before .before .before .before .args in
     let s = store (a .t) (a .references .now) (a .coordinates .now) (a .nodes .now) in
-    let f = told-few s (a .q) (a .p) (a .size) _ (c .before .before .before .before .before .before .before .before .before .before .before .before .pre) _ _ _ _ (c .before .before .before .before .before .before .before .place-of .ensures) (c .before .before .before .before .page-of .ensures) in
+    let f = page-count s (a .q) (a .p) (a .size) _ (c .before .before .before .before .before .before .before .before .before .before .before .before .pre) _ _ _ _ (c .before .before .before .before .before .before .before .place-of .ensures) (c .before .before .before .before .page-of .ensures) in
     let k = c .before .before .before .before .page-of .kept .1 .1 .1 .1 .1 .1 .1 .1 .1 .0 in
     omega arith
 
@@ -73,7 +73,7 @@ slice-aggregate-write-answer c =
     let a = c .before .before .before .before .before .before .before .before .before .before .before .before .before .args in
     let s = store (a .t) (a .references .now) (a .coordinates .now) (a .nodes .now) in
     let f =
-    told-few s (a .q) (a .p) (a .size) _ (c .before .before .before .before .before .before .before .before .before .before .before .before .before .pre)
+    page-count s (a .q) (a .p) (a .size) _ (c .before .before .before .before .before .before .before .before .before .before .before .before .before .pre)
     _ _ _ _ (c .before .before .before .before .before .before .before .before .place-of .ensures) (c .before .before .before .before .before .page-of .ensures) in
     let k = c .before .before .before .before .before .page-of .kept .1 .1 .1 .1 .1 .1 .1 .1 .1 .0 in
     sym (length-take-le _ _ (omega arith))
@@ -88,14 +88,14 @@ returns : tie.Need-returns
 returns c =
     let a = c .before .before .before .before .before .before .before .before .before .before .before .before .before .before .before .before .before .args in
     let long : 7 < length (a .q .probe) = search (needs, c .before .before .before .before .before .before .before .before .before .before .before .before .before .before .before .before .before .good .1 .1 .1 .1 .0) in
-    page-told (store (a .t) (a .references .now) (a .coordinates .now) (a .nodes .now)) (a .q) (a .p) (a .size) _ (c .before .before .before .before .before .before .before .before .before .before .before .before .before .before .before .before .before .pre)
+    page-written (store (a .t) (a .references .now) (a .coordinates .now) (a .nodes .now)) (a .q) (a .p) (a .size) _ (c .before .before .before .before .before .before .before .before .before .before .before .before .before .before .before .before .before .pre)
     _ _ _ _ (c .before .before .before .before .before .before .before .before .before .before .before .before .place-of .ensures) (c .before .before .before .before .before .before .before .before .before .page-of .ensures)
     _ (c .before .before .before .before .before .before .answer-scope .ensures) _ (c .before .before .before .before .before .flag .ensures)
     _ refl (λ i. c .before .before .before .before .before .before .before .before .before .before .before .before .before .before .before .before .shared-slice-known .given i .fits) long
     _ _ _ (c .before .before .before .before .before .before .before .before .before .before .before .before .before .before .before .before .before .pre .asking .isOpen .room) (c .before .before .write-answer .ensures)
 
-pub tell-page-spec : {M : Type 1} → statement M
-tell-page-spec =
+pub write-page-spec : {M : Type 1} → statement M
+write-page-spec =
     tie.close
     (tie.spec
     place-of-requires
