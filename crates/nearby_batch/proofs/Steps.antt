@@ -98,39 +98,39 @@ same-batch p q r x y = cc
 
 -- ---- a line is answered
 
-module _ (s : Store) (asks : List ℕ) (d : Answered) (outcomes out : List ℕ) (t : LineLeft s asks (batchOf d outcomes out)) where
-  pub has : Room asks (batchOf d outcomes out)
-  has = goes-room-for asks (batchOf d outcomes out) (t .more)
+module _ (s : Store) (asks : List ℕ) (done : Answered) (outcomes out : List ℕ) (t : LineLeft s asks (batchOf done outcomes out)) where
+  pub has : Room asks (batchOf done outcomes out)
+  has = goes-room-for asks (batchOf done outcomes out) (t .more)
 
-  module _ (e : ℕ) (ends : e ≡ d .used + cutAt (drop (d .used) asks)) where
+  module _ (e : ℕ) (ends : e ≡ done .used + cutAt (drop (done .used) asks)) where
     pub end-inside : e ≤ length asks
-    end-inside = let h = cut-inside asks (d .used) (has .unread) in omega arith
+    end-inside = let h = cut-inside asks (done .used) (has .unread) in omega arith
 
-    module _ (k : ℕ) (rest : k ≡ length out - d .written) where
-      lent : take k (drop (d .written) out) ≡ drop (d .written) out
-      lent = take-all k (drop (d .written) out) (omega (arith, length-drop (d .written) out))
+    module _ (k : ℕ) (rest : k ≡ length out - done .written) where
+      lent : take k (drop (done .written) out) ≡ drop (done .written) out
+      lent = take-all k (drop (done .written) out) (omega (arith, length-drop (done .written) out))
 
-      long : longestAnswer ≤ length (take k (drop (d .written) out))
-      long = let m = ap length lent ∙ length-drop (d .written) out in omega (arith, has .room)
+      long : longestAnswer ≤ length (take k (drop (done .written) out))
+      long = let m = ap length lent ∙ length-drop (done .written) out in omega (arith, has .room)
 
-      pub line-open : Open s (length (take k (drop (d .written) out)))
-      line-open = office-open s (take k (drop (d .written) out)) [] long 0 (t .sound) refl
+      pub line-open : Open s (length (take k (drop (done .written) out)))
+      line-open = office-open s (take k (drop (done .written) out)) [] long 0 (t .sound) refl
 
       module _ (w : Wrote) (part : List ℕ)
-          (says : Writes (lineAnswered lines (tableOf s) (take (e - d .used) (drop (d .used) asks))) (take k (drop (d .written) out)) w part) where
+          (writes : Writes (lineAnswered lines (tableOf s) (take (e - done .used) (drop (done .used) asks))) (take k (drop (done .written) out)) w part) where
         abbrev given-now : Outcome (List ℕ)
-        given-now = answerNow s asks (batchOf d outcomes out)
+        given-now = answerNow s asks (batchOf done outcomes out)
 
-        line-is : take (e - d .used) (drop (d .used) asks) ≡ lineAt asks (d .used)
+        line-is : take (e - done .used) (drop (done .used) asks) ≡ lineAt asks (done .used)
         unfolding lineAt
         line-is =
-            let q : e - d .used ≡ cutAt (drop (d .used) asks) = omega arith in
-            ap (λ (n : ℕ). take n (drop (d .used) asks)) q
+            let q : e - done .used ≡ cutAt (drop (done .used) asks) = omega arith in
+            ap (λ (n : ℕ). take n (drop (done .used) asks)) q
 
-        as-alone : Writes given-now (drop (d .written) out) w part
+        as-alone : Writes given-now (drop (done .written) out) w part
         unfolding answerNow
         as-alone =
-            let x = office-answers s (take k (drop (d .written) out)) (take (e - d .used) (drop (d .used) asks)) long 0 (t .sound) refl w part says in
+            let x = office-answers s (take k (drop (done .written) out)) (take (e - done .used) (drop (done .used) asks)) long 0 (t .sound) refl w part writes in
             rw (lent, line-is) at x
 
         module _ (row : LineRow) (is : row ≡ rowShown w) where
@@ -140,20 +140,20 @@ module _ (s : Store) (asks : List ℕ) (d : Answered) (outcomes out : List ℕ) 
           refusal-is : row .refusal ≡ number given-now
           refusal-is = ap (λ (x : LineRow). x .refusal) is ∙ ap (λ (x : Wrote). rowShown x .refusal) (as-alone .result) ∙ given-refusal given-now
 
-          pub given-inside : length part ≡ length (take k (drop (d .written) out)) → d .written + row .length ≤ length out
+          pub given-inside : length part ≡ length (take k (drop (done .written) out)) → done .written + row .length ≤ length out
           given-inside kept =
-              let f = given-fits given-now (drop (d .written) out) part (as-alone .memory) (kept ∙ ap length lent) in
-              omega (arith, length-is, length-drop (d .written) out, has .room)
+              let f = given-fits given-now (drop (done .written) out) part (as-alone .memory) (kept ∙ ap length lent) in
+              omega (arith, length-is, length-drop (done .written) out, has .room)
 
-          pub next-stands : (outcomes' : List ℕ) → outcomes' ≡ rowPut outcomes (d .lines) (row .refusal) (row .length)
-              → BatchStands (step s asks (batchOf d outcomes out)) (record { refusal = 0; lines = d .lines + 1; used = e; written = d .written + row .length })
-              outcomes' (take (d .written) out ++ (part ++ drop k (drop (d .written) out)))
+          pub next-stands : (outcomes' : List ℕ) → outcomes' ≡ rowPut outcomes (done .lines) (row .refusal) (row .length)
+              → BatchStands (step s asks (batchOf done outcomes out)) (record { refusal = 0; lines = done .lines + 1; used = e; written = done .written + row .length })
+              outcomes' (take (done .written) out ++ (part ++ drop k (drop (done .written) out)))
           unfolding step stepBy
           next-stands outcomes' put =
-              let none : drop k (drop (d .written) out) ≡ [] = drop-of-length-le (drop (d .written) out) {i = k} (omega (arith, length-drop (d .written) out)) in
+              let none : drop k (drop (done .written) out) ≡ [] = drop-of-length-le (drop (done .written) out) {i = k} (omega (arith, length-drop (done .written) out)) in
               record {
                 refusal = refl;
                 batch =
-                    same-batch refl ends (ap (λ (n : ℕ). d .written + n) length-is) (put ∙ cc (length-is, refusal-is))
-                    (rw (none, append-nil) (ap (λ (l : List ℕ). take (d .written) out ++ l) (as-alone .memory)));
+                    same-batch refl ends (ap (λ (n : ℕ). done .written + n) length-is) (put ∙ cc (length-is, refusal-is))
+                    (rw (none, append-nil) (ap (λ (l : List ℕ). take (done .written) out ++ l) (as-alone .memory)));
               }

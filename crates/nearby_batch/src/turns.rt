@@ -16,19 +16,19 @@ use paper::limits::LONGEST_ANSWER;
 use paper::tables::Table;
 
 // [6.7] Whether a byte of the asks is left, a row of the outcomes, and room for the longest line.
-fn goes_on(d: Answered, asks: usize, outcomes: usize, out: usize) -> bool
-    ensures { λ r. ⌜ r ≡ (ltb (d .used) asks && (leb (2 * d .lines + 2) outcomes && leb (d .written + longestAnswer) out)) ⌝ }
+fn goes_on(done: Answered, asks: usize, outcomes: usize, out: usize) -> bool
+    ensures { λ r. ⌜ r ≡ (ltb (done .used) asks && (leb (2 * done .lines + 2) outcomes && leb (done .written + longestAnswer) out)) ⌝ }
 {
-    if asks <= d.used {
+    if asks <= done.used {
         return false;
     }
-    if outcomes / 2 <= d.lines {
+    if outcomes / 2 <= done.lines {
         return false;
     }
     if out < LONGEST_ANSWER {
         return false;
     }
-    d.written <= out - LONGEST_ANSWER
+    done.written <= out - LONGEST_ANSWER
 }
 
 // Answers the next line.
@@ -38,16 +38,16 @@ fn answer_next(
     coordinates: &[i32],
     nodes: &[u64],
     asks: &[u8],
-    d: Answered,
+    done: Answered,
     outcomes: &mut [u64],
     out: &mut [u8],
 ) -> Answered
-    requires { ⌜ LineLeft (lent t references coordinates nodes) (now asks) (batchOf d (now outcomes) (now out)) ⌝ }
-    ensures { λ r. ⌜ BatchStands (step (lent t (references .entry) (coordinates .entry) (nodes .entry)) (now (asks .entry)) (batchOf d (now (outcomes .entry)) (now (out .entry)))) r (now (outcomes .exit)) (now (out .exit)) ⌝ }
+    requires { ⌜ LineLeft (lent t references coordinates nodes) (now asks) (batchOf done (now outcomes) (now out)) ⌝ }
+    ensures { λ r. ⌜ BatchStands (step (lent t (references .entry) (coordinates .entry) (nodes .entry)) (now (asks .entry)) (batchOf done (now (outcomes .entry)) (now (out .entry)))) r (now (outcomes .exit)) (now (out .exit)) ⌝ }
 {
-    let at = d.used;
-    let w = d.written;
-    let k = d.lines;
+    let at = done.used;
+    let w = done.written;
+    let k = done.lines;
     let e = line_end(asks, at);
     let wrote = end_office::answer_line(
         t,
@@ -80,14 +80,14 @@ pub fn answer_lines(
     requires { ⌜ 0 ≡ tableRefusal (lent t references coordinates nodes) ⌝ }
     ensures { λ r. ⌜ BatchStands (batchAnswered (length (now (asks .entry))) (lent t (references .entry) (coordinates .entry) (nodes .entry)) (now (asks .entry)) (batchStart (now (outcomes .entry)) (now (out .entry)))) r (now (outcomes .exit)) (now (out .exit)) ⌝ }
 {
-    let mut d = Answered {
+    let mut done = Answered {
         refusal: 0,
         lines: 0,
         used: 0,
         written: 0,
     };
-    while goes_on(d, asks.len(), outcomes.len(), out.len()) {
-        d = answer_next(t, references, coordinates, nodes, asks, d, outcomes, out);
+    while goes_on(done, asks.len(), outcomes.len(), out.len()) {
+        done = answer_next(t, references, coordinates, nodes, asks, done, outcomes, out);
     }
-    d
+    done
 }

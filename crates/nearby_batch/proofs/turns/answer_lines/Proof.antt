@@ -10,10 +10,10 @@ use Rattle.nearby_batch.proofs.turns.answer_lines.Statement.{statement}
 use Rattle.nearby_batch.proofs.turns.answer_lines.Tie as tie
 
 abbrev Inv-loop : tie.InvT-loop
-Inv-loop t references coordinates nodes asks outcomes₀ out₀ d₀ outcomes out d = BatchGoing (store t references coordinates nodes) asks (batchStart outcomes₀ out₀) (batchOf d outcomes out) × (d .refusal ≡ 0)
+Inv-loop t references coordinates nodes asks outcomes₀ out₀ done₀ outcomes out done = BatchGoing (store t references coordinates nodes) asks (batchStart outcomes₀ out₀) (batchOf done outcomes out) × (done .refusal ≡ 0)
 
 abbrev μ-loop : tie.MeasureT-loop
-μ-loop t references coordinates nodes asks outcomes₀ out₀ d₀ outcomes out d = length asks - d .used
+μ-loop t references coordinates nodes asks outcomes₀ out₀ done₀ outcomes out done = length asks - done .used
 
 loop-holds : tie.Need-loop-holds Inv-loop μ-loop
 loop-holds c = (going-start _ _ _ _, refl)
