@@ -52,8 +52,8 @@ fiveIn capacity nodes =
     nodes
 
 -- the five claims, entered
-abbrev pub five : Store
-five = fiveIn 6 (roomsOf 6 0)
+abbrev pub fiveStored : Store
+fiveStored = fiveIn 6 (roomsOf 6 0)
 
 -- one field of a room changed: not sound
 abbrev pub changed : Store
@@ -76,8 +76,8 @@ four = pos 4 ∷ []
 abbrev pub wide : List ℤ
 wide = pos 4 ∷ pos 4 ∷ []
 
-abbrev pub pageAt : Store → List ℤ → Place → ℕ → ℕ → Outcome ThePage
-pageAt s probe place size room = pageCall s Near probe 5 place size room
+abbrev pub pageFrom : Store → List ℤ → Place → ℕ → ℕ → Outcome ThePage
+pageFrom s probe place size room = pageCall s Near probe 5 place size room
 
 -- the bytes of an ask, by its kind, table, from, snapshot, mark distance, mark number and page size
 abbrev pub askBytes : ℕ → ℕ → ℕ → ℕ → ℕ → ℕ → ℕ → List ℕ
@@ -132,76 +132,76 @@ pub record MakingMarked : Type 0 where
 
 pub record EnteringMarked : Type 0 where
   -- every call on a table begins with 1 and 2; more claims than the capacity are not sound either
-  pub tested : passed five ≡ gives (header 1 1 6 5 3)
+  pub tested : passed fiveStored ≡ gives (header 1 1 6 5 3)
   pub changed2 : passed changed ≡ refused 2
   pub changedLast2 : passed (fiveIn 6 (roomsOf 6 1)) ≡ refused 2
   pub over2 : passed (fiveIn 4 (roomsOf 6 0)) ≡ refused 2
   pub short1 : passed short ≡ refused 1
   -- the five claims into a table that has none: example a's nodes
-  pub entered : enterCall none (101 ∷ 102 ∷ 103 ∷ 104 ∷ 105 ∷ []) (pos 2 ∷ pos 3 ∷ pos 9 ∷ pos 6 ∷ pos 5 ∷ []) ≡ gives five
+  pub entered : enterCall none (101 ∷ 102 ∷ 103 ∷ 104 ∷ 105 ∷ []) (pos 2 ∷ pos 3 ∷ pos 9 ∷ pos 6 ∷ pos 5 ∷ []) ≡ gives fiveStored
   -- [3.15] a run of no claims
-  pub nothingEntered : enterCall five [] [] ≡ gives five
-  pub full3 : enterCall five (106 ∷ 107 ∷ []) (pos 4 ∷ pos 4 ∷ []) ≡ refused 3
-  pub uneven5 : enterCall five (106 ∷ []) (pos 4 ∷ pos 4 ∷ []) ≡ refused 5
+  pub nothingEntered : enterCall fiveStored [] [] ≡ gives fiveStored
+  pub full3 : enterCall fiveStored (106 ∷ 107 ∷ []) (pos 4 ∷ pos 4 ∷ []) ≡ refused 3
+  pub uneven5 : enterCall fiveStored (106 ∷ []) (pos 4 ∷ pos 4 ∷ []) ≡ refused 5
   -- with too many claims; with a room changed; with memory too small
-  pub first5 : enterCall five (106 ∷ 107 ∷ []) (pos 4 ∷ []) ≡ refused 5
+  pub first5 : enterCall fiveStored (106 ∷ 107 ∷ []) (pos 4 ∷ []) ≡ refused 5
   pub first2 : enterCall changed (106 ∷ []) (pos 4 ∷ pos 4 ∷ []) ≡ refused 2
   pub first1 : enterCall short (106 ∷ []) (pos 4 ∷ []) ≡ refused 1
   -- [8.3] a run that just fills the table
-  pub fills0 : number (enterCall five (106 ∷ []) (pos 4 ∷ [])) ≡ 0
+  pub fills0 : number (enterCall fiveStored (106 ∷ []) (pos 4 ∷ [])) ≡ 0
 
 -- ---- [9.7] nearest and farthest; [9.8] a page
 
 pub record AskingMarked : Type 0 where
   -- examples c and d
-  pub nearest : nearestCall five four 5 ≡ gives (found (item 1 102 1))
-  pub within0 : nearestCall five four 0 ≡ gives nothing
-  pub within1 : nearestCall five four 1 ≡ gives (found (item 1 102 1))
-  pub nearest5 : nearestCall five wide 5 ≡ refused 5
+  pub nearest : nearestCall fiveStored four 5 ≡ gives (found (item 1 102 1))
+  pub within0 : nearestCall fiveStored four 0 ≡ gives nothing
+  pub within1 : nearestCall fiveStored four 1 ≡ gives (found (item 1 102 1))
+  pub nearest5 : nearestCall fiveStored wide 5 ≡ refused 5
   pub nearest2 : nearestCall changed wide 5 ≡ refused 2
   pub nearest1 : nearestCall short four 5 ≡ refused 1
-  pub farthest : farthestCall five four ≡ gives (found (item 2 103 5))
+  pub farthest : farthestCall fiveStored four ≡ gives (found (item 2 103 5))
   -- a table without a claim
   pub ofNone : farthestCall none four ≡ gives nothing
-  pub farthest5 : farthestCall five wide ≡ refused 5
+  pub farthest5 : farthestCall fiveStored wide ≡ refused 5
   pub farthest2 : farthestCall changed wide ≡ refused 2
   pub farthest1 : farthestCall short four ≡ refused 1
   -- example e; in far order the first is the farthest
-  pub page : pageAt five four Start 2 6 ≡ gives (record { items = item 1 102 1 ∷ item 4 105 1 ∷ []; last = false })
-  pub next : pageAt five four (after 5 1 4) 2 6 ≡ gives (record { items = item 0 101 2 ∷ item 3 104 2 ∷ []; last = false })
-  pub far : pageCall five Far four 5 Start 1 3 ≡ gives (record { items = item 2 103 5 ∷ []; last = false })
-  pub size0 : pageAt five four Start 0 6 ≡ refused 6
-  pub sizeOver : pageAt five four Start tooMany (3 * tooMany) ≡ refused 6
+  pub page : pageFrom fiveStored four Start 2 6 ≡ gives (record { items = item 1 102 1 ∷ item 4 105 1 ∷ []; last = false })
+  pub next : pageFrom fiveStored four (after 5 1 4) 2 6 ≡ gives (record { items = item 0 101 2 ∷ item 3 104 2 ∷ []; last = false })
+  pub far : pageCall fiveStored Far four 5 Start 1 3 ≡ gives (record { items = item 2 103 5 ∷ []; last = false })
+  pub size0 : pageFrom fiveStored four Start 0 6 ≡ refused 6
+  pub sizeOver : pageFrom fiveStored four Start tooMany (3 * tooMany) ≡ refused 6
   -- examples h and g; a mark over reach; a room for one item too few
-  pub snapshot7 : pageAt five four (after 6 1 4) 2 6 ≡ refused 7
-  pub mark8 : pageAt five four (after 5 2 4) 2 6 ≡ refused 8
-  pub beyond8 : pageCall five Near four 4 (after 5 5 2) 2 6 ≡ refused 8
-  pub room12 : pageAt five four Start 2 5 ≡ refused 12
+  pub snapshot7 : pageFrom fiveStored four (after 6 1 4) 2 6 ≡ refused 7
+  pub mark8 : pageFrom fiveStored four (after 5 2 4) 2 6 ≡ refused 8
+  pub beyond8 : pageCall fiveStored Near four 4 (after 5 5 2) 2 6 ≡ refused 8
+  pub room12 : pageFrom fiveStored four Start 2 5 ≡ refused 12
   -- of two the earlier
-  pub first1 : pageAt short wide Start 2 6 ≡ refused 1
-  pub first2 : pageAt changed wide Start 2 6 ≡ refused 2
-  pub first5 : pageAt five wide Start 0 6 ≡ refused 5
-  pub first6 : pageAt five four (after 6 1 4) 0 6 ≡ refused 6
-  pub first7 : pageAt five four (after 6 2 4) 2 6 ≡ refused 7
-  pub first8 : pageAt five four (after 5 2 4) 2 5 ≡ refused 8
+  pub first1 : pageFrom short wide Start 2 6 ≡ refused 1
+  pub first2 : pageFrom changed wide Start 2 6 ≡ refused 2
+  pub first5 : pageFrom fiveStored wide Start 0 6 ≡ refused 5
+  pub first6 : pageFrom fiveStored four (after 6 1 4) 0 6 ≡ refused 6
+  pub first7 : pageFrom fiveStored four (after 6 2 4) 2 6 ≡ refused 7
+  pub first8 : pageFrom fiveStored four (after 5 2 4) 2 5 ≡ refused 8
   -- a mark just at the reach: nothing comes after it
-  pub atReach : pageAt five four (after 5 5 2) 2 6 ≡ gives (record { items = []; last = true })
+  pub atReach : pageFrom fiveStored four (after 5 5 2) 2 6 ≡ gives (record { items = []; last = true })
 
 -- ---- [9.10] the office
 
 pub record OfficeMarked : Type 0 where
-  pub answered : officeAt five sampleAsk ≡ gives sampleAnswer
-  pub room12 : officeCall five (longestAnswer - 1) sampleAsk ≡ refused 12
-  pub line9 : officeAt five noLine ≡ refused 9
-  pub kind10 : officeAt five (askWith 2 7 0 0 0 0 2) ≡ refused 10
-  pub table11 : officeAt five (askWith 1 8 0 0 0 0 2) ≡ refused 11
-  pub snapshot7 : officeAt five (askWith 1 7 1 6 1 4 2) ≡ refused 7
-  pub mark8 : officeAt five (askWith 1 7 1 5 2 4 2) ≡ refused 8
+  pub answered : officeAt fiveStored sampleAsk ≡ gives sampleAnswer
+  pub room12 : officeCall fiveStored (longestAnswer - 1) sampleAsk ≡ refused 12
+  pub line9 : officeAt fiveStored noLine ≡ refused 9
+  pub kind10 : officeAt fiveStored (askWith 2 7 0 0 0 0 2) ≡ refused 10
+  pub table11 : officeAt fiveStored (askWith 1 8 0 0 0 0 2) ≡ refused 11
+  pub snapshot7 : officeAt fiveStored (askWith 1 7 1 6 1 4 2) ≡ refused 7
+  pub mark8 : officeAt fiveStored (askWith 1 7 1 5 2 4 2) ≡ refused 8
   -- of two the earlier
   pub first12 : officeCall short (longestAnswer - 1) sampleAsk ≡ refused 12
   pub first1 : officeAt short sampleAsk ≡ refused 1
   pub first2 : officeAt changed noLine ≡ refused 2
-  pub first9 : officeAt five (askBytes 2 7 0 0 0 0 2) ≡ refused 9
-  pub first10 : officeAt five (askWith 1 8 0 0 0 0 tooMany) ≡ refused 10
-  pub first11 : officeAt five (askWith 1 8 1 6 1 4 2) ≡ refused 11
-  pub first7 : officeAt five (askWith 1 7 1 6 2 4 2) ≡ refused 7
+  pub first9 : officeAt fiveStored (askBytes 2 7 0 0 0 0 2) ≡ refused 9
+  pub first10 : officeAt fiveStored (askWith 1 8 0 0 0 0 tooMany) ≡ refused 10
+  pub first11 : officeAt fiveStored (askWith 1 8 1 6 1 4 2) ≡ refused 11
+  pub first7 : officeAt fiveStored (askWith 1 7 1 6 2 4 2) ≡ refused 7

@@ -40,8 +40,8 @@ probe next = pos 4 ∷ pos next ∷ replicate 6 (pos 0)
 abbrev pub queryOf : Order → ℕ → queries.Query
 queryOf order next = record { order = order; table = 7; measure = 1; d = 1; probe = probe next; reach = 5 }
 
-abbrev pub listIn : Order → ℕ → Bool → ℕ → ℕ → Bool → lists.List
-listIn order next started snapshot count complete =
+abbrev pub listOrdered : Order → ℕ → Bool → ℕ → ℕ → Bool → lists.List
+listOrdered order next started snapshot count complete =
     record {
       query = queryOf order next;
       started = started;
@@ -51,7 +51,7 @@ listIn order next started snapshot count complete =
     }
 
 abbrev pub listOf : ℕ → Bool → ℕ → ℕ → Bool → lists.List
-listOf = listIn Near
+listOf = listOrdered Near
 
 -- the first page of 2, and behind it the room as it was
 abbrev pub pageRoom : ℕ → List ℕ
@@ -78,7 +78,7 @@ falling = held (listOf 0 true 5 2 false) (4 ∷ 105 ∷ 1 ∷ 1 ∷ 102 ∷ 1 �
 
 -- in far order, which has no lines: not sound
 abbrev pub far : Held
-far = held (listIn Far 0 false 0 0 false) []
+far = held (listOrdered Far 0 false 0 0 false) []
 
 abbrev pub asked : Held → ℕ → ℕ → Outcome (List ℕ)
 asked s size out = askingHeld lines s size out
