@@ -98,10 +98,6 @@ pub data Later (c : Codec) (Elsewhere : List ℕ → Type 0) (w : World) : World
   still : Later c Elsewhere w w
   onwards : {v : World} → Later c Elsewhere w v → (e : Event) → Allowed c Elsewhere v e → Later c Elsewhere w (next c v e)
 
--- where no line comes from elsewhere
-abbrev pub Nowhere : List ℕ → Type 0
-Nowhere s = ⊥
-
 -- [7.14] no line from elsewhere reads as an answer under this table number
 unfoldable pub Unshared : Codec → (List ℕ → Type 0) → ℕ → Type 0
 Unshared c Elsewhere number =

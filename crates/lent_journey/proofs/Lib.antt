@@ -1,0 +1,1 @@
+-- The promise over a link, in lent memory.

@@ -1,0 +1,5 @@
+pub mod Elsewhere
+pub mod World
+pub mod Seen
+pub mod Promise
+pub mod Contracts
