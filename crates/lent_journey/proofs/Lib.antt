@@ -1,1 +1,6 @@
 -- The promise over a link, in lent memory.
+pub mod Agreement
+pub mod SoundMemory
+pub mod Seen
+pub mod Elsewhere
+pub mod Demand
