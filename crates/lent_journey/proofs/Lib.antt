@@ -4,3 +4,4 @@ pub mod SoundMemory
 pub mod Seen
 pub mod Elsewhere
 pub mod Demand
+pub mod Contracts

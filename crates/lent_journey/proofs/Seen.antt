@@ -10,6 +10,7 @@ use lib.ListN.{length, getD, set, length-map, List·getD-map}
 use lib.Seq.{map-set-same}
 use Rattle.paper.specs.declared.lists.List as lists
 use Rattle.paper.specs.Points.{Claim}
+use Rattle.paper.specs.Orders.{Query}
 use Rattle.paper.specs.Outcomes.{Outcome, refused, gives, onto, leaves}
 use Rattle.paper.specs.Tree.{Store, fits, sound, claimsFrom, claimsIn}
 use Rattle.paper.specs.Runs.{enterCall}
@@ -71,23 +72,48 @@ taken-seen w i line (gives L) e =
     (map-set listing (w .lists) i (heldAfter (theHeld w i) (gives L))
     ∙ ap (λ (K : Listing). set (map listing (w .lists)) i K) (moves lines (theHeld w i) line L e))
 
-pub event-seen : (w : LentWorld) (e : Event) → SoundMemory w → Allowed w e → seen (next w e) ≡ journey.next lines (seen w) (eventSeen w e)
-unfolding next Allowed eventSeen journey.next
-event-seen w (enters given places) m a =
-    table-seen w (enterCall (w .store) given places)
-    ∙ (unfold callEnters in ap (journey.tableChanged (seen w)) (enter-agrees (w .store) (m .fit) (m .table) given places))
-event-seen w (opens q room) m a = opened-seen w room (openingHeld q) ∙ ap (journey.listAdded (seen w)) (open-agrees q room)
-event-seen w (asks i size out) m a =
-    air-seen w (askingHeld lines (theHeld w i) size out)
-    ∙ ap (journey.sent (seen w)) (ask-agrees (theHeld w i) (sound-well _ (the-sound w i a m)) size out)
-    ∙ ap (λ (L : Listing). journey.sent (seen w) (asking lines (roomFor (theHeld w i)) size out L)) (sym (list-seen w i))
-event-seen w (receives line out) m a =
-    air-seen w (officeCall (w .store) out line) ∙ ap (journey.sent (seen w)) (office-agrees (w .store) (m .fit) (m .table) out line)
-event-seen w (takes i line) m a =
-    taken-seen w i line _ refl
-    ∙ ap (journey.moved (seen w) i) (take-agrees (theHeld w i) (sound-well _ (the-sound w i (a .0) m)) line)
-    ∙ ap (λ (L : Listing). journey.moved (seen w) i (taking lines (roomFor (theHeld w i)) L line)) (sym (list-seen w i))
-event-seen w (strays line) m a = air-seen w (gives line)
+-- each step
+module _ (w : LentWorld) (m : SoundMemory w) where
+  pub asks-seen : (i size out : ℕ) → i < length (w .lists)
+      → seen (next w (asks i size out)) ≡ journey.next lines (seen w) (journey.asks i size (roomFor (theHeld w i)) out)
+  unfolding next journey.next
+  asks-seen i size out here =
+      air-seen w (askingHeld lines (theHeld w i) size out)
+      ∙ ap (journey.sent (seen w)) (ask-agrees (theHeld w i) (sound-well _ (the-sound w i here m)) size out)
+      ∙ ap (λ (L : Listing). journey.sent (seen w) (asking lines (roomFor (theHeld w i)) size out L)) (sym (list-seen w i))
+
+  pub receives-seen : (line : List ℕ) (out : ℕ) → seen (next w (receives line out)) ≡ journey.next lines (seen w) (journey.receives line out)
+  unfolding next journey.next
+  receives-seen line out =
+      air-seen w (officeCall (w .store) out line) ∙ ap (journey.sent (seen w)) (office-agrees (w .store) (m .fit) (m .table) out line)
+
+  pub takes-seen : (i : ℕ) (line : List ℕ) → i < length (w .lists)
+      → seen (next w (takes i line)) ≡ journey.next lines (seen w) (journey.takes i (roomFor (theHeld w i)) line)
+  unfolding next journey.next
+  takes-seen i line here =
+      taken-seen w i line _ refl
+      ∙ ap (journey.moved (seen w) i) (take-agrees (theHeld w i) (sound-well _ (the-sound w i here m)) line)
+      ∙ ap (λ (L : Listing). journey.moved (seen w) i (taking lines (roomFor (theHeld w i)) L line)) (sym (list-seen w i))
+
+  pub opens-seen : (q : Query) (room : List ℕ) → seen (next w (opens q room)) ≡ journey.next lines (seen w) (journey.opens q)
+  unfolding next journey.next
+  opens-seen q room = opened-seen w room (openingHeld q) ∙ ap (journey.listAdded (seen w)) (open-agrees q room)
+
+  enters-seen : (given : List ℕ) (places : List ℤ)
+      → seen (next w (enters given places)) ≡ journey.next lines (seen w) (journey.enters (runSeen (w .store) given places))
+  unfolding next journey.next callEnters
+  enters-seen given places =
+      table-seen w (enterCall (w .store) given places)
+      ∙ ap (journey.tableChanged (seen w)) (enter-agrees (w .store) (m .fit) (m .table) given places)
+
+  event-seen : (e : Event) → Allowed w e → seen (next w e) ≡ journey.next lines (seen w) (eventSeen w e)
+  unfolding Allowed eventSeen
+  event-seen (enters given places) a = enters-seen given places
+  event-seen (opens q room) a = opens-seen q room
+  event-seen (asks i size out) a = asks-seen i size out a
+  event-seen (receives line out) a = receives-seen line out
+  event-seen (takes i line) a = takes-seen i line (a .0)
+  event-seen (strays line) a = unfold next journey.next in refl
 
 -- ---- what is allowed, seen
 
@@ -132,6 +158,10 @@ table-ok s fit well typed =
 
 -- ---- worlds, seen
 
+pub later-reachable : {w v : LentWorld} → Reachable w → Later w v → Reachable v
+later-reachable r still = r
+later-reachable r (onwards l s) = goes (later-reachable r l) s
+
 -- what may come from elsewhere goes by the table's number, which stays
 module _ (number : ℕ) where
   abbrev LaterSeen : LentWorld → LentWorld → Type 0
@@ -142,25 +172,20 @@ module _ (number : ℕ) where
 
   -- one step more after a moment x
   step-seen : (x : LentWorld) {w v : LentWorld} → w .store .table .number ≡ number → SoundMemory w → LaterSeen x w → Step w v → LaterSeen x v
-  step-seen x {w} own m l (happens e a) = rw (event-seen w e m a) (journey.onwards l (eventSeen w e) (rw (← own) (allowed-seen w e a)))
+  step-seen x {w} own m l (happens e a) = rw (event-seen w m e a) (journey.onwards l (eventSeen w e) (rw (← own) (allowed-seen w e a)))
   step-seen x {w} own m l (copies i here room c) = rw (same-seen w i _ (copied-same (theHeld w i) (the-sound w i here m) room c)) l
 
-pub later-reachable : {w v : LentWorld} → Reachable w → Later w v → Reachable v
-later-reachable r still = r
-later-reachable r (onwards l s) = goes (later-reachable r l) s
-
-pub later-seen : {w v : LentWorld} → Reachable w → Later w v → journey.Later lines (Foreign (w .store .table .number)) (seen w) (seen v)
-later-seen r still = journey.still
-later-seen {w} r (onwards {v} l s) =
-    let k = later-seen r l in
-    step-seen (w .store .table .number) w (same-number (w .store .table .number) w v k) (sound-memory (later-reachable r l)) k s
+  pub later-seen : {w v : LentWorld} → w .store .table .number ≡ number → Reachable w → Later w v → LaterSeen w v
+  later-seen own r still = journey.still
+  later-seen {w} own r (onwards {v} l s) =
+      let k = later-seen own r l in step-seen w (same-number w v k ∙ own) (sound-memory (later-reachable r l)) k s
 
 pub number-stays : {w v : LentWorld} → Reachable w → Later w v → v .store .table .number ≡ w .store .table .number
-number-stays {w} {v} r l = same-number (w .store .table .number) w v (later-seen r l)
+number-stays {w} {v} r l = same-number (w .store .table .number) w v (later-seen (w .store .table .number) refl r l)
 
 pub reachable-seen : {w : LentWorld} → Reachable w → journey.Reachable lines (Foreign (w .store .table .number)) (seen w)
 reachable-seen (begins s e typed) = let a = asked-sound s e in journey.begins (tableOf s) (table-ok s (a .0) (a .1) typed)
 reachable-seen (goes {w} {v} r s) =
     let l : Later w v = onwards still s in
     subst (λ (n : ℕ). journey.Reachable lines (Foreign n) (seen v)) (sym (number-stays r l))
-    (journeys.later-reachable lines lawful (Foreign (w .store .table .number)) (seen w) (reachable-seen r) (later-seen r l))
+    (journeys.later-reachable lines lawful (Foreign (w .store .table .number)) (seen w) (reachable-seen r) (later-seen (w .store .table .number) refl r l))
