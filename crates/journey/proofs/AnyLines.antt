@@ -8,7 +8,7 @@ use lib.ListN.{length}
 use Rattle.paper.specs.Ends.{Codec, count, Listing}
 use Rattle.orders.proofs.Lists.{all-getD, all-mem}
 use Rattle.orders.specs.LawfulLines.{Lawful}
-use Rattle.journey.specs.World.{World, noListing, theList, next, Reachable, Later, still, onwards, Unshared}
+use Rattle.journey.specs.World.{World, noListing, theList, Reachable, Later, still, onwards, Unshared}
 use Rattle.journey.specs.Promise.{allOf, Truthful, MayAsk, Answered, Grows}
 use Rattle.journey.proofs.Kept.{Kept, Grown, grown-matches, kept-grown, kept-sound}
 use Rattle.journey.proofs.Growth.{Ready, is-answered, has-grown}

@@ -10,7 +10,7 @@ use lib.IntN.{ℤ}
 use lib.ListN.{length}
 use borrow.Author.Tests.{eqb-true, ne-eqb}
 use Rattle.paper.specs.Orders.{Query}
-use Rattle.paper.specs.Outcomes.{Outcome, gives, must, onto}
+use Rattle.paper.specs.Outcomes.{gives, must, onto}
 use Rattle.paper.specs.Points.{inRange}
 use Rattle.paper.specs.Tree.{Store, fits, sound}
 use Rattle.paper.specs.Runs.{enterCall}

@@ -1,17 +1,16 @@
 -- What the public calls promise, by their contracts, is what the steps of a world do. Each law takes the promise that its call's contract
 -- states, for whatever result and memory the call gave back, and says that going on with these is the world's step. Assumes nothing.
 use Prim.Native.Nat.{ℕ}
-use mathlib.Core.Path.{_≡_, refl, sym, ap, _∙_}
-use mathlib.Core.Bool.{Bool, true, false, cond}
-use mathlib.Core.List.{List, _++_}
+use mathlib.Core.Path.{_≡_, refl, ap, _∙_}
+use mathlib.Core.Bool.{Bool, true, false}
+use mathlib.Core.List.{List}
 use native.Mathlib.Omega.{arith}
 use lib.Dec.{eqb}
 use lib.IntN.{ℤ}
-use lib.ListN.{length, take, drop}
+use lib.ListN.{length, drop}
 use lib.Seq.{take-at}
 use borrow.Author.Tests.{le-leb}
 use Rattle.paper.specs.declared.lines.Wrote.{Wrote}
-use Rattle.paper.specs.declared.lists.List as lists
 use Rattle.paper.specs.declared.lists.Opened.{Opened}
 use Rattle.paper.specs.declared.lists.Taken.{Taken}
 use Rattle.paper.specs.declared.tables.Entered.{Entered}
@@ -24,11 +23,11 @@ use Rattle.paper.specs.Points.{inRange}
 use Rattle.paper.specs.Tree.{built, Store, store, Memory, fits, sameFront, afresh, sound}
 use Rattle.paper.specs.Runs.{emptyTable, makeCall, madeShown, enterCall, enteredShown, putStore}
 use Rattle.paper.specs.Ends.{Listing, fresh, opening}
-use Rattle.paper.specs.Lists.{Held, held, Takes, openedAs, openingHeld, openedTold, askingHeld, takingHeld, heldAfter}
+use Rattle.paper.specs.Lists.{held, Takes, openedAs, openingHeld, openedTold, askingHeld, takingHeld, heldAfter}
 use Rattle.paper.specs.Calls.{tableRefusal, officeCall}
 use Rattle.paper.specs.Codec.{lines}
-use Rattle.lent_journey.specs.World.{LentWorld, enters, opens, asks, receives, takes, theHeld, putTable, putList, putInAir, putHeld, next}
-use Rattle.lent_journey.specs.Contracts.{lentTo, under, afterEnter, afterOpen, afterLine, afterTake}
+use Rattle.lent_journey.specs.World.{LentWorld, enters, opens, asks, receives, takes, theHeld, putTable, putList, putInAir, next}
+use Rattle.lent_journey.specs.Contracts.{lentTo, afterEnter, afterOpen, afterLine, afterTake}
 
 -- ---- one call that enters, opens, writes or takes, whatever its outcome
 

@@ -9,7 +9,7 @@ use lib.ListN.{length, length-map, length-append}
 use borrow.Author.Tests.{eqb-true}
 use Rattle.paper.specs.declared.lists.List as lists
 use Rattle.paper.specs.Orders.{Query, itemOf, queryIn}
-use Rattle.paper.specs.Outcomes.{gives, onto}
+use Rattle.paper.specs.Outcomes.{gives}
 use Rattle.paper.specs.Tree.{claimsIn}
 use Rattle.paper.specs.Ends.{tableOf, matches, Listing, opening}
 use Rattle.paper.specs.Lines.{spoken}
@@ -28,8 +28,8 @@ use Rattle.journey.proofs.Journey.{later-lists}
 use Rattle.journey.proofs.Queries.{opened-query}
 use Rattle.journey.proofs.AnyLines as any
 use Rattle.lent_journey.specs.Elsewhere.{Foreign}
-use Rattle.lent_journey.specs.World.{LentWorld, opens, asks, receives, takes, theHeld, theListing, next, Allowed, happens, Reachable, goes, Later}
-use Rattle.lent_journey.specs.Seen.{seen, eventSeen}
+use Rattle.lent_journey.specs.World.{LentWorld, opens, takes, theHeld, theListing, next, Allowed, happens, Reachable, goes, Later}
+use Rattle.lent_journey.specs.Seen.{seen}
 use Rattle.lent_journey.specs.Promise.{TruthfulHeld, askIn, replyIn, AnsweredHeld, GrowsHeld}
 use Rattle.lent_journey.proofs.SoundMemory.{SoundMemory, the-sound, sound-in, sound-memory}
 use Rattle.lent_journey.proofs.Seen.{list-seen, opens-seen, asks-seen, receives-seen, takes-seen, later-reachable, later-seen, number-stays, reachable-seen}

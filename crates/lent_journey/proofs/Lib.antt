@@ -1,7 +1,8 @@
 -- The promise over a link, in lent memory.
+pub mod Contracts
 pub mod Agreement
 pub mod SoundMemory
 pub mod Seen
 pub mod Elsewhere
 pub mod Demand
-pub mod Contracts
+pub mod Examples

@@ -12,7 +12,7 @@ use Rattle.paper.specs.declared.lists.List as lists
 use Rattle.paper.specs.Limits.{mostClaims}
 use Rattle.paper.specs.Lines.{spoken}
 use Rattle.paper.specs.Orders.{Query, flat}
-use Rattle.paper.specs.Outcomes.{Outcome, refused, gives, leaves, number}
+use Rattle.paper.specs.Outcomes.{Outcome, refused, gives, leaves}
 use Rattle.paper.specs.Points.{inRange}
 use Rattle.paper.specs.Tree.{Store, fits, sound}
 use Rattle.paper.specs.Runs.{enterCall}

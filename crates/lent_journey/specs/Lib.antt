@@ -3,3 +3,4 @@ pub mod World
 pub mod Seen
 pub mod Promise
 pub mod Contracts
+pub mod Examples
