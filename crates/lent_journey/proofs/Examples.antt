@@ -49,7 +49,7 @@ unfolding next enterCall fits inRange sound afresh built sameFront addedRun adde
 here = omega arith
 
 grows : GrowsHeld opened opened opened 0 1
-grows = that-answer-makes-the-list-grow opened reached 0 1 here may opened Later.still opened Later.still refl
+grows = that-answer-makes-the-list-grow opened reached opened opened Later.still Later.still 0 1 here may refl
 
 abbrev found : Query → ℕ → List Item
 found q n = take (length (theListing opened 0 .items) + 1) (listed q (claimsIn (opened .store)) n)

@@ -4,5 +4,7 @@ pub mod Agreement
 pub mod SoundMemory
 pub mod Seen
 pub mod Elsewhere
+pub mod Answers
+pub mod Queries
 pub mod Demand
 pub mod Examples
