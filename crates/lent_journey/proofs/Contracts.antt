@@ -83,7 +83,7 @@ module _ (w : LentWorld) where
       → Takes (theHeld w i .list) (takingHeld lines (held (theHeld w i .list) (theHeld w i .room)) line) (theHeld w i .room) r after
       → afterTake w i r after ≡ next w (takes i line)
   unfolding next heldAfter
-  taking-steps i line r after p = rw (p .result, p .memory)
+  taking-steps i line r after p = λ j. afterTake w i (p .result j) (p .memory j)
 
 -- ---- [9.4] a table that `make_table` gives is one that a world may begin with
 
