@@ -69,13 +69,13 @@ next w (receives line out) = leaves putInAir (officeCall (w .store) out line) w
 next w (takes i line) = putHeld i (heldAfter (theHeld w i) (takingHeld lines (theHeld w i) line)) w
 next w (strays line) = putInAir line w
 
--- [7.14] the premises: arguments are of their types, an order that is opened has lines, and what arrives was written by one of the two
--- ends, or comes from elsewhere and not from another table of this number
+-- [7.14] the premises: arguments are of their types, an order that is opened has lines, and what a list takes was written by one of the
+-- two ends, or comes from elsewhere and not from another table of this number; the office may get any line
 unfoldable pub Allowed : LentWorld → Event → Type 0
 Allowed w (enters given places) = References given
 Allowed w (opens q room) = Typed q × (spoken (q .order) ≡ true)
 Allowed w (asks i size out) = i < length (w .lists)
-Allowed w (receives line out) = List·Memᴰ line (w .air)
+Allowed w (receives line out) = Unit {0}
 Allowed w (takes i line) = (i < length (w .lists)) × List·Memᴰ line (w .air)
 Allowed w (strays line) = Foreign (w .store .table .number) line
 
