@@ -2,7 +2,7 @@
 use Prim.Native.Nat.{ℕ, _+_, _≤_, _<_}
 use mathlib.Core.Path.{_≡_, refl, ap, _∙_}
 use mathlib.Core.Bool.{Bool, true, false, cond}
-use mathlib.Core.List.{List, _++_, List·Memᴰ, List·Memᴰ·head}
+use mathlib.Core.List.{List, _∷_, _++_}
 use native.Mathlib.Omega.{arith}
 use lib.ListN.{length, take, drop, length-append}
 use lib.Seq.{getD-set-same}
@@ -87,9 +87,9 @@ module _ (c : Codec) (law : Lawful c) (t : Table) (L : Listing) (size : ℕ) (r 
     unfolding pageOf following
     joined-front = rw same (longer t L at size on (r .one) .items)
 
--- what a call gave is in the air, or in its list's place
-sent-has : (w : World) (x : Outcome (List ℕ)) (s : List ℕ) → x ≡ gives s → List·Memᴰ s (sent w x .air)
-sent-has w x s e = rw e (List·Memᴰ·head refl)
+-- what a call gave is before the air of before, or in its list's place
+sent-is : (w : World) (x : Outcome (List ℕ)) (s : List ℕ) → x ≡ gives s → sent w x .air ≡ s ∷ w .air
+sent-is w x s e = rw e
 
 moved-is : (w : World) (i : ℕ) (x : Outcome Listing) (L : Listing) → x ≡ gives L → i < length (w .lists) → theList (listChanged w i x) i ≡ L
 moved-is w i x L e here = rw e (getD-set-same (w .lists) i L noListing here)
@@ -99,8 +99,8 @@ module _ (c : Codec) (law : Lawful c) where
   unfolding next
   is-answered w v i size before after =
       record {
-        written = λ room out h g. sent-has w _ _ (asks-line c law (w .table) (theList w i) size before room out h g);
-        answered = λ out h. sent-has v _ _ (office-line c law (v .table) (theList w i) size after out h);
+        written = λ room out h g. sent-is w _ _ (asks-line c law (w .table) (theList w i) size before room out h g);
+        answered = λ out h. sent-is v _ _ (office-line c law (v .table) (theList w i) size after out h);
       }
 
   pub has-grown : (w v u : World) (i size : ℕ) → MayAnswer c (v .table) (theList w i) size → TableGrown (v .table) (u .table) → theList u i ≡ theList w i
@@ -113,9 +113,12 @@ module _ (c : Codec) (law : Lawful c) where
         grown = joinedTo L (answerOf t (presentAsk L size));
         accepted = λ room h.
             moved-is u i _ _ (ap (λ (X : Listing). taking c room X (replyLineOf c t L size)) stands ∙ takes-line c law t L size r room h) here;
-        more = ap (λ (l : List Item). L .items ++ take size l) (lacking c law t L size r (u .table) g);
-        front = joined-front c law t L size r (u .table) g;
-        complete = ap (lastOf size) (lacking c law t L size r (u .table) g);
-        query = refl;
-        snapshot = present-snapshot t L (r .kept) (r .unfinished);
+        extended =
+            record {
+              more = ap (λ (l : List Item). L .items ++ take size l) (lacking c law t L size r (u .table) g);
+              front = joined-front c law t L size r (u .table) g;
+              complete = ap (lastOf size) (lacking c law t L size r (u .table) g);
+              query = refl;
+              snapshot = present-snapshot t L (r .kept) (r .unfinished);
+            };
       }

@@ -17,11 +17,12 @@ use Rattle.paper.specs.Ends.{Ask, Answer, Codec, Table, count, answerOf, answer
 use Rattle.paper.proofs.Tests.{and-first, and-second}
 use Rattle.paper.proofs.Outcomes.{must-test, must-rest, through, same-given}
 use Rattle.orders.proofs.Lists.{All, all-map, all-append, all-set, all-getD, all-mem}
-use Rattle.orders.proofs.Taking.{took, took-query, fits-present}
+use Rattle.orders.proofs.Taking.{took, fits-present}
 use Rattle.orders.specs.LawfulLines.{Typed, QueryInRange, AskInRange, AnswerInRange, Lawful}
 use Rattle.journey.specs.World.{World, Event, enters, opens, asks, receives, takes, strays, noListing, theList, runEntering, tableChanged, sent, listAdded, listChanged, next, Allowed, TableOk, Reachable, begins, goes, Later, still, onwards, Unshared}
 use Rattle.journey.proofs.Kept.{ListTrue, Vouched, kept-fresh, TableGrown, grown-same, grown-trans, kept-grown, vouched-grown, kept-joined}
 use Rattle.journey.proofs.Answers.{asked-ok, answer-ok, replied, answer-vouched}
+use Rattle.journey.proofs.Queries.{same-query}
 
 -- what entering gave
 record Entered (t : Table) (run : List Claim) (u : Table) : Type 0 where
@@ -159,18 +160,12 @@ module _ (c : Codec) (law : Lawful c) (Elsewhere : List ℕ → Type 0) where
       (λ f. absurd (alone s f (L .query .order) y (a1 .first) (ap (λ (q : Query). q .table) (sym (fits .query)))))
       (honest (L .query .order) y (a1 .first))
 
-  same-query : (room : ℕ) (L K : Listing) (s : List ℕ) → taking c room L s ≡ gives K → K .query ≡ L .query
-  unfolding taking
-  same-query room L K s e =
-      let a1 = through (c .readAnswer (L .query .order) s) _ _ (must-rest (soundIn room L) 2 _ _ e) in
-      took-query room L (a1 .value) K (took room L (a1 .value) K (a1 .second))
-
   takes-inv : (w : World) (j at room : ℕ) (s : List ℕ) → Inv w → j < length (w .lists) → List·Memᴰ s (w .air) → (r : Outcome Listing)
       → taking c room (theList w j) s ≡ r → Inv (listChanged w at r)
   takes-inv w j at room s i hj m (refused k) e = i
   takes-inv w j at room s i hj m (gives K) e =
       let L : Listing = theList w j in
-      let q : K .query ≡ L .query = same-query room L K s e in
+      let q : K .query ≡ L .query = same-query c room L K s e in
       let good : Good (w .table) L = all-getD _ (w .lists) j noListing (i .lists) hj in
       let keeps : Unshared c Elsewhere (K .query .table) → ListTrue (w .table) K =
       λ u. let v : Unshared c Elsewhere (L .query .table) = rw q at u in

@@ -1,3 +1,2 @@
 pub mod World
 pub mod Promise
-pub mod EnteredRuns

@@ -1,8 +1,8 @@
 -- What is promised of a world: lists over a link. Definitions only.
-use Prim.Native.Nat.{ℕ, _+_, _≤_, _<_}
+use Prim.Native.Nat.{ℕ, _+_, _≤_}
 use mathlib.Core.Path.{_≡_}
 use mathlib.Core.Bool.{true, false, cond}
-use mathlib.Core.List.{List, _++_, List·Memᴰ}
+use mathlib.Core.List.{List, _∷_, _++_}
 use lib.ListN.{length, take, drop}
 use Rattle.paper.specs.Orders.{Item, listed, lastOf}
 use Rattle.paper.specs.Ends.{Codec, Table, count, matches, answerOf, Listing, presentAsk, soundIn}
@@ -14,7 +14,9 @@ abbrev pub allOf : Table → Listing → List Item
 allOf t L = listed (L .query) (t .claims) (L .snapshot)
 
 -- [7.12] a list is sound, and the first so many of what is listed at its snapshot
-pub record Truthful (t : Table) (L : Listing) : Type 0 where
+pub record Truthful (c : Codec) (t : Table) (L : Listing) : Type 0 where
+  -- [2.1] its order is one that has lines
+  pub spoken : c .speaks (L .query .order) ≡ true
   pub sound : (room : ℕ) → length (L .items) ≤ room → soundIn room L ≡ true
   pub held : L .snapshot ≤ count t
   pub front : L .items ≡ take (length (L .items)) (allOf t L)
@@ -28,30 +30,33 @@ askLineOf c L size = c .askLine (presentAsk L size)
 abbrev pub replyLineOf : Codec → Table → Listing → ℕ → List ℕ
 replyLineOf c t L size = c .answerLine (answerOf t (presentAsk L size))
 
--- list i is for this table, is not complete, and may ask for a page of this size
-pub record MayAsk (w : World) (i size : ℕ) : Type 0 where
-  pub here : i < length (w .lists)
-  pub ours : matches (w .table) (theList w i .query) ≡ true
-  pub unfinished : theList w i .complete ≡ false
+-- [7.8] [4.3] a list that is for this table, is not complete, and may ask for a page of this size
+pub record MayAsk (t : Table) (L : Listing) (size : ℕ) : Type 0 where
+  pub ours : matches t (L .query) ≡ true
+  pub unfinished : L .complete ≡ false
   pub one : 1 ≤ size
   pub most : size ≤ mostPage
 
--- [7.13] list i writes its present ask in w, and the ask reaches the office in v
+-- [7.13] list i writes its present ask in w, and the ask reaches the office in v: each line is what the step adds to the air
 pub record Answered (c : Codec) (w v : World) (i size : ℕ) : Type 0 where
   pub written : (room out : ℕ) → length (theList w i .items) ≤ room → longestAsk ≤ out
-      → List·Memᴰ (askLineOf c (theList w i) size) (next c w (asks i size room out) .air)
+      → next c w (asks i size room out) .air ≡ askLineOf c (theList w i) size ∷ w .air
   pub answered : (out : ℕ) → longestAnswer ≤ out
-      → List·Memᴰ (replyLineOf c (v .table) (theList w i) size) (next c v (receives (askLineOf c (theList w i) size) out) .air)
+      → next c v (receives (askLineOf c (theList w i) size) out) .air ≡ replyLineOf c (v .table) (theList w i) size ∷ v .air
+
+-- [7.13] how far the answer that table t gives to the present ask of L takes it, where table u is t or has grown from it
+pub record Extended (t u : Table) (L : Listing) (size : ℕ) (grown : Listing) : Type 0 where
+  -- [7.13] a full page more, or all that is left
+  pub more : grown .items ≡ L .items ++ take size (drop (length (L .items)) (allOf u grown))
+  pub front : grown .items ≡ take (length (L .items) + size) (allOf u grown)
+  pub complete : grown .complete ≡ lastOf size (drop (length (L .items)) (allOf u grown))
+  pub query : grown .query ≡ L .query
+  -- [7.7] the first answer fixes the snapshot
+  pub snapshot : grown .snapshot ≡ cond (L .started) (L .snapshot) (count t)
 
 -- [7.13] and list i takes this answer in u
 pub record Grows (c : Codec) (w v u : World) (i size : ℕ) : Type 0 where
   pub grown : Listing
   pub accepted : (room : ℕ) → length (grown .items) ≤ room
       → theList (next c u (takes i room (replyLineOf c (v .table) (theList w i) size))) i ≡ grown
-  -- [7.13] a full page more, or all that is left
-  pub more : grown .items ≡ theList w i .items ++ take size (drop (length (theList w i .items)) (allOf (u .table) grown))
-  pub front : grown .items ≡ take (length (theList w i .items) + size) (allOf (u .table) grown)
-  pub complete : grown .complete ≡ lastOf size (drop (length (theList w i .items)) (allOf (u .table) grown))
-  pub query : grown .query ≡ theList w i .query
-  -- [7.7] the first answer fixes the snapshot
-  pub snapshot : grown .snapshot ≡ cond (theList w i .started) (theList w i .snapshot) (count (v .table))
+  pub extended : Extended (v .table) (u .table) (theList w i) size grown

@@ -73,13 +73,13 @@ next c w (receives s out) = sent w (office c (w .table) out s)
 next c w (takes i room s) = listChanged w i (taking c room (theList w i) s)
 next c w (strays s) = sent w (gives s)
 
--- [7.14] the premises: arguments are of their types, an order that is opened has its kinds of line, and what arrives was written by one of
--- the two ends or comes from elsewhere
+-- [7.14] the premises: arguments are of their types, an order that is opened has its kinds of line, and what a list takes was written by
+-- one of the two ends or comes from elsewhere; the office may get any line
 unfoldable pub Allowed : Codec → (List ℕ → Type 0) → World → Event → Type 0
 Allowed c Elsewhere w (enters run) = (k : Claim) → List·Memᴰ k run → k .reference < 2 ^ 32
 Allowed c Elsewhere w (opens q) = Typed q × (c .speaks (q .order) ≡ true)
 Allowed c Elsewhere w (asks i size room out) = i < length (w .lists)
-Allowed c Elsewhere w (receives s out) = List·Memᴰ s (w .air)
+Allowed c Elsewhere w (receives s out) = Unit {0}
 Allowed c Elsewhere w (takes i room s) = (i < length (w .lists)) × List·Memᴰ s (w .air)
 Allowed c Elsewhere w (strays s) = Elsewhere s
 
@@ -97,10 +97,6 @@ pub data Reachable (c : Codec) (Elsewhere : List ℕ → Type 0) : World → Typ
 pub data Later (c : Codec) (Elsewhere : List ℕ → Type 0) (w : World) : World → Type 0 where
   still : Later c Elsewhere w w
   onwards : {v : World} → Later c Elsewhere w v → (e : Event) → Allowed c Elsewhere v e → Later c Elsewhere w (next c v e)
-
--- where no line comes from elsewhere
-abbrev pub Nowhere : List ℕ → Type 0
-Nowhere s = ⊥
 
 -- [7.14] no line from elsewhere reads as an answer under this table number
 unfoldable pub Unshared : Codec → (List ℕ → Type 0) → ℕ → Type 0

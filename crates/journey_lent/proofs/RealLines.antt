@@ -3,8 +3,8 @@ use mathlib.Core.Path.{sym, _∙_}
 use Rattle.paper.proofs.LineKinds.{answers-apart, asks-apart}
 use Rattle.paper.specs.Codec.{askLine, answerLine, lines}
 use Rattle.orders.specs.LawfulLines.{Lawful}
-use Rattle.journey.proofs.LinesWritten.{ask-back, ask-begins, answer-back, answer-begins}
-use Rattle.journey.proofs.LinesRead.{ask-ok, answer-ok, answer-headed}
+use Rattle.journey_lent.proofs.LinesWritten.{ask-back, ask-begins, answer-back, answer-begins}
+use Rattle.journey_lent.proofs.LinesRead.{ask-ok, answer-ok, answer-headed}
 
 pub lawful : Lawful lines
 lawful =

@@ -29,7 +29,7 @@ use Rattle.paper.proofs.Tests.{and-first, and-second}
 use Rattle.paper.proofs.Outcomes.{must-test, must-rest, same-given}
 use Rattle.orders.proofs.Lists.{all-mem}
 use Rattle.orders.proofs.Rooms.{length-in}
-use Rattle.journey.proofs.LineParts.{place-ok, place-used, scope-small, probe-read, items-ok}
+use Rattle.journey_lent.proofs.LineParts.{place-ok, place-used, scope-small, probe-read, items-ok}
 use Rattle.paper.specs.Limits.{itemRoom}
 
 -- ---- what a frame holds is in range

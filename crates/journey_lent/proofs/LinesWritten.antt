@@ -26,7 +26,7 @@ use Rattle.orders.specs.LawfulLines.{QueryInRange, AskInRange, ItemInRange, Ans
 use Rattle.paper.proofs.Tests.{and-both}
 use Rattle.orders.proofs.Lists.{All, all-of-mem}
 use Rattle.orders.proofs.Rooms.{read-flat, flat-length, query-placed}
-use Rattle.journey.proofs.LineParts.{scope-place, scope-snapshot, asked-small, asked-used, scope-ok, scope-fit, scope-asks, query-fit, flat-numbers, flat-references, flat-distances}
+use Rattle.journey_lent.proofs.LineParts.{scope-place, scope-snapshot, asked-small, asked-used, scope-ok, scope-fit, scope-asks, query-fit, flat-numbers, flat-references, flat-distances}
 use Rattle.paper.specs.Limits.{itemRoom, mostPage}
 
 -- ---- flags and queries

@@ -1,4 +1,4 @@
--- The parts of the ends' lines: places as scopes, queries and items as the fields of a line. Assumes nothing.
+-- The parts of the ends' lines: points as scopes, queries and items as the fields of a line. Assumes nothing.
 use Prim.Native.Nat.{ℕ, zero, suc, _^_, _<_, _≤_}
 use mathlib.Core.Path.{_≡_, refl, sym, ap}
 use mathlib.Core.Bool.{Bool, true, false, cond, _||_}

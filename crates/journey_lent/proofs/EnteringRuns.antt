@@ -23,8 +23,8 @@ use Rattle.tree.proofs.TestedTables.{fits-fit, fit-fits, sound-good, good-sound
 use Rattle.tree.proofs.Adding.{in-run, HeaderKept, run-claims, run-kept}
 use Rattle.tree.proofs.ClaimsInMemory.{point-length}
 use Rattle.tree.proofs.RunLaws.{enters-gives, zero-enters}
 use Rattle.journey.specs.World.{runEntering}
-use Rattle.journey.specs.EnteredRuns.{runOf, referencesOf, pointsOf, callEnters}
+use Rattle.journey_lent.specs.EnteredRuns.{runOf, referencesOf, pointsOf, callEnters}
 
 -- ---- what the call enters, a world enters
 

@@ -1,0 +1,68 @@
+-- The small world lives. Assumes nothing.
+use Prim.Native.Nat.{ℕ, _+_, _<_, _^_}
+use mathlib.Core.Path.{refl, ap, _∙_}
+use mathlib.Core.List.{List, [], _∷_}
+use native.Mathlib.Omega.{arith}
+use lib.IntN.{ℤ, pos}
+use lib.ListN.{length, take, replicate}
+use lib.Signed.{mag}
+use Rattle.paper.specs.Points.{measureOf, weigh, joined, distance, point, inRange}
+use Rattle.paper.specs.Orders.{Item, Query, insert, itemOf, listed}
+use Rattle.paper.specs.Tree.{newNode, enteredFrom, entered, built, claimsFrom, claimsIn, fits, sameFront, afresh, sound}
+use Rattle.paper.specs.Runs.{added, addedRun, enterCall}
+use Rattle.paper.specs.Ends.{tableOf, matches, opening}
+use Rattle.paper.specs.Fields.{inSlots, queryInSlots}
+use Rattle.paper.specs.Lists.{itemsIn, listing, openedAs, openingHeld}
+use Rattle.paper.specs.Calls.{tableRefusal}
+use Rattle.orders.specs.LawfulLines.{Typed}
+use Rattle.orders.proofs.Lists.{all-mem}
+use Rattle.journey.specs.Promise.{MayAsk}
+use Rattle.journey_lent.specs.Elsewhere.{References}
+use Rattle.journey_lent.specs.World.{enters, opens, theListing, next, Allowed, happens, Reachable, begins, goes, Later}
+use Rattle.journey_lent.specs.Promise.{GrowsHeld}
+use Rattle.journey_lent.specs.Examples.{small, around, opened, Lives}
+use Rattle.journey_lent.proofs.Demand.{that-answer-makes-the-list-grow}
+
+small-typed : References (replicate 2 0)
+small-typed r m = all-mem (λ (k : ℕ). k < 2 ^ 32) r (replicate 2 0) (omega arith, (omega arith, tt)) m
+
+run-typed : References (5 ∷ [])
+run-typed r m = all-mem (λ (k : ℕ). k < 2 ^ 32) r (5 ∷ []) (omega arith, tt) m
+
+around-typed : Typed around
+around-typed =
+    record { table = omega arith; reach = omega arith; probe = λ x m. all-mem (λ (k : ℤ). mag k < 2 ^ 31) x (pos 4 ∷ []) (omega arith, tt) m }
+
+reached : Reachable opened
+unfolding Allowed
+reached =
+    goes (goes (begins small (unfold tableRefusal sound afresh built sameFront fits inRange in refl) small-typed)
+    (happens (enters (5 ∷ []) (pos 3 ∷ [])) run-typed)) (happens (opens around (replicate 3 9)) (around-typed, refl))
+
+may : MayAsk (tableOf (opened .store)) (theListing opened 0) 1
+unfolding next enterCall fits inRange sound afresh built sameFront addedRun added openingHeld opening openedAs matches entered newNode enteredFrom listing
+    queryInSlots inSlots
+may = record { ours = refl; unfinished = refl; one = omega arith; most = omega arith }
+
+here : 0 < length (opened .lists)
+unfolding next enterCall fits inRange sound afresh built sameFront addedRun added openingHeld opening
+here = omega arith
+
+grows : GrowsHeld opened opened opened 0 1
+grows = that-answer-makes-the-list-grow opened reached opened opened Later.still Later.still 0 1 here may refl
+
+abbrev found : Query → ℕ → List Item
+found q n = take (length (theListing opened 0 .items) + 1) (listed q (claimsIn (opened .store)) n)
+
+pub lives : Lives
+unfolding next enterCall fits inRange sound afresh built sameFront addedRun added openingHeld opening openedAs entered newNode enteredFrom listing itemsIn
+    queryInSlots inSlots listed itemOf insert measureOf weigh joined distance claimsFrom point
+lives =
+    record {
+      reached = reached;
+      asks = may;
+      grows = grows;
+      items = grows .extended .front
+          ∙ ap (λ (q : Query). found q (grows .grown .snapshot)) (grows .extended .query)
+          ∙ ap (found (theListing opened 0 .query)) (grows .extended .snapshot);
+    }
