@@ -12,9 +12,10 @@ use borrow.Author.Tests.{leb-true, leb-false}
 use lib.Seq.{getD-set-same}
 use Rattle.paper.specs.Tree.{Grown, grown, fieldAt, putField, sideClaim, newNode, nearSide, raise, enteredFrom, entered}
 use Rattle.tree.specs.BuiltNodes.{Inside, Linked, Under, here, deeper, Holds, Neartree}
-use Rattle.tree.proofs.OneEntering.{other, still-linked, raise-length, side-small, entered-stop, entered-new, entered-down}
+use Rattle.tree.proofs.OneEntering.{other, still-linked, raise-length, side-small}
 use Rattle.tree.proofs.Stores.{NodesGrow, grows-trans, grows-put, fresh-length, fresh-left, fresh-rest, fresh-small, grows-fresh}
 use Rattle.tree.proofs.Links.{linked-right, linked-new}
+use Rattle.tree.proofs.Descent.{descend}
 
 -- ---- what is under a side
 
@@ -152,41 +153,14 @@ module _ (e : ℕ → ℕ → ℕ) (used k m : ℕ) (nodes : List ℕ) (hm : m <
           atMost = deep .atMost;
         }
 
--- by the nodes that may still be gone through
 pub place : (f : ℕ) (e : ℕ → ℕ → ℕ) (used k m : ℕ) (nodes : List ℕ) → m < used → used ≤ m + f → used * 6 + 6 ≤ length nodes → Linked nodes used k
     → EnteredFrom e used k m nodes (enteredFrom f e used k m nodes)
-unfolding Linked
-place zero e used k m nodes hm en room lk = absurd (omega arith)
-place (suc f) e used k m nodes hm en room lk =
-    right (fieldAt nodes m 1) refl
-    (λ w hw up. place f e used k w (raise e nodes m (nearSide e nodes m k) k) hw up (rw (raise-length e nodes m k (nearSide e nodes m k)) room)
-    (still-linked e nodes m k (nearSide e nodes m k) used k (side-small e nodes m k) lk))
-  where
-    s : ℕ
-    s = nearSide e nodes m k
-
-    hs : s < 2
-    hs = side-small e nodes m k
-
-    nodes₁ : List ℕ
-    nodes₁ = raise e nodes m s k
-
-    below : (x : ℕ) → fieldAt nodes m (4 + s) ≡ x → (fieldAt nodes m 1 ≡ 0 → ⊥)
-        → ((w : ℕ) → w < used → used ≤ w + f → EnteredFrom e used k w nodes₁ (enteredFrom f e used k w nodes₁))
-        → EnteredFrom e used k m nodes (enteredFrom (suc f) e used k m nodes)
-    below zero p no1 deep = rw (entered-new f e used k m nodes no1 p) (new e used k m nodes hm room lk s hs no1 (side-near e nodes m k) p)
-    below (suc w) p no1 deep =
-        let q : fieldAt nodes m (4 + s) ≡ w + 1 = omega arith in
-        let v : fieldAt nodes m (4 + s) - 1 ≡ w = omega arith in
-        let no4 : fieldAt nodes m (4 + s) ≡ 0 → ⊥ = λ z. omega arith in
-        rw (entered-down f e used k m nodes no1 no4, v)
-        (down e used k m nodes hm room lk s hs no1 (side-near e nodes m k) w _ q
-        (deep w (omega (arith, lk m hm .leads s hs)) (omega (arith, lk m hm .rises s hs no4))))
-
-    right : (x : ℕ) → fieldAt nodes m 1 ≡ x → ((w : ℕ) → w < used → used ≤ w + f → EnteredFrom e used k w nodes₁ (enteredFrom f e used k w nodes₁))
-        → EnteredFrom e used k m nodes (enteredFrom (suc f) e used k m nodes)
-    right zero p deep = rw (entered-stop f e used k m nodes p) (stop e used k m nodes hm room lk p)
-    right (suc x) p deep = below (fieldAt nodes m (4 + s)) refl (λ z. omega arith) deep
+place f e used k m = descend e used k (λ f m nodes out. EnteredFrom e used k m nodes out) (record {
+  stop = λ f m nodes hm room lk p. stop e used k m nodes hm room lk p;
+  new = λ f m nodes hm room lk no1 p. new e used k m nodes hm room lk (nearSide e nodes m k) (side-small e nodes m k) no1 (side-near e nodes m k) p;
+  down = λ f m w nodes out hm room lk no1 p deep.
+      down e used k m nodes hm room lk (nearSide e nodes m k) (side-small e nodes m k) no1 (side-near e nodes m k) w out p deep;
+}) f m
 
 -- ---- handed on
 

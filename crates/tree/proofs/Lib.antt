@@ -1,6 +1,7 @@
 -- What the proofs of several functions use, and what the layers above use of the nodes and the tables.
 pub mod Reading
 pub mod OneEntering
+pub mod Descent
 pub mod Stores
 pub mod Links
 pub mod Keeping

@@ -6,15 +6,15 @@ use mathlib.Core.Logic.{⊎-elim}
 use mathlib.Core.List.{List}
 use native.Mathlib.Omega.{arith}
 use native.Mathlib.Decide.{ℕ-discrete}
-use native.Mathlib.Nat.{eq-or-lt-of-le}
+use native.Mathlib.Nat.{le-refl, eq-or-lt-of-le}
 use lib.ListN.{length, length-set}
 use lib.Dec.{lit<}
 use lib.Seq.{getD-set-same, getD-set-other}
-use Rattle.paper.specs.Tree.{Grown, fieldAt, putField, newNode, nearSide, raise, enteredFrom, entered}
+use Rattle.paper.specs.Tree.{Grown, grown, fieldAt, putField, newNode, nearSide, raise, enteredFrom, entered}
 use Rattle.tree.specs.BuiltNodes.{Inside, Linked}
-use Rattle.tree.proofs.OneEntering.{still-linked, raise-length, side-small, entered-stop, entered-new, entered-down}
+use Rattle.tree.proofs.OneEntering.{raise-length, side-small, entered-stop, entered-new, entered-down}
 use Rattle.tree.proofs.Stores.{fresh-other, fresh-length, fresh-left, fresh-rest}
-use Rattle.tree.proofs.Keeping.{place}
+use Rattle.tree.proofs.Descent.{descend}
 
 -- ---- memories that agree on the nodes in use
 
@@ -67,60 +67,52 @@ pub record SameInUse (x y : Grown) : Type 0 where
   pub agree : Agree (x .used) (x .nodes) (y .nodes)
   pub used : x .used ≡ y .used
 
+module _ (e : ℕ → ℕ → ℕ) (used k m : ℕ) (a b : List ℕ) (hm : m < used) (room : used * 6 + 6 ≤ length a) (ag : Agree used a b) (f : ℕ) where
+  abbrev s : ℕ
+  s = nearSide e a m k
+
+  near : s ≡ nearSide e b m k
+  near = near-same e used k m a b hm room ag
+
+  four : fieldAt a m (4 + s) ≡ fieldAt b m (4 + s)
+  four = ag .same m (4 + s) hm (omega (arith, side-small e a m k))
+
+  right-too : (fieldAt a m 1 ≡ 0 → ⊥) → fieldAt b m 1 ≡ 0 → ⊥
+  right-too no1 z = no1 (ag .same m 1 hm (lit< tt) ∙ z)
+
+  stop-alike : fieldAt a m 1 ≡ 0 → SameInUse (grown (putField a m 1 (k + 1)) used) (enteredFrom (suc f) e used k m b)
+  stop-alike p =
+      rw (entered-stop f e used k m b (sym (ag .same m 1 hm (lit< tt)) ∙ p))
+      (record { agree = agree-put used a b m 1 (k + 1) (k + 1) (omega arith) refl ag; used = refl })
+
+  new-alike : (fieldAt a m 1 ≡ 0 → ⊥) → fieldAt a m (4 + s) ≡ 0
+      → SameInUse (grown (newNode (putField (raise e a m s k) m (4 + s) (used + 1)) used k) (used + 1)) (enteredFrom (suc f) e used k m b)
+  new-alike no1 p =
+      let la : length (raise e a m s k) ≡ length a = raise-length e a m k s in
+      let hs : s < 2 = side-small e a m k in
+      let lp : length (putField (raise e a m s k) m (4 + s) (used + 1)) ≡ length (raise e a m s k) = length-set (raise e a m s k) (m * 6 + (4 + s)) (used + 1) in
+      rw (entered-new f e used k m b (right-too no1) (rw (← near) (sym four ∙ p)), ← near)
+      (record {
+        agree = agree-fresh used _ _ k (omega arith)
+            (agree-put used _ _ m (4 + s) (used + 1) (used + 1) (omega arith) refl (agree-raise e used k m a b hm room ag s hs));
+        used = refl;
+      })
+
+  down-alike : (w : ℕ) (out : Grown) → (fieldAt a m 1 ≡ 0 → ⊥) → fieldAt a m (4 + s) ≡ w + 1
+      → ((b' : List ℕ) → Agree used (raise e a m s k) b' → SameInUse out (enteredFrom f e used k w b')) → SameInUse out (enteredFrom (suc f) e used k m b)
+  down-alike w out no1 p deep =
+      let v : fieldAt b m (4 + s) - 1 ≡ w = omega (arith, four) in
+      let no4 : fieldAt b m (4 + nearSide e b m k) ≡ 0 → ⊥ = rw (← near) (λ z. omega (arith, four)) in
+      rw (entered-down f e used k m b (right-too no1) no4, ← near, v) (deep (raise e b m s k) (agree-raise e used k m a b hm room ag s (side-small e a m k)))
+
 place-alike : (f : ℕ) (e : ℕ → ℕ → ℕ) (used k m : ℕ) (a b : List ℕ) → m < used → used ≤ m + f → used * 6 + 6 ≤ length a → Linked a used k → Agree used a b
     → SameInUse (enteredFrom f e used k m a) (enteredFrom f e used k m b)
-unfolding Linked
-place-alike zero e used k m a b hm en room lk ag = absurd (omega arith)
-place-alike (suc f) e used k m a b hm en room lk ag =
-    right (fieldAt a m 1) refl
-    (λ w hw up. place-alike f e used k w (raise e a m (nearSide e a m k) k) (raise e b m (nearSide e a m k) k) hw up
-    (rw (raise-length e a m k (nearSide e a m k)) room) (still-linked e a m k (nearSide e a m k) used k (side-small e a m k) lk)
-    (agree-raise e used k m a b hm room ag (nearSide e a m k) (side-small e a m k)))
-  where
-    s : ℕ
-    s = nearSide e a m k
-
-    hs : s < 2
-    hs = side-small e a m k
-
-    near : s ≡ nearSide e b m k
-    near = near-same e used k m a b hm room ag
-
-    one : fieldAt a m 1 ≡ fieldAt b m 1
-    one = ag .same m 1 hm (lit< tt)
-
-    four : fieldAt a m (4 + s) ≡ fieldAt b m (4 + s)
-    four = ag .same m (4 + s) hm (omega (arith, hs))
-
-    below : (x : ℕ) → fieldAt a m (4 + s) ≡ x → (fieldAt a m 1 ≡ 0 → ⊥)
-        → ((w : ℕ) → w < used → used ≤ w + f → SameInUse (enteredFrom f e used k w (raise e a m s k)) (enteredFrom f e used k w (raise e b m s k)))
-        → SameInUse (enteredFrom (suc f) e used k m a) (enteredFrom (suc f) e used k m b)
-    below zero p no1 deep =
-        let la : length (raise e a m s k) ≡ length a = raise-length e a m k s in
-        let h4 : 4 + s < 6 = omega (arith, hs) in
-        let lp : length (putField (raise e a m s k) m (4 + s) (used + 1)) ≡ length (raise e a m s k) = length-set (raise e a m s k) (m * 6 + (4 + s)) (used + 1) in
-        let pb : fieldAt b m (4 + nearSide e b m k) ≡ 0 = rw (← near) (sym four ∙ p) in
-        rw (entered-new f e used k m a no1 p, entered-new f e used k m b (λ z. no1 (one ∙ z)) pb, ← near)
-        (record {
-          agree = agree-fresh used _ _ k (omega arith)
-              (agree-put used _ _ m (4 + s) (used + 1) (used + 1) (omega arith) refl (agree-raise e used k m a b hm room ag s hs));
-          used = refl;
-        })
-    below (suc w) p no1 deep =
-        let v : fieldAt a m (4 + s) - 1 ≡ w = omega arith in
-        let vb : fieldAt b m (4 + s) - 1 ≡ w = omega (arith, four) in
-        let no4 : fieldAt a m (4 + s) ≡ 0 → ⊥ = λ z. omega arith in
-        let no4b : fieldAt b m (4 + nearSide e b m k) ≡ 0 → ⊥ = rw (← near) (λ z. no4 (four ∙ z)) in
-        rw (entered-down f e used k m a no1 no4, entered-down f e used k m b (λ z. no1 (one ∙ z)) no4b, ← near, v, vb)
-        (deep w (omega (arith, lk m hm .leads s hs)) (omega (arith, lk m hm .rises s hs no4)))
-
-    right : (x : ℕ) → fieldAt a m 1 ≡ x
-        → ((w : ℕ) → w < used → used ≤ w + f → SameInUse (enteredFrom f e used k w (raise e a m s k)) (enteredFrom f e used k w (raise e b m s k)))
-        → SameInUse (enteredFrom (suc f) e used k m a) (enteredFrom (suc f) e used k m b)
-    right zero p deep =
-        rw (entered-stop f e used k m a p, entered-stop f e used k m b (sym one ∙ p))
-        (record { agree = agree-put used a b m 1 (k + 1) (k + 1) (omega arith) refl ag; used = refl })
-    right (suc x) p deep = below (fieldAt a m (4 + s)) refl (λ z. omega arith) deep
+place-alike f e used k m a b hm en room lk ag =
+    descend e used k (λ f m a out. (b : List ℕ) → Agree used a b → SameInUse out (enteredFrom f e used k m b)) (record {
+      stop = λ f m a hm room lk p b ag. stop-alike e used k m a b hm room ag f p;
+      new = λ f m a hm room lk no1 p b ag. new-alike e used k m a b hm room ag f no1 p;
+      down = λ f m w a out hm room lk no1 p deep b ag. down-alike e used k m a b hm room ag f w out no1 p deep;
+    }) f m a hm en room lk b ag
 
 -- ---- a node that is not in use afterwards keeps what it held
 
@@ -136,44 +128,22 @@ raise-behind e a m s k n g h hs hg = put-behind a m (2 + s) _ n g h (omega arith
 
 place-behind : (f : ℕ) (e : ℕ → ℕ → ℕ) (used k m : ℕ) (a : List ℕ) → m < used → used ≤ m + f → used * 6 + 6 ≤ length a → Linked a used k
     → NodesBehind a (enteredFrom f e used k m a)
-unfolding Linked NodesBehind
-place-behind zero e used k m a hm en room lk = absurd (omega arith)
-place-behind (suc f) e used k m a hm en room lk =
-    right (fieldAt a m 1) refl
-    (λ w hw up n g hn hg. place-behind f e used k w (raise e a m (nearSide e a m k) k) hw up
-    (rw (raise-length e a m k (nearSide e a m k)) room) (still-linked e a m k (nearSide e a m k) used k (side-small e a m k) lk) n g hn hg)
-    (λ w hw up. place f e used k w (raise e a m (nearSide e a m k) k) hw up (rw (raise-length e a m k (nearSide e a m k)) room)
-    (still-linked e a m k (nearSide e a m k) used k (side-small e a m k) lk) .more)
-  where
-    s : ℕ
-    s = nearSide e a m k
-
-    hs : s < 2
-    hs = side-small e a m k
-
-    below : (x : ℕ) → fieldAt a m (4 + s) ≡ x → (fieldAt a m 1 ≡ 0 → ⊥)
-        → ((w : ℕ) → w < used → used ≤ w + f → (n g : ℕ) → enteredFrom f e used k w (raise e a m s k) .used ≤ n → g < 6
-        → fieldAt (enteredFrom f e used k w (raise e a m s k) .nodes) n g ≡ fieldAt (raise e a m s k) n g)
-        → ((w : ℕ) → w < used → used ≤ w + f → used ≤ enteredFrom f e used k w (raise e a m s k) .used)
-        → NodesBehind a (enteredFrom (suc f) e used k m a)
-    below zero p no1 deep more = rw (entered-new f e used k m a no1 p)
-        (λ n g hn hg. fresh-other (putField (raise e a m s k) m (4 + s) (used + 1)) used k n g (λ q. omega arith) hg ∙ put-behind (raise e a m s k) m (4 + s) (used + 1) n g (omega arith) (omega (arith, hs)) hg
-        ∙ raise-behind e a m s k n g (omega arith) hs hg)
-    below (suc w) p no1 deep more =
-        let v : fieldAt a m (4 + s) - 1 ≡ w = omega arith in
-        let no4 : fieldAt a m (4 + s) ≡ 0 → ⊥ = λ z. omega arith in
-        let hw : w < used = omega (arith, lk m hm .leads s hs) in
-        let up : used ≤ w + f = omega (arith, lk m hm .rises s hs no4) in
-        rw (entered-down f e used k m a no1 no4, v)
-        (λ n g hn hg. deep w hw up n g hn hg ∙ raise-behind e a m s k n g (omega (arith, more w hw up)) hs hg)
-
-    right : (x : ℕ) → fieldAt a m 1 ≡ x
-        → ((w : ℕ) → w < used → used ≤ w + f → (n g : ℕ) → enteredFrom f e used k w (raise e a m s k) .used ≤ n → g < 6
-        → fieldAt (enteredFrom f e used k w (raise e a m s k) .nodes) n g ≡ fieldAt (raise e a m s k) n g)
-        → ((w : ℕ) → w < used → used ≤ w + f → used ≤ enteredFrom f e used k w (raise e a m s k) .used)
-        → NodesBehind a (enteredFrom (suc f) e used k m a)
-    right zero p deep more = rw (entered-stop f e used k m a p) (λ n g hn hg. put-behind a m 1 (k + 1) n g (omega arith) (lit< tt) hg)
-    right (suc x) p deep more = below (fieldAt a m (4 + s)) refl (λ z. omega arith) deep more
+unfolding NodesBehind
+place-behind f e used k m a hm en room lk =
+    descend e used k (λ f m a out. (used ≤ out .used) × NodesBehind a out) (record {
+      stop = λ f m a hm room lk p. (le-refl used, λ n g hn hg. put-behind a m 1 (k + 1) n g (omega arith) (lit< tt) hg);
+      new = λ f m a hm room lk no1 p.
+          let s : ℕ = nearSide e a m k in
+          let hs : s < 2 = side-small e a m k in (
+            omega arith,
+            λ n g hn hg.
+                fresh-other (putField (raise e a m s k) m (4 + s) (used + 1)) used k n g (λ q. omega arith) hg
+                ∙ put-behind (raise e a m s k) m (4 + s) (used + 1) n g (omega arith) (omega arith) hg
+                ∙ raise-behind e a m s k n g (omega arith) hs hg,
+          );
+      down = λ f m w a out hm room lk no1 p deep.
+          (deep .0, λ n g hn hg. deep .1 n g hn hg ∙ raise-behind e a m (nearSide e a m k) k n g (omega (arith, deep .0)) (side-small e a m k) hg);
+    }) f m a hm en room lk .1
 
 -- ---- handed on: entering, from the root
 

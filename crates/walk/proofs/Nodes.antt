@@ -164,7 +164,7 @@ module _ (references : List ℕ) (coordinates : List ℤ) (nodes : List ℕ) (pr
   way-ready len few = record { which = hs; inside = omega (arith, h .walk .room, h .walk .inUse); roomy = roomy-again (ask .size) o₀ o c₀ count (h .roomy) len few }
 
   module _ (x y way : ℕ) (is : way ≡ wayDown nodes ask m s x y o count) where
-    pub side-ready : length o ≡ length o₀ → count ≤ ask .size → SideAsk references coordinates nodes probe ask way o count
+    side-ready : length o ≡ length o₀ → count ≤ ask .size → SideAsk references coordinates nodes probe ask way o count
     side-ready len few =
         record {
           walk = λ some. next-here nodes (ask .used) (ask .claims) m s way (h .walk) hs (way-leads ask nodes m s x y o count way is some) some;
@@ -172,13 +172,18 @@ module _ (references : List ℕ) (coordinates : List ℤ) (nodes : List ℕ) (pr
           roomy = roomy-again (ask .size) o₀ o c₀ count (h .roomy) len few;
         }
 
-    pub side-falls : leftAbove (ask .used) way < (ask .used - m) * 2
+    side-falls : leftAbove (ask .used) way < (ask .used - m) * 2
     side-falls =
         go way (λ some. rises-here nodes (ask .used) (ask .claims) m s way (h .walk) hs (way-leads ask nodes m s x y o count way is some) some)
       where
         go : (w : ℕ) → ((w ≡ 0 → ⊥) → m < w - 1) → leftAbove (ask .used) w < (ask .used - m) * 2
         go zero f = omega (arith, h .walk .inUse)
         go (suc k) f = let q : m < suc k - 1 = f (λ z. omega arith) in omega (arith, h .walk .inUse)
+
+    -- what `node` owes a call of `side`, where its own measure is t
+    pub side-asked : (t : ℕ) → (ask .used - m) * 2 ≡ t → length o ≡ length o₀ → count ≤ ask .size
+        → (leftAbove (ask .used) way < t) × SideAsk references coordinates nodes probe ask way o count
+    side-asked t e len few = (omega (arith, side-falls), side-ready len few)
 
 -- ---- the page
 

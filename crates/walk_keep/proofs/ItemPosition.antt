@@ -20,24 +20,27 @@ pub record NoneBefore (order : Order) (o : List ℕ) (count x k i : ℕ) : Type 
   pub few : i ≤ count
   pub behind : (j : ℕ) → i ≤ j → j < count → before order (getD o (j * 3 + 2) 0) (getD o (j * 3) 0) x k ≡ false
 
-pub behind-start : (order : Order) (o : List ℕ) (count x k : ℕ) → NoneBefore order o count x k count
-behind-start order o count x k = record { few = le-refl count; behind = λ j h g. absurd (omega arith) }
+module _ (order : Order) (o : List ℕ) (count x k : ℕ) where
+  pub behind-start : NoneBefore order o count x k count
+  behind-start = record { few = le-refl count; behind = λ j h g. absurd (omega arith) }
 
-pub behind-turn : (order : Order) (o : List ℕ) (count x k i : ℕ) (t : Bool) → NoneBefore order o count x k i → 0 < i → t ≡ before order (getD o (i * 3 - 1) 0) (getD o (i * 3 - 3) 0) x k → t ≡ false
-    → NoneBefore order o count x k (i - 1)
-behind-turn order o count x k i t g h is q =
-    record {
-      few = omega (arith, g .few);
-      behind = λ j hj hc. ⊎-elim
-          (λ e. let a : i * 3 - 1 ≡ j * 3 + 2 = omega arith in let b : i * 3 - 3 ≡ j * 3 = omega arith in rw (← a, ← b) (sym is ∙ q))
-          (λ l. g .behind j (omega arith) hc) (eq-or-lt-of-le hj);
-    }
+  module _ (i : ℕ) where
+    pub behind-turn : (t : Bool) → NoneBefore order o count x k i → 0 < i → t ≡ before order (getD o (i * 3 - 1) 0) (getD o (i * 3 - 3) 0) x k → t ≡ false
+        → NoneBefore order o count x k (i - 1)
+    behind-turn t g h is q =
+        record {
+          few = omega (arith, g .few);
+          behind = λ j hj hc. ⊎-elim
+              (λ e. let a : i * 3 - 1 ≡ j * 3 + 2 = omega arith in let b : i * 3 - 3 ≡ j * 3 = omega arith in rw (← a, ← b) (sym is ∙ q))
+              (λ l. g .behind j (omega arith) hc) (eq-or-lt-of-le hj);
+        }
 
-pub position-found : (order : Order) (o : List ℕ) (count x k i : ℕ) (t : Bool) → NoneBefore order o count x k i → t ≡ before order (getD o (i * 3 - 1) 0) (getD o (i * 3 - 3) 0) x k → t ≡ true → PositionIs order o count x k i
-position-found order o count x k i t g is q = record { few = g .few; front = λ h. sym is ∙ q; behind = g .behind }
+    pub position-found : (t : Bool) → NoneBefore order o count x k i → t ≡ before order (getD o (i * 3 - 1) 0) (getD o (i * 3 - 3) 0) x k → t ≡ true
+        → PositionIs order o count x k i
+    position-found t g is q = record { few = g .few; front = λ h. sym is ∙ q; behind = g .behind }
 
-pub position-none : (order : Order) (o : List ℕ) (count x k i : ℕ) → NoneBefore order o count x k i → i ≤ 0 → PositionIs order o count x k i
-position-none order o count x k i g h = record { few = g .few; front = λ z. absurd (omega arith); behind = g .behind }
+    pub position-none : NoneBefore order o count x k i → i ≤ 0 → PositionIs order o count x k i
+    position-none g h = record { few = g .few; front = λ z. absurd (omega arith); behind = g .behind }
 
 -- ---- items in a room
 

@@ -11,7 +11,7 @@ use Rattle.tree.proofs.nodes.field.Reads as field-reads
 use Rattle.walk.specs.Walking.{distBy, apartBy}
 use Rattle.walk.proofs.Skipping.{metric}
 use Rattle.walk.proofs.Sides.{side-none, side-down}
-use Rattle.walk.proofs.Nodes.{node-one, node-left-first, node-right-first, stored-here, left-here, in-sight, way-ready, side-ready, side-falls, leftAbove, node-falls, roomy-again}
+use Rattle.walk.proofs.Nodes.{node-one, node-left-first, node-right-first, stored-here, left-here, in-sight, way-ready, side-asked, leftAbove, node-falls, roomy-again}
 use Rattle.walk.proofs.walking.consider.Reads as consider-reads
 use Rattle.walk.proofs.walking.from_probe.Reads as from-probe-reads
 use Rattle.walk.proofs.walking.way_down.Reads as way-down-reads
@@ -131,12 +131,8 @@ node-side-requires t c κs =
     let two = c .before .before .before .before .before .before .before .before in
     let one = two .before .before .before .before .before .before .before in
     let start = one .before .before .before .before .before .before .before in
-    let h = start .pre .0 in
-    let q = side-falls _ _ _ _ _ _ _ _ (start .pre .1) 1 (lit< tt) _ _ _ _ _ (c .before .way-down .ensures) in (
-      omega (arith, h, q),
-      side-ready _ _ _ _ _ _ _ _ (start .pre .1) 1 (lit< tt) _ _ _ _ _ (c .before .way-down .ensures)
-          (two .consider2 .kept .1 .1 .1 .1 .0 ∙ one .consider .kept .1 .1 .1 .1 .0) (two .consider2 .ensures .few),
-    )
+    side-asked _ _ _ _ _ _ _ _ (start .pre .1) 1 (lit< tt) _ _ _ _ _ (c .before .way-down .ensures) t (start .pre .0)
+    (two .consider2 .kept .1 .1 .1 .1 .0 ∙ one .consider .kept .1 .1 .1 .1 .0) (two .consider2 .ensures .few)
 
 node-way-down-requires-2 : (t : ℕ) → node-lts.Need-way-down-requires-2 (node-calls t) (node-at t) node.Post
 node-way-down-requires-2 t c κs =
@@ -153,12 +149,8 @@ node-side-requires-2 t c κs =
     let two = three .before .before .before .before .before .before .before .before .before in
     let one = two .before .before .before .before .before .before .before in
     let start = one .before .before .before .before .before .before .before in
-    let h = start .pre .0 in
-    let q = side-falls _ _ _ _ _ _ _ _ (start .pre .1) 0 (lit< tt) _ _ _ _ _ (c .before .way-down2 .ensures) in (
-      omega (arith, h, q),
-      side-ready _ _ _ _ _ _ _ _ (start .pre .1) 0 (lit< tt) _ _ _ _ _ (c .before .way-down2 .ensures)
-          (three .side .kept .1 .1 .1 .1 .1 .1 .0 ∙ two .consider2 .kept .1 .1 .1 .1 .0 ∙ one .consider .kept .1 .1 .1 .1 .0) (three .side .ensures .few),
-    )
+    side-asked _ _ _ _ _ _ _ _ (start .pre .1) 0 (lit< tt) _ _ _ _ _ (c .before .way-down2 .ensures) t (start .pre .0)
+    (three .side .kept .1 .1 .1 .1 .1 .1 .0 ∙ two .consider2 .kept .1 .1 .1 .1 .0 ∙ one .consider .kept .1 .1 .1 .1 .0) (three .side .ensures .few)
 
 node-same-length-2 : (t : ℕ) → node-lts.Need-same-length-2 (node-calls t) (node-at t) node.Post
 node-same-length-2 t c =
@@ -196,12 +188,8 @@ node-side-requires-3 t c κs =
     let two = c .before .before .before .before .before .before .before .before in
     let one = two .before .before .before .before .before .before .before in
     let start = one .before .before .before .before .before .before .before in
-    let h = start .pre .0 in
-    let q = side-falls _ _ _ _ _ _ _ _ (start .pre .1) 0 (lit< tt) _ _ _ _ _ (c .before .way-down3 .ensures) in (
-      omega (arith, h, q),
-      side-ready _ _ _ _ _ _ _ _ (start .pre .1) 0 (lit< tt) _ _ _ _ _ (c .before .way-down3 .ensures)
-          (two .consider2 .kept .1 .1 .1 .1 .0 ∙ one .consider .kept .1 .1 .1 .1 .0) (two .consider2 .ensures .few),
-    )
+    side-asked _ _ _ _ _ _ _ _ (start .pre .1) 0 (lit< tt) _ _ _ _ _ (c .before .way-down3 .ensures) t (start .pre .0)
+    (two .consider2 .kept .1 .1 .1 .1 .0 ∙ one .consider .kept .1 .1 .1 .1 .0) (two .consider2 .ensures .few)
 
 node-way-down-requires-4 : (t : ℕ) → node-lts.Need-way-down-requires-4 (node-calls t) (node-at t) node.Post
 node-way-down-requires-4 t c κs =
@@ -218,12 +206,8 @@ node-side-requires-4 t c κs =
     let two = three .before .before .before .before .before .before .before .before .before in
     let one = two .before .before .before .before .before .before .before in
     let start = one .before .before .before .before .before .before .before in
-    let h = start .pre .0 in
-    let q = side-falls _ _ _ _ _ _ _ _ (start .pre .1) 1 (lit< tt) _ _ _ _ _ (c .before .way-down4 .ensures) in (
-      omega (arith, h, q),
-      side-ready _ _ _ _ _ _ _ _ (start .pre .1) 1 (lit< tt) _ _ _ _ _ (c .before .way-down4 .ensures)
-          (three .side3 .kept .1 .1 .1 .1 .1 .1 .0 ∙ two .consider2 .kept .1 .1 .1 .1 .0 ∙ one .consider .kept .1 .1 .1 .1 .0) (three .side3 .ensures .few),
-    )
+    side-asked _ _ _ _ _ _ _ _ (start .pre .1) 1 (lit< tt) _ _ _ _ _ (c .before .way-down4 .ensures) t (start .pre .0)
+    (three .side3 .kept .1 .1 .1 .1 .1 .1 .0 ∙ two .consider2 .kept .1 .1 .1 .1 .0 ∙ one .consider .kept .1 .1 .1 .1 .0) (three .side3 .ensures .few)
 
 node-same-length-3 : (t : ℕ) → node-lts.Need-same-length-3 (node-calls t) (node-at t) node.Post
 node-same-length-3 t c =
