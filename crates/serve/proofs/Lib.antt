@@ -1,4 +1,3 @@
 pub mod Written
 pub mod OneLineServed
 pub mod Moves
-pub mod Session

@@ -147,7 +147,11 @@ going-start chunk rf ps rs l out d r h =
       out = refl;
     }
 
--- the loop is left: something was read if it could be
+-- the loop is left: it could not go on
+pub stopped : (chunk b out : ℕ) (d : Sitting) (r : Bool) → r ≡ false → b ≡ out → (Turning d chunk b → r ≡ true) → Turning d chunk out → ⊥
+stopped chunk b out d r e q f t = never ⊥ (sym e ∙ f (rw q t))
+
+-- and something was read if it could be
 pub going-on : (chunk out : ℕ) (d₀ d : Sitting) → (d ≡ d₀) ⊎ (d₀ .at < d .at) → (Turning d chunk out → ⊥) → Turning d₀ chunk out → d₀ .at < d .at
 going-on chunk out d₀ d w stop t = ⊎-elim (λ e. absurd (stop (rw e t))) (λ h. h) w
 

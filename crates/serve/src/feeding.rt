@@ -92,6 +92,7 @@ pub fn feed(
     ensures ready { λ r. ⌜ Set (lent (r .table) (references .exit) (coordinates .exit) (nodes .exit)) (now (line .exit)) ⌝ }
     ensures on { λ r. ⌜ (Turning d (length (now (chunk .entry))) (length (now (out .entry))) → d .at < r .at) ⌝ }
     ensures short { λ r. ⌜ r .written ≤ length (now (out .entry)) ⌝ }
+    ensures stops { λ r. ⌜ (Turning r (length (now (chunk .entry))) (length (now (out .entry))) → ⊥) ⌝ }
 {
     let mut n = d;
     while goes_on(n, chunk.len(), out.len()) {

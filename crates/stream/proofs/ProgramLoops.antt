@@ -1,34 +1,28 @@
 -- Laws of the program's loops. Assumes nothing.
 use Prim.Native.Nat.{ℕ, _+_, _<_, _≤_}
-use mathlib.Core.Path.{_≡_, refl, sym, ap, _∙_}
+use mathlib.Core.Path.{_≡_, refl, _∙_}
 use mathlib.Core.List.{List, [], _++_}
-use mathlib.Core.Logic.{_⊎_, ⊎-elim}
+use mathlib.Core.Logic.{inl}
 use native.Mathlib.Omega.{arith}
 use lib.Dec.{lit≤}
 use lib.IntN.{ℤ}
-use lib.ListN.{length, drop, drop-of-length-le}
-use Rattle.paper.specs.Tree.{Store, store, built}
-use Rattle.paper.specs.Program.{Office, fed, officeStart}
+use lib.ListN.{length, take}
+use Rattle.paper.specs.Tree.{store, built}
+use Rattle.paper.specs.Program.{Office}
 use Rattle.tree.specs.Rooms.{IsBuilt}
-use Rattle.cut.proofs.Laws.{kept-none}
 use Rattle.serve.specs.declared.feeding.Sitting.{Sitting}
-use Rattle.serve.specs.Serving.{booksOf, Ready}
-use Rattle.serve.specs.Feeding.{Set, Stands, Turning, Moved}
-use Rattle.serve.proofs.Moves.{fed-more, fed-stop}
-use Rattle.stream.specs.Stream.{anewOf, emptiedOf, sittingStart, Reached, Roomy}
+use Rattle.serve.specs.Serving.{Ready}
+use Rattle.serve.specs.Feeding.{Set, Stands, Turning, Ended}
+use Rattle.stream.specs.Stream.{anewOf, emptiedOf, sittingStart, Roomy}
+use Rattle.stream.specs.Session.{Fed, begun, next, feeds, Within, Answered, Ran}
+use Rattle.stream.proofs.WholeInput.{whole}
 use Rattle.paper.specs.Limits.{longestAnswer, officeClaims, officePlaces, officeNodes}
 
 -- ---- a chunk
 
--- the office `here` at the sitting d still reads from the chunk what the office o would read of the whole
-pub record Reading (o : Office) (chunk : List ℕ) (s : Store) (l : List ℕ) (d : Sitting) : Type 0 where
-  pub here : Office
-  pub stands : Stands s l d here
-  pub same : fed here (drop (d .at) chunk) ≡ fed o chunk
-
 -- what holds at each turn of `pump`
 pub record Pumping (chunk rf₀ : List ℕ) (ps₀ : List ℤ) (rs₀ l₀ out₀ : List ℕ) (d₀ : Sitting) (rf : List ℕ) (ps : List ℤ) (rs l b : List ℕ) (d : Sitting) : Type 0 where
-  pub reading : (o : Office) → Stands (store (d₀ .table) rf₀ ps₀ rs₀) l₀ d₀ o → Reading o chunk (store (d .table) rf ps rs) l d
+  pub within : (xs : List ℕ) → Within xs chunk (store (d₀ .table) rf₀ ps₀ rs₀) l₀ d₀ → Within xs chunk (store (d .table) rf ps rs) l d
   pub ready : Set (store (d .table) rf ps rs) l
   pub written : d .written ≡ 0
   pub references : length rf ≡ length rf₀
@@ -42,7 +36,7 @@ pub pumping-start : (chunk rf : List ℕ) (ps : List ℤ) (rs l out : List ℕ) 
 pumping-start chunk rf ps rs l out d n e r =
     rw e
     (record {
-      reading = λ o st. record { here = o; stands = st; same = refl };
+      within = λ xs w. w;
       ready = r;
       written = refl;
       references = refl;
@@ -52,35 +46,25 @@ pumping-start chunk rf ps rs l out d n e r =
       out = refl;
     })
 
-pub stands-anew : (rf : List ℕ) (ps : List ℤ) (rs l : List ℕ) (d n : Sitting) (o : Office) → n ≡ anewOf d
-    → Stands (store (d .table) rf ps rs) l d o → Stands (store (n .table) rf ps rs) l n o
-stands-anew rf ps rs l d n o e st = rw e (record { books = st .books; line = st .line; left = st .left })
+-- a chunk is begun
+pub within-start : (xs chunk rf : List ℕ) (ps : List ℤ) (rs l : List ℕ) (d n : Sitting) → n ≡ anewOf d → Answered xs (store (d .table) rf ps rs) l d
+    → Within (xs ++ chunk) chunk (store (n .table) rf ps rs) l n
+within-start xs chunk rf ps rs l d n e a = rw e (record { told = a .within .told; session = next chunk (a .within .session) (a .used) })
 
 pub pump-turning : (d : Sitting) (chunk out : ℕ) → (d .at < chunk) × (0 < d .left) → d .written ≡ 0 → longestAnswer ≤ out → Turning d chunk out
 pump-turning d chunk out h w r = record { unread = h .0; left = h .1; room = omega (arith, w) }
 
--- the office went on by a turn
-reading-more : (o : Office) (chunk : List ℕ) (s s' : Store) (l l' out out' : List ℕ) (d d' : Sitting)
-    → Reading o chunk s l d → ((x : Office) → Stands s l d x → Moved x chunk d out s' l' d' out') → Reading o chunk s' l' (emptiedOf d')
-reading-more o chunk s s' l l' out out' d d' r f =
-    let m = f (r .here) (r .stands) in
-    record {
-      here = m .after;
-      stands = record { books = m .stands .books; line = m .stands .line; left = m .stands .left };
-      same = m .same ∙ r .same;
-    }
-
 pub pumping-more : (chunk rf₀ : List ℕ) (ps₀ : List ℤ) (rs₀ l₀ out₀ : List ℕ) (d₀ : Sitting) (rf : List ℕ) (ps : List ℤ) (rs l b : List ℕ) (d : Sitting)
     (rf' : List ℕ) (ps' : List ℤ) (rs' l' b' : List ℕ) (r n : Sitting)
     → Pumping chunk rf₀ ps₀ rs₀ l₀ out₀ d₀ rf ps rs l b d
-    → ((x : Office) → Stands (store (d .table) rf ps rs) l d x → Moved x chunk d b (store (r .table) rf' ps' rs') l' r b')
+    → Fed chunk (store (d .table) rf ps rs) l d b (store (r .table) rf' ps' rs') l' r b'
     → Set (store (r .table) rf' ps' rs') l' → n ≡ emptiedOf r
     → length rf' ≡ length rf → length ps' ≡ length ps → length rs' ≡ length rs → length l' ≡ length l → length b' ≡ length b
     → Pumping chunk rf₀ ps₀ rs₀ l₀ out₀ d₀ rf' ps' rs' l' b' n
-pumping-more chunk rf₀ ps₀ rs₀ l₀ out₀ d₀ rf ps rs l b d rf' ps' rs' l' b' r n v m ready e k1 k2 k3 k4 k5 =
+pumping-more chunk rf₀ ps₀ rs₀ l₀ out₀ d₀ rf ps rs l b d rf' ps' rs' l' b' r n v f ready e k1 k2 k3 k4 k5 =
     rw e
     (record {
-      reading = λ o st. reading-more o chunk (store (d .table) rf ps rs) (store (r .table) rf' ps' rs') l l' b b' d r (v .reading o st) m;
+      within = λ xs w. let x = v .within xs w in record { told = x .told ++ take (r .written) b'; session = feeds (x .session) f };
       ready = ready;
       written = refl;
       references = k1 ∙ v .references;
@@ -89,17 +73,6 @@ pumping-more chunk rf₀ ps₀ rs₀ l₀ out₀ d₀ rf ps rs l b d rf' ps' rs'
       line = k4 ∙ v .line;
       out = k5 ∙ v .out;
     })
-
-pub reading-done : (o : Office) (chunk : List ℕ) (s : Store) (l : List ℕ) (d : Sitting) → Reading o chunk s l d → (length chunk ≤ d .at) ⊎ (d .left ≡ 0)
-    → Stands s l d (fed o chunk)
-unfolding fed
-reading-done o chunk s l d r w =
-    let e : r .here ≡ fed o chunk =
-    ⊎-elim
-    (λ h. sym (ap (λ (x : List ℕ). fed (r .here) x) (drop-of-length-le chunk {i = d .at} h)) ∙ r .same)
-    (λ z. sym (fed-stop (drop (d .at) chunk) (r .here) (sym (r .stands .left) ∙ z)) ∙ r .same)
-    w in
-    rw (← e) (r .stands)
 
 -- ---- the whole input
 
@@ -125,7 +98,8 @@ opened-ready rf ps rs a b c =
 -- what holds at each turn of `run`
 pub record Running (rf₀ : List ℕ) (ps₀ : List ℤ) (rs₀ l₀ out₀ rf : List ℕ) (ps : List ℤ) (rs l b : List ℕ) (d : Sitting) : Type 0 where
   pub ready : Set (store (d .table) rf ps rs) l
-  pub reached : Reached officeStart (store (d .table) rf ps rs) l d
+  pub read : List ℕ
+  pub answered : Answered read (store (d .table) rf ps rs) l d
   pub references : length rf ≡ length rf₀
   pub coordinates : length ps ≡ length ps₀
   pub nodes : length rs ≡ length rs₀
@@ -134,12 +108,12 @@ pub record Running (rf₀ : List ℕ) (ps₀ : List ℤ) (rs₀ l₀ out₀ rf :
 
 pub running-start : (rf : List ℕ) (ps : List ℤ) (rs l out : List ℕ) (d : Sitting) → d ≡ sittingStart
     → Roomy (length rf) (length ps) (length rs) (length l) (length out) → Running rf ps rs l out rf ps rs l out d
-unfolding fed officeStart booksOf
 running-start rf ps rs l out d e h =
     rw e
     (record {
       ready = record { ready = opened-ready rf ps rs (h .refs) (h .places) (h .noded); line = h .longest };
-      reached = record { bytes = []; stands = record { books = refl; line = rw (h .longest) at (kept-none l); left = refl } };
+      read = [];
+      answered = record { chunk = []; within = record { told = []; session = begun rf ps rs l (h .longest) }; used = inl (lit≤ tt) };
       references = refl;
       coordinates = refl;
       nodes = refl;
@@ -147,16 +121,24 @@ running-start rf ps rs l out d e h =
       out = refl;
     })
 
-pub reached-more : (o : Office) (s s' : Store) (l l' : List ℕ) (d d' : Sitting) → Reached o s l d → ((x : Office) → Stands s l d x → Reached x s' l' d')
-    → Reached o s' l' d'
-reached-more o s s' l l' d d' r f =
-    let n = f (fed o (r .bytes)) (r .stands) in
-    record { bytes = r .bytes ++ n .bytes; stands = rw (fed-more (r .bytes) (n .bytes) o) (n .stands) }
-
-pub reached-none : (o : Office) (s : Store) (l : List ℕ) (d : Sitting) → Stands s l d o → Reached o s l d
-unfolding fed
-reached-none o s l d st = record { bytes = []; stands = st }
-
 pub ready-anew : (rf : List ℕ) (ps : List ℤ) (rs l : List ℕ) (d n : Sitting) (out : ℕ) → n ≡ anewOf d → Set (store (d .table) rf ps rs) l → longestAnswer ≤ out
     → Set (store (n .table) rf ps rs) l × (n .written + longestAnswer ≤ out)
 ready-anew rf ps rs l d n out e r h = rw e (r, h)
+
+-- the input is over
+pub ran : (xs rf : List ℕ) (ps : List ℤ) (rs l b₀ b : List ℕ) (d n : Sitting) (v : ℕ) → n ≡ anewOf d → Answered xs (store (d .table) rf ps rs) l d
+    → ((o : Office) → Stands (store (n .table) rf ps rs) l n o → Ended o b₀ (n .written) b v) → v ≤ length b₀ → Ran b
+ran xs rf ps rs l b₀ b d n v e a f h =
+    let g : (o : Office) → Stands (store (d .table) rf ps rs) l (anewOf d) o → Ended o b₀ 0 b v = rw e at f in
+    record {
+      read = xs;
+      store = store (d .table) rf ps rs;
+      line = l;
+      sitting = d;
+      answered = a;
+      room = b₀;
+      end = v;
+      ended = g;
+      short = h;
+      says = whole a b₀ b v g h;
+    }

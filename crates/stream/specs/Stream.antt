@@ -1,11 +1,7 @@
 -- The office between chunks. Definitions only.
 use Prim.Native.Nat.{ℕ, _≤_}
 use mathlib.Core.Path.{_≡_}
-use mathlib.Core.List.{List}
-use Rattle.paper.specs.Tree.{Store}
-use Rattle.paper.specs.Program.{Office, fed}
 use Rattle.serve.specs.declared.feeding.Sitting.{Sitting}
-use Rattle.serve.specs.Feeding.{Stands}
 use Rattle.paper.specs.Limits.{longestAnswer, officeClaims, officePlaces, officeNodes}
 
 abbrev pub anewOf : Sitting → Sitting
@@ -24,11 +20,6 @@ sittingStart =
       at = 0;
       written = 0;
     }
-
--- the memory stands for the office o after some bytes that were read
-pub record Reached (o : Office) (s : Store) (l : List ℕ) (d : Sitting) : Type 0 where
-  pub bytes : List ℕ
-  pub stands : Stands s l d (fed o bytes)
 
 -- the memory that the program has, and room for a line
 pub record Roomy (references coordinates nodes line out : ℕ) : Type 0 where

@@ -11,14 +11,15 @@ use serve::feeding::Sitting;
 use serve::feeding::feed;
 use serve::feeding::finish;
 ghost use mathlib.Core.Path.{_≡_};
-ghost use Prim.Native.Nat.{_<_, _≤_};
+ghost use Prim.Native.Nat.{ℕ, _<_, _≤_};
 ghost use mathlib.Core.Bool.{true, false};
 ghost use mathlib.Core.Logic.{_⊎_};
-ghost use lib.ListN.{length};
+ghost use mathlib.Core.List.{List, _++_};
+ghost use lib.ListN.{length, take};
 ghost use Rattle.paper.specs.Tree.{lent};
-ghost use Rattle.paper.specs.Program.{Office, fed};
-ghost use Rattle.serve.specs.Feeding.{Set, Stands};
-ghost use Rattle.stream.specs.Stream.{anewOf, emptiedOf, sittingStart, Reached, Roomy};
+ghost use Rattle.serve.specs.Feeding.{Set};
+ghost use Rattle.stream.specs.Stream.{anewOf, emptiedOf, sittingStart, Roomy};
+ghost use Rattle.stream.specs.Session.{Answered, Ran};
 ghost use Rattle.paper.specs.Limits.{longestAnswer};
 
 // How a sitting stands at the start of a chunk.
@@ -35,17 +36,22 @@ fn anew(d: Sitting) -> Sitting
     }
 }
 
-// The same place in the chunk, with what was said written out.
-fn emptied(d: Sitting) -> Sitting
+// [10.13] Hands what was said to the writer, and gives the same place in the chunk, where nothing is left to write: only what was
+// handed over goes off what is written. A write that fails is passed over.
+fn write_out(d: Sitting, out: &[u8]) -> Sitting
+    requires { ⌜ d .written ≤ length (now out) ⌝ }
     ensures { λ r. ⌜ r ≡ emptiedOf d ⌝ }
 {
     let t = d.table;
+    let w = d.written;
+    let said = &out[0..w];
+    io::write_all(STDOUT_FILENO, said);
     Sitting {
         table: t,
         size: d.size,
         left: d.left,
         at: d.at,
-        written: 0,
+        written: w - said.len(),
     }
 }
 
@@ -61,7 +67,7 @@ fn unread(d: Sitting, n: usize) -> bool
     true
 }
 
-// [10.11] [10.13] Takes a chunk of the input, and writes what the office says to it; a write that fails is passed over.
+// [10.11] [10.12] Takes a chunk of the input, and writes what the office says to it.
 fn pump(
     d: Sitting,
     references: &mut [u32],
@@ -72,25 +78,24 @@ fn pump(
     out: &mut [u8],
 ) -> Sitting
     requires { ⌜ Set (lent (d .table) references coordinates nodes) (now line) × (longestAnswer ≤ length (now out)) ⌝ }
-    ensures { λ r. ⌜ Set (lent (r .table) (references .exit) (coordinates .exit) (nodes .exit)) (now (line .exit)) ⌝ }
-    ensures { λ r. ⌜ ((o : Office) → Stands (lent (d .table) (references .entry) (coordinates .entry) (nodes .entry)) (now (line .entry)) d o → Stands (lent (r .table) (references .exit) (coordinates .exit) (nodes .exit)) (now (line .exit)) r (fed o (now (chunk .entry)))) ⌝ }
+    ensures ready { λ r. ⌜ Set (lent (r .table) (references .exit) (coordinates .exit) (nodes .exit)) (now (line .exit)) ⌝ }
+    ensures answered { λ r. ⌜ ((xs : List ℕ) → Answered xs (lent (d .table) (references .entry) (coordinates .entry) (nodes .entry)) (now (line .entry)) d → Answered (xs ++ now (chunk .entry)) (lent (r .table) (references .exit) (coordinates .exit) (nodes .exit)) (now (line .exit)) r) ⌝ }
 {
     let mut n = anew(d);
     while unread(n, chunk.len()) {
         n = feed(n, references, coordinates, nodes, line, chunk, out);
-        let w = n.written;
-        io::write_all(STDOUT_FILENO, &out[0..w]);
-        n = emptied(n);
+        n = write_out(n, out);
     }
     n
 }
 
+// The office after a read, and how many bytes that got.
 struct Pause {
     sitting: Sitting,
-    open: bool,
+    got: usize,
 }
 
-// [10.12] [10.13] Reads once, and says whether to go on; a read that fails ends the input.
+// [10.12] [10.13] Reads once, and takes what it got; a read that fails gets nothing.
 fn once(
     d: Sitting,
     references: &mut [u32],
@@ -101,23 +106,25 @@ fn once(
     out: &mut [u8],
 ) -> Pause
     requires { ⌜ Set (lent (d .table) references coordinates nodes) (now line) × (longestAnswer ≤ length (now out)) ⌝ }
-    ensures { λ r. ⌜ Set (lent (r .sitting .table) (references .exit) (coordinates .exit) (nodes .exit)) (now (line .exit)) ⌝ }
-    ensures { λ r. ⌜ ((o : Office) → Stands (lent (d .table) (references .entry) (coordinates .entry) (nodes .entry)) (now (line .entry)) d o → Reached o (lent (r .sitting .table) (references .exit) (coordinates .exit) (nodes .exit)) (now (line .exit)) (r .sitting)) ⌝ }
+    ensures ready { λ r. ⌜ Set (lent (r .sitting .table) (references .exit) (coordinates .exit) (nodes .exit)) (now (line .exit)) ⌝ }
+    ensures answered { λ r. ⌜ ((xs : List ℕ) → Answered xs (lent (d .table) (references .entry) (coordinates .entry) (nodes .entry)) (now (line .entry)) d → Answered (xs ++ take (r .got) (now (chunk .exit))) (lent (r .sitting .table) (references .exit) (coordinates .exit) (nodes .exit)) (now (line .exit)) (r .sitting)) ⌝ }
 {
-    let got = libc::read(STDIN_FILENO, chunk);
-    let n = io::count(got, chunk);
-    if n < 1 {
-        return Pause {
-            sitting: d,
-            open: false,
-        };
-    }
+    let answer = libc::read(STDIN_FILENO, chunk);
+    let n = io::count(answer, chunk);
     let after = pump(d, references, coordinates, nodes, line, &chunk[..n], out);
-    let left = after.left;
     Pause {
         sitting: after,
-        open: 0 < left,
+        got: n,
     }
+}
+
+// [10.10] [10.13] Whether to read again: there was something to read, and a line is left.
+fn is_open(p: Pause) -> bool {
+    if p.got < 1 {
+        return false;
+    }
+    let d = p.sitting;
+    0 < d.left
 }
 
 // [10.1] [10.10] The sitting of an empty table. Its number, measure and d are those of the first claim, once there is one.
@@ -160,6 +167,7 @@ fn run(
     out: &mut [u8],
 )
     requires { ⌜ Roomy (length (now references)) (length (now coordinates)) (length (now nodes)) (length (now line)) (length (now out)) ⌝ }
+    ensures { λ _. ⌜ Ran (now (out .exit)) ⌝ }
 {
     let mut d = open_sitting();
     let mut open = true;
@@ -167,7 +175,7 @@ fn run(
     while going(open, turns) {
         let t = once(d, references, coordinates, nodes, line, chunk, out);
         d = t.sitting;
-        open = t.open;
+        open = is_open(t);
         turns -= 1;
     }
     let f = anew(d);

@@ -1,9 +1,9 @@
--- `stream::run` meets its contract: at every read the memory stands for the office after what was read so far. Assumes nothing.
+-- `stream::run` meets its contract: at every read a session from the first byte stands in the memory. Assumes nothing.
 use Prim.Native.Nat.{_≤_}
 use mathlib.Core.Path.{_≡_, refl, _∙_}
 use native.Mathlib.Omega.{arith}
 use lib.ListN.{length}
-use Rattle.stream.proofs.ProgramLoops.{Running, running-start, reached-more, ready-anew}
+use Rattle.stream.proofs.ProgramLoops.{Running, running-start, ready-anew, ran}
 use Rattle.stream.proofs.run.Statement.{statement}
 use Rattle.stream.proofs.run.Tie as tie
 use Rattle.paper.specs.Limits.{longestAnswer}
@@ -26,32 +26,31 @@ going-requires c κs = tt
 once-requires : tie.Need-once-requires Inv-loop μ-loop
 once-requires c κs = let v = c .before .before .before .before .before .before .before .before .loop .inv .0 in (v .ready, omega (arith, v .out, c .before .before .before .before .before .before .before .before .before .before .before .before .before .before .before .pre .space))
 
+is-open-requires : tie.Need-is-open-requires Inv-loop μ-loop
+is-open-requires c κs = tt
+
 sub-turns : tie.Need-sub-turns Inv-loop μ-loop
-sub-turns c =
-    let going = c .before .before .before .before .before .before .before .before .before .before .before .before .before .before .before .before .before .before .before .before .going in
-    let if1 = c .before .before .before .before .before .before .before .before .before .before .before .before .before .before .before .before .before .before .before .if1 in
-    omega (arith, going .ensures (if1 .taken))
+sub-turns c = omega (arith, c .before .before .before .before .before .before .before .before .before .before .before .before .before .before .before .before .before .before .before .before .before .going .ensures (c .before .before .before .before .before .before .before .before .before .before .before .before .before .before .before .before .before .before .before .before .if1 .taken))
 
 loop-less : tie.Need-loop-less Inv-loop μ-loop
-loop-less c =
-    let going = c .before .before .before .before .before .before .before .before .before .before .before .before .before .before .before .before .before .before .before .before .going in
-    let if1 = c .before .before .before .before .before .before .before .before .before .before .before .before .before .before .before .before .before .before .before .if1 in
-    omega (arith, going .ensures (if1 .taken))
+loop-less c = omega (arith, c .before .before .before .before .before .before .before .before .before .before .before .before .before .before .before .before .before .before .before .before .before .going .ensures (c .before .before .before .before .before .before .before .before .before .before .before .before .before .before .before .before .before .before .before .before .if1 .taken))
 
 loop-again : tie.Need-loop-again Inv-loop μ-loop
 loop-again c =
-    let v = c .before .before .before .before .before .before .before .before .before .before .before .before .before .before .before .before .before .before .before .before .before .loop .inv .0 in
-    let o = c .before .before .before .before .before .before .before .before .before .before .before .before .once in (
+    let v = c .before .before .before .before .before .before .before .before .before .before .before .before .before .before .before .before .before .before .before .before .before .before .loop .inv .0 in
+    let o = c .before .before .before .before .before .before .before .before .before .before .before .before .before .once in
+    let k = o .kept .1 in (
       record {
         ready = o .ensures .0;
-        reached = reached-more _ _ _ _ _ _ _ (v .reached) (o .ensures .1);
-        references = o .kept .1 .0 ∙ v .references;
-        coordinates = o .kept .1 .1 .0 ∙ v .coordinates;
-        nodes = o .kept .1 .1 .1 .0 ∙ v .nodes;
-        line = o .kept .1 .1 .1 .1 .0 ∙ v .line;
-        out = o .kept .1 .1 .1 .1 .1 .1 .0 ∙ v .out;
+        read = _;
+        answered = o .ensures .1 (v .read) (v .answered);
+        references = k .0 ∙ v .references;
+        coordinates = k .1 .0 ∙ v .coordinates;
+        nodes = k .1 .1 .0 ∙ v .nodes;
+        line = k .1 .1 .1 .0 ∙ v .line;
+        out = k .1 .1 .1 .1 .1 .0 ∙ v .out;
       },
-      o .kept .1 .1 .1 .1 .1 .0 ∙ c .before .before .before .before .before .before .before .before .before .before .before .before .before .before .before .before .before .before .before .before .before .loop .inv .1,
+      k .1 .1 .1 .1 .0 ∙ c .before .before .before .before .before .before .before .before .before .before .before .before .before .before .before .before .before .before .before .before .before .before .loop .inv .1,
     )
 
 anew-requires : tie.Need-anew-requires Inv-loop μ-loop
@@ -79,16 +78,10 @@ same-length : tie.Need-same-length Inv-loop μ-loop
 same-length c = c .before .before .before .before .before .before .before .before .before .before .finish .kept .1 .0 ∙ c .before .before .before .before .before .before .before .before .before .before .before .before .before .before .before .before .before .before .before .loop .inv .0 .references
 
 same-length-2 : tie.Need-same-length-2 Inv-loop μ-loop
-same-length-2 c =
-    let loop = c .before .before .before .before .before .before .before .before .before .before .before .before .before .before .before .before .before .before .before .loop in
-    let finish = c .before .before .before .before .before .before .before .before .before .before .finish in
-    finish .kept .1 .1 .0 ∙ loop .inv .0 .coordinates
+same-length-2 c = c .before .before .before .before .before .before .before .before .before .before .finish .kept .1 .1 .0 ∙ c .before .before .before .before .before .before .before .before .before .before .before .before .before .before .before .before .before .before .before .loop .inv .0 .coordinates
 
 same-length-3 : tie.Need-same-length-3 Inv-loop μ-loop
-same-length-3 c =
-    let loop = c .before .before .before .before .before .before .before .before .before .before .before .before .before .before .before .before .before .before .before .loop in
-    let finish = c .before .before .before .before .before .before .before .before .before .before .finish in
-    finish .kept .1 .1 .1 .0 ∙ loop .inv .0 .nodes
+same-length-3 c = c .before .before .before .before .before .before .before .before .before .before .finish .kept .1 .1 .1 .0 ∙ c .before .before .before .before .before .before .before .before .before .before .before .before .before .before .before .before .before .before .before .loop .inv .0 .nodes
 
 same-length-4 : tie.Need-same-length-4 Inv-loop μ-loop
 same-length-4 c = c .before .before .before .before .before .before .before .before .before .before .before .before .before .before .before .before .before .before .before .loop .inv .0 .line
@@ -97,13 +90,13 @@ same-length-5 : tie.Need-same-length-5 Inv-loop μ-loop
 same-length-5 c = c .before .before .before .before .before .before .before .before .before .before .before .before .before .before .before .before .before .before .before .loop .inv .1
 
 same-length-6 : tie.Need-same-length-6 Inv-loop μ-loop
-same-length-6 c =
-    let loop = c .before .before .before .before .before .before .before .before .before .before .before .before .before .before .before .before .before .before .before .loop in
-    let finish = c .before .before .before .before .before .before .before .before .before .before .finish in
-    finish .kept .1 .1 .1 .1 .1 .0 ∙ loop .inv .0 .out
+same-length-6 c = c .before .before .before .before .before .before .before .before .before .before .finish .kept .1 .1 .1 .1 .1 .0 ∙ c .before .before .before .before .before .before .before .before .before .before .before .before .before .before .before .before .before .before .before .loop .inv .0 .out
 
 returns : tie.Need-returns Inv-loop μ-loop
-returns c = tt
+returns c =
+    let l = c .before .before .before .before .before .before .before .before .before .before .before .before .before .before .before .before .before .before .before .loop in
+    let f = c .before .before .before .before .before .before .before .before .before .before .finish in
+    ran _ (l .references) (l .coordinates) (l .nodes) (l .line) (l .out) _ (l .d) _ _ (c .before .before .before .before .before .before .before .before .before .before .before .before .before .before .before .before .anew .ensures) (l .inv .0 .answered) (f .ensures .0) (f .ensures .1)
 
 pub run-spec : {M : Type 1} → statement M
 run-spec =
@@ -115,6 +108,7 @@ run-spec =
     loop-holds
     going-requires
     once-requires
+    is-open-requires
     sub-turns
     loop-less
     loop-again

@@ -1,0 +1,58 @@
+-- [10.11] The office from its first byte to here, by steps that are what `feed`, `write_out`, `anew` and `finish` promise. Definitions
+-- only.
+use Prim.Native.Nat.{ℕ, _≤_}
+use mathlib.Core.Path.{_≡_}
+use mathlib.Core.Logic.{_⊎_}
+use mathlib.Core.List.{List, [], _++_}
+use lib.ListN.{length, take}
+use lib.IntN.{ℤ}
+use Rattle.paper.specs.Tree.{Store, store}
+use Rattle.paper.specs.Program.{Office, program}
+use Rattle.serve.specs.declared.feeding.Sitting.{Sitting}
+use Rattle.serve.specs.Feeding.{Stands, Turning, Moved, Ended}
+use Rattle.stream.specs.Stream.{anewOf, emptiedOf, sittingStart}
+use Rattle.paper.specs.Limits.{longestAnswer}
+
+-- [10.10] the chunk is read, or no line is left to read
+abbrev pub Used : List ℕ → Sitting → Type 0
+Used chunk d = (length chunk ≤ d .at) ⊎ (d .left ≡ 0)
+
+-- what `feed` promises: from the sitting d and the output room b₀ it read on in the chunk, to the sitting r and the room b
+pub record Fed (chunk : List ℕ) (s₀ : Store) (l₀ : List ℕ) (d : Sitting) (b₀ : List ℕ) (s : Store) (l : List ℕ) (r : Sitting) (b : List ℕ) : Type 0 where
+  pub moved : (o : Office) → Stands s₀ l₀ d o → Moved o chunk d b₀ s l r b
+  pub short : r .written ≤ length b₀
+  pub stops : Turning r (length chunk) (length b₀) → ⊥
+
+-- xs was read, of which the chunk is the last, and ys was handed to the writer
+pub data Session : List ℕ → List ℕ → List ℕ → Store → List ℕ → Sitting → Type 0 where
+  -- [10.1] before the first byte, whatever the memory holds
+  begun : (rf : List ℕ) (ps : List ℤ) (rs l : List ℕ) → length l ≡ longestAnswer → Session [] [] [] (store (sittingStart .table) rf ps rs) l sittingStart
+  -- any bytes are the next chunk, once the one before is used
+  next : {xs ys c : List ℕ} {s : Store} {l : List ℕ} {d : Sitting} (chunk : List ℕ) → Session xs ys c s l d → Used c d → Session (xs ++ chunk) ys chunk s l (anewOf d)
+  -- a chunk is fed, wherever that stops, and the front of the room is written out
+  feeds : {xs ys c : List ℕ} {s₀ s : Store} {l₀ l b₀ b : List ℕ} {d r : Sitting} → Session xs ys c s₀ l₀ d → Fed c s₀ l₀ d b₀ s l r b
+      → Session xs (ys ++ take (r .written) b) c s l (emptiedOf r)
+
+-- within a chunk: it is the last of xs
+pub record Within (xs chunk : List ℕ) (s : Store) (l : List ℕ) (d : Sitting) : Type 0 where
+  pub told : List ℕ
+  pub session : Session xs told chunk s l d
+
+-- [10.12] between chunks: xs was read, and its last chunk is used
+pub record Answered (xs : List ℕ) (s : Store) (l : List ℕ) (d : Sitting) : Type 0 where
+  pub chunk : List ℕ
+  pub within : Within xs chunk s l d
+  pub used : Used chunk d
+
+-- [10.9] the input is over, and the room b is as `finish` left it: what was handed to the writer is what the program says to what was read
+pub record Ran (b : List ℕ) : Type 0 where
+  pub read : List ℕ
+  pub store : Store
+  pub line : List ℕ
+  pub sitting : Sitting
+  pub answered : Answered read store line sitting
+  pub room : List ℕ
+  pub end : ℕ
+  pub ended : (o : Office) → Stands store line (anewOf sitting) o → Ended o room 0 b end
+  pub short : end ≤ length room
+  pub says : answered .within .told ++ take end b ≡ program read
