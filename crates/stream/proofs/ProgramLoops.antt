@@ -6,7 +6,7 @@ use mathlib.Core.Logic.{inl}
 use native.Mathlib.Omega.{arith}
 use lib.Dec.{lit≤}
 use lib.IntN.{ℤ}
-use lib.ListN.{length, take}
+use lib.ListN.{length}
 use Rattle.paper.specs.Tree.{store, built}
 use Rattle.paper.specs.Program.{Office}
 use Rattle.tree.specs.Rooms.{IsBuilt}
@@ -14,7 +14,7 @@ use Rattle.serve.specs.declared.feeding.Sitting.{Sitting}
 use Rattle.serve.specs.Serving.{Ready}
 use Rattle.serve.specs.Feeding.{Set, Stands, Turning, Ended}
 use Rattle.stream.specs.Stream.{anewOf, emptiedOf, sittingStart, Roomy}
-use Rattle.stream.specs.Session.{Fed, begun, next, feeds, Within, Answered, Ran}
+use Rattle.stream.specs.Session.{Fed, handed, begun, next, feeds, Within, Answered, Ran}
 use Rattle.stream.proofs.WholeInput.{whole}
 use Rattle.paper.specs.Limits.{longestAnswer, officeClaims, officePlaces, officeNodes}
 
@@ -64,7 +64,7 @@ pub pumping-more : (chunk rf₀ : List ℕ) (ps₀ : List ℤ) (rs₀ l₀ out�
 pumping-more chunk rf₀ ps₀ rs₀ l₀ out₀ d₀ rf ps rs l b d rf' ps' rs' l' b' r n v f ready e k1 k2 k3 k4 k5 =
     rw e
     (record {
-      within = λ xs w. let x = v .within xs w in record { told = x .told ++ take (r .written) b'; session = feeds (x .session) f };
+      within = λ xs w. let x = v .within xs w in record { told = x .told ++ handed r b'; session = feeds (x .session) f };
       ready = ready;
       written = refl;
       references = k1 ∙ v .references;

@@ -19,7 +19,7 @@ use Rattle.serve.specs.Feeding.{Stands, Turning, Moved, Ended}
 use Rattle.serve.proofs.Moves.{fed-more, fed-stop}
 use Rattle.serve.proofs.Written.{wrote-front}
 use Rattle.stream.specs.Stream.{anewOf, emptiedOf}
-use Rattle.stream.specs.Session.{Used, Fed, Session, begun, next, feeds, Answered}
+use Rattle.stream.specs.Session.{Used, Fed, handed, Session, begun, next, feeds, Answered}
 use Rattle.paper.specs.Limits.{longestAnswer}
 
 -- what a session means: the memory stands for an office that has said ys, and reads of the chunk's rest what the whole input leads to
@@ -36,6 +36,12 @@ front-said b₀ b more w v z e q h =
     let n : v ≡ length more = omega arith in
     rw (e, z, n) (wrote-front b₀ more (omega arith))
 
+-- what is handed to the writer is what the office said
+handed-said : (o : Office) (chunk b₀ : List ℕ) (s : Store) (l b : List ℕ) (d r : Sitting) → d .written ≡ 0 → r .written ≤ length b₀
+    → (m : Moved o chunk d b₀ s l r b) → handed r b ≡ m .more
+unfolding handed
+handed-said o chunk b₀ s l b d r z h m = front-said b₀ b (m .more) (d .written) (r .written) z (m .out) (m .written) h
+
 -- a used chunk leads no further
 used-up : {xs ys c : List ℕ} {s : Store} {l : List ℕ} {d : Sitting} (t : Stood xs ys c s l d) → Used c d → t .office ≡ fed officeStart xs
 unfolding fed
@@ -46,10 +52,10 @@ used-up {c = c} {d = d} t u =
     u
 
 fed-stood : {xs ys c : List ℕ} {s₀ s : Store} {l₀ l b₀ b : List ℕ} {d r : Sitting} → Stood xs ys c s₀ l₀ d → Fed c s₀ l₀ d b₀ s l r b
-    → Stood xs (ys ++ take (r .written) b) c s l (emptiedOf r)
-fed-stood {ys = ys} {b₀ = b₀} {b = b} {d = d} {r = r} t f =
+    → Stood xs (ys ++ handed r b) c s l (emptiedOf r)
+fed-stood {ys = ys} {c} {s₀} {s} {l₀} {l} {b₀} {b} {d} {r} t f =
     let m = f .moved (t .office) (t .stands) in
-    let said = front-said b₀ b (m .more) (d .written) (r .written) (t .empty) (m .out) (m .written) (f .short) in
+    let said = handed-said (t .office) c b₀ s l b d r (t .empty) (f .short) m in
     record {
       office = m .after;
       stands = record { books = m .stands .books; line = m .stands .line; left = m .stands .left };
@@ -76,9 +82,18 @@ stood (begun rf ps rs l len) =
 stood (next chunk se u) = next-stood chunk (stood se) u
 stood (feeds se f) = fed-stood (stood se) f
 
+-- the room is emptied where nothing is left to write
+pub emptied-is : (d : Sitting) (left : ℕ) → left ≡ 0 → record { table = d .table; size = d .size; left = d .left; at = d .at; written = left } ≡ emptiedOf d
+emptied-is d left e = rw e
+
 -- [10.12] before the next read, all that the office says to what was read is handed to the writer
 pub answered-said : {xs : List ℕ} {s : Store} {l : List ℕ} {d : Sitting} (a : Answered xs s l d) → a .within .told ≡ fed officeStart xs .said
 answered-said a = let t = stood (a .within .session) in sym (t .said) ∙ ap (λ (x : Office). x .said) (used-up t (a .used))
+
+-- [10.11] what is said does not depend on how the input is cut, nor on where the room filled
+pub cut-either-way : {xs : List ℕ} {s s' : Store} {l l' : List ℕ} {d d' : Sitting} (a : Answered xs s l d) (b : Answered xs s' l' d')
+    → a .within .told ≡ b .within .told
+cut-either-way a b = answered-said a ∙ sym (answered-said b)
 
 -- [10.10] a feed that leaves room for a line has used its chunk
 pub feeds-on : {c : List ℕ} {s₀ s : Store} {l₀ l b₀ b : List ℕ} {d r : Sitting} → Fed c s₀ l₀ d b₀ s l r b → r .written + longestAnswer ≤ length b₀

@@ -23,6 +23,10 @@ pub record Fed (chunk : List ℕ) (s₀ : Store) (l₀ : List ℕ) (d : Sitting)
   pub short : r .written ≤ length b₀
   pub stops : Turning r (length chunk) (length b₀) → ⊥
 
+-- [10.11] what is handed to the writer of a room: its front, as far as the sitting says that it is written
+unfoldable pub handed : Sitting → List ℕ → List ℕ
+handed r b = take (r .written) b
+
 -- xs was read, of which the chunk is the last, and ys was handed to the writer
 pub data Session : List ℕ → List ℕ → List ℕ → Store → List ℕ → Sitting → Type 0 where
   -- [10.1] before the first byte, whatever the memory holds
@@ -31,7 +35,7 @@ pub data Session : List ℕ → List ℕ → List ℕ → Store → List ℕ →
   next : {xs ys c : List ℕ} {s : Store} {l : List ℕ} {d : Sitting} (chunk : List ℕ) → Session xs ys c s l d → Used c d → Session (xs ++ chunk) ys chunk s l (anewOf d)
   -- a chunk is fed, wherever that stops, and the front of the room is written out
   feeds : {xs ys c : List ℕ} {s₀ s : Store} {l₀ l b₀ b : List ℕ} {d r : Sitting} → Session xs ys c s₀ l₀ d → Fed c s₀ l₀ d b₀ s l r b
-      → Session xs (ys ++ take (r .written) b) c s l (emptiedOf r)
+      → Session xs (ys ++ handed r b) c s l (emptiedOf r)
 
 -- within a chunk: it is the last of xs
 pub record Within (xs chunk : List ℕ) (s : Store) (l : List ℕ) (d : Sitting) : Type 0 where

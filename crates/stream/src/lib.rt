@@ -79,7 +79,8 @@ fn pump(
 ) -> Sitting
     requires { ⌜ Set (lent (d .table) references coordinates nodes) (now line) × (longestAnswer ≤ length (now out)) ⌝ }
     ensures ready { λ r. ⌜ Set (lent (r .table) (references .exit) (coordinates .exit) (nodes .exit)) (now (line .exit)) ⌝ }
-    ensures answered { λ r. ⌜ ((xs : List ℕ) → Answered xs (lent (d .table) (references .entry) (coordinates .entry) (nodes .entry)) (now (line .entry)) d → Answered (xs ++ now (chunk .entry)) (lent (r .table) (references .exit) (coordinates .exit) (nodes .exit)) (now (line .exit)) r) ⌝ }
+    ensures answered { λ r. ⌜ ((xs : List ℕ) → Answered xs (lent (d .table) (references .entry) (coordinates .entry) (nodes .entry)) (now (line .entry)) d
+        → Answered (xs ++ now (chunk .entry)) (lent (r .table) (references .exit) (coordinates .exit) (nodes .exit)) (now (line .exit)) r) ⌝ }
 {
     let mut n = anew(d);
     while unread(n, chunk.len()) {
@@ -107,7 +108,8 @@ fn once(
 ) -> Pause
     requires { ⌜ Set (lent (d .table) references coordinates nodes) (now line) × (longestAnswer ≤ length (now out)) ⌝ }
     ensures ready { λ r. ⌜ Set (lent (r .sitting .table) (references .exit) (coordinates .exit) (nodes .exit)) (now (line .exit)) ⌝ }
-    ensures answered { λ r. ⌜ ((xs : List ℕ) → Answered xs (lent (d .table) (references .entry) (coordinates .entry) (nodes .entry)) (now (line .entry)) d → Answered (xs ++ take (r .got) (now (chunk .exit))) (lent (r .sitting .table) (references .exit) (coordinates .exit) (nodes .exit)) (now (line .exit)) (r .sitting)) ⌝ }
+    ensures answered { λ r. ⌜ ((xs : List ℕ) → Answered xs (lent (d .table) (references .entry) (coordinates .entry) (nodes .entry)) (now (line .entry)) d
+        → Answered (xs ++ take (r .got) (now (chunk .exit))) (lent (r .sitting .table) (references .exit) (coordinates .exit) (nodes .exit)) (now (line .exit)) (r .sitting)) ⌝ }
 {
     let answer = libc::read(STDIN_FILENO, chunk);
     let n = io::count(answer, chunk);

@@ -27,7 +27,7 @@ feed-requires : tie.Need-feed-requires Inv-loop μ-loop
 feed-requires c κs = let v = c .before .before .before .before .before .before .before .loop .inv in (v .ready, omega (arith, v .written))
 
 write-out-requires : tie.Need-write-out-requires Inv-loop μ-loop
-write-out-requires c κs = omega (arith, c .before .before .before .before .before .before .before .before .before .before .feed .ensures .1 .1 .1 .0, c .before .before .before .before .before .before .before .before .before .before .feed .kept .1 .1 .1 .1 .1 .1 .0)
+write-out-requires c κs = let f = c .before .before .before .before .before .before .before .before .before .before .feed in omega (arith, f .ensures .1 .1 .1 .0, f .kept .1 .1 .1 .1 .1 .1 .0)
 
 loop-less : tie.Need-loop-less Inv-loop μ-loop
 loop-less c =
@@ -35,7 +35,8 @@ loop-less c =
     let feed = c .before .before .before .before .before .before .before .before .before .before .before .feed in
     let out = c .write-out in
     let v = c .before .before .before .before .before .before .before .before .before .before .before .before .before .before .before .before .before .before .before .loop .inv in
-    let u = c .before .before .before .before .before .before .before .before .before .before .before .before .before .before .before .before .before .before .unread .ensures .0 (c .before .before .before .before .before .before .before .before .before .before .before .before .before .before .before .before .before .if1 .taken) in
+    let if1 = c .before .before .before .before .before .before .before .before .before .before .before .before .before .before .before .before .before .if1 in
+    let u = c .before .before .before .before .before .before .before .before .before .before .before .before .before .before .before .before .before .before .unread .ensures .0 (if1 .taken) in
     let t = feed .ensures .1 .1 .0 (pump-turning _ _ _ u (v .written) (rw (v .out) (pre .1))) in
     let e : out .result .at ≡ feed .result .at = ap (λ (x : Sitting). x .at) (out .ensures) in
     omega (arith, t, u .0)
