@@ -1,4 +1,4 @@
--- [10.11] The office from its first byte to here, by steps that are what `feed`, `write_out`, `anew` and `finish` promise. Definitions
+-- [10.11] The office from its first byte to here, by steps that are what `feed`, `emptied`, `anew` and `finish` promise. Definitions
 -- only.
 use Prim.Native.Nat.{ℕ, _≤_}
 use mathlib.Core.Path.{_≡_}

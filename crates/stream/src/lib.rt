@@ -36,16 +36,24 @@ fn anew(d: Sitting) -> Sitting
     }
 }
 
-// [10.13] Hands what was said to the writer, and gives the same place in the chunk, where nothing is left to write: only what was
-// handed over goes off what is written. A write that fails is passed over.
-fn write_out(d: Sitting, out: &[u8]) -> Sitting
+// [10.11] [10.13] Hands the front of the room to the writer, and gives back what it handed over; a write that fails is passed over.
+fn hand_over(out: &[u8], w: usize) -> &[u8]
+    requires { ⌜ w ≤ length (now out) ⌝ }
+    ensures { λ r. ⌜ now r ≡ take w (now (out .entry)) ⌝ }
+{
+    let said = &out[0..w];
+    io::write_all(STDOUT_FILENO, said);
+    said
+}
+
+// The same place in the chunk, with what was said handed over: only that goes off what is written.
+fn emptied(d: Sitting, out: &[u8]) -> Sitting
     requires { ⌜ d .written ≤ length (now out) ⌝ }
     ensures { λ r. ⌜ r ≡ emptiedOf d ⌝ }
 {
     let t = d.table;
     let w = d.written;
-    let said = &out[0..w];
-    io::write_all(STDOUT_FILENO, said);
+    let said = hand_over(out, w);
     Sitting {
         table: t,
         size: d.size,
@@ -85,7 +93,7 @@ fn pump(
     let mut n = anew(d);
     while unread(n, chunk.len()) {
         n = feed(n, references, coordinates, nodes, line, chunk, out);
-        n = write_out(n, out);
+        n = emptied(n, out);
     }
     n
 }
@@ -182,7 +190,7 @@ fn run(
     }
     let f = anew(d);
     let w = finish(f, references, coordinates, nodes, line, out);
-    io::write_all(STDOUT_FILENO, &out[0..w]);
+    hand_over(out, w);
 }
 
 // The program `office`, with memory of its own.

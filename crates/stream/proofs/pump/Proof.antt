@@ -26,14 +26,14 @@ unread-requires c κs = tt
 feed-requires : tie.Need-feed-requires Inv-loop μ-loop
 feed-requires c κs = let v = c .before .before .before .before .before .before .before .loop .inv in (v .ready, omega (arith, v .written))
 
-write-out-requires : tie.Need-write-out-requires Inv-loop μ-loop
-write-out-requires c κs = let f = c .before .before .before .before .before .before .before .before .before .before .feed in omega (arith, f .ensures .1 .1 .1 .0, f .kept .1 .1 .1 .1 .1 .1 .0)
+emptied-requires : tie.Need-emptied-requires Inv-loop μ-loop
+emptied-requires c κs = let f = c .before .before .before .before .before .before .before .before .before .before .feed in omega (arith, f .ensures .1 .1 .1 .0, f .kept .1 .1 .1 .1 .1 .1 .0)
 
 loop-less : tie.Need-loop-less Inv-loop μ-loop
 loop-less c =
     let pre = c .before .before .before .before .before .before .before .before .before .before .before .before .before .before .before .before .before .before .before .before .before .before .before .before .before .before .pre in
     let feed = c .before .before .before .before .before .before .before .before .before .before .before .feed in
-    let out = c .write-out in
+    let out = c .emptied in
     let v = c .before .before .before .before .before .before .before .before .before .before .before .before .before .before .before .before .before .before .before .loop .inv in
     let if1 = c .before .before .before .before .before .before .before .before .before .before .before .before .before .before .before .before .before .if1 in
     let u = c .before .before .before .before .before .before .before .before .before .before .before .before .before .before .before .before .before .before .unread .ensures .0 (if1 .taken) in
@@ -47,7 +47,7 @@ loop-again c =
     let k = f .kept .1 in
     let e = f .ensures .1 .1 .1 in
     pumping-more _ _ _ _ _ _ _ _ _ _ _ _ _ _ _ _ _ _ _ _ (c .before .before .before .before .before .before .before .before .before .before .before .before .before .before .before .before .before .before .before .loop .inv)
-    (record { moved = f .ensures .0; short = e .0; stops = λ t. e .1 t }) (f .ensures .1 .0) (c .write-out .ensures) (k .0) (k .1 .0) (k .1 .1 .0) (k .1 .1 .1 .0) (k .1 .1 .1 .1 .1 .0)
+    (record { moved = f .ensures .0; short = e .0; stops = λ t. e .1 t }) (f .ensures .1 .0) (c .emptied .ensures) (k .0) (k .1 .0) (k .1 .1 .0) (k .1 .1 .1 .0) (k .1 .1 .1 .1 .1 .0)
 
 same-length : tie.Need-same-length Inv-loop μ-loop
 same-length c = c .before .before .loop .inv .references
@@ -87,7 +87,7 @@ pump-spec =
     loop-holds
     unread-requires
     feed-requires
-    write-out-requires
+    emptied-requires
     loop-less
     loop-again
     same-length

@@ -68,49 +68,40 @@ finish-requires c κs =
     let h : longestAnswer ≤ length (c .before .before .before .before .before .before .before .before .loop .out) = omega (arith, v .out, c .before .before .before .before .before .before .before .before .before .before .before .before .before .before .before .pre .space) in
     ready-anew _ _ _ _ (c .before .before .before .before .before .before .before .before .loop .d) _ _ (c .before .before .before .before .before .anew .ensures) (v .ready) h
 
-sub-write-all : tie.Need-sub-write-all Inv-loop μ-loop
-sub-write-all c = omega arith
-
-part-write-all-start : tie.Need-part-write-all-start Inv-loop μ-loop
-part-write-all-start c = omega arith
-
-part-write-all-end : tie.Need-part-write-all-end Inv-loop μ-loop
-part-write-all-end c = omega (arith, c .before .before .before .before .before .before .before .before .finish .ensures .1, c .before .before .before .before .before .before .before .before .finish .kept .1 .1 .1 .1 .1 .0)
-
-write-all-requires : tie.Need-write-all-requires Inv-loop μ-loop
-write-all-requires c κs = tt
+hand-over-requires : tie.Need-hand-over-requires Inv-loop μ-loop
+hand-over-requires c κs = omega (arith, c .before .before .before .before .before .before .before .before .finish .ensures .1, c .before .before .before .before .before .before .before .before .finish .kept .1 .1 .1 .1 .1 .0)
 
 same-length : tie.Need-same-length Inv-loop μ-loop
 same-length c =
-    let k = c .before .before .before .before .before .before .before .before .before .before .finish .kept .1 .0 in
-    k ∙ c .before .before .before .before .before .before .before .before .before .before .before .before .before .before .before .before .before .before .before .loop .inv .0 .references
+    let k = c .before .before .before .before .before .before .before .before .before .finish .kept .1 .0 in
+    k ∙ c .before .before .before .before .before .before .before .before .before .before .before .before .before .before .before .before .before .before .loop .inv .0 .references
 
 same-length-2 : tie.Need-same-length-2 Inv-loop μ-loop
 same-length-2 c =
-    let k = c .before .before .before .before .before .before .before .before .before .before .finish .kept .1 .1 .0 in
-    k ∙ c .before .before .before .before .before .before .before .before .before .before .before .before .before .before .before .before .before .before .before .loop .inv .0 .coordinates
+    let k = c .before .before .before .before .before .before .before .before .before .finish .kept .1 .1 .0 in
+    k ∙ c .before .before .before .before .before .before .before .before .before .before .before .before .before .before .before .before .before .before .loop .inv .0 .coordinates
 
 same-length-3 : tie.Need-same-length-3 Inv-loop μ-loop
 same-length-3 c =
-    let k = c .before .before .before .before .before .before .before .before .before .before .finish .kept .1 .1 .1 .0 in
-    k ∙ c .before .before .before .before .before .before .before .before .before .before .before .before .before .before .before .before .before .before .before .loop .inv .0 .nodes
+    let k = c .before .before .before .before .before .before .before .before .before .finish .kept .1 .1 .1 .0 in
+    k ∙ c .before .before .before .before .before .before .before .before .before .before .before .before .before .before .before .before .before .before .loop .inv .0 .nodes
 
 same-length-4 : tie.Need-same-length-4 Inv-loop μ-loop
-same-length-4 c = c .before .before .before .before .before .before .before .before .before .before .before .before .before .before .before .before .before .before .before .loop .inv .0 .line
+same-length-4 c = c .before .before .before .before .before .before .before .before .before .before .before .before .before .before .before .before .before .before .loop .inv .0 .line
 
 same-length-5 : tie.Need-same-length-5 Inv-loop μ-loop
-same-length-5 c = c .before .before .before .before .before .before .before .before .before .before .before .before .before .before .before .before .before .before .before .loop .inv .1
+same-length-5 c = c .before .before .before .before .before .before .before .before .before .before .before .before .before .before .before .before .before .before .loop .inv .1
 
 same-length-6 : tie.Need-same-length-6 Inv-loop μ-loop
 same-length-6 c =
-    let k = c .before .before .before .before .before .before .before .before .before .before .finish .kept .1 .1 .1 .1 .1 .0 in
-    k ∙ c .before .before .before .before .before .before .before .before .before .before .before .before .before .before .before .before .before .before .before .loop .inv .0 .out
+    let k = c .before .before .before .before .before .before .before .before .before .finish .kept .1 .1 .1 .1 .1 .0 in
+    k ∙ c .before .before .before .before .before .before .before .before .before .before .before .before .before .before .before .before .before .before .loop .inv .0 .out
 
 returns : tie.Need-returns Inv-loop μ-loop
 returns c =
-    let l = c .before .before .before .before .before .before .before .before .before .before .before .before .before .before .before .before .before .before .before .loop in
-    let f = c .before .before .before .before .before .before .before .before .before .before .finish in
-    ran _ (l .references) (l .coordinates) (l .nodes) (l .line) (l .out) _ (l .d) _ _ (c .before .before .before .before .before .before .before .before .before .before .before .before .before .before .before .before .anew .ensures) (l .inv .0 .answered) (f .ensures .0) (f .ensures .1)
+    let l = c .before .before .before .before .before .before .before .before .before .before .before .before .before .before .before .before .before .before .loop in
+    let f = c .before .before .before .before .before .before .before .before .before .finish in
+    ran _ (l .references) (l .coordinates) (l .nodes) (l .line) (l .out) _ (l .d) _ _ (c .before .before .before .before .before .before .before .before .before .before .before .before .before .before .before .anew .ensures) (l .inv .0 .answered) (f .ensures .0) (f .ensures .1)
 
 pub run-spec : {M : Type 1} → statement M
 run-spec =
@@ -128,10 +119,7 @@ run-spec =
     loop-again
     anew-requires
     finish-requires
-    sub-write-all
-    part-write-all-start
-    part-write-all-end
-    write-all-requires
+    hand-over-requires
     same-length
     same-length-2
     same-length-3
