@@ -1,20 +1,20 @@
 -- Laws of the program's loops. Assumes nothing.
 use Prim.Native.Nat.{ℕ, _+_, _<_, _≤_}
-use mathlib.Core.Path.{_≡_, refl, _∙_}
+use mathlib.Core.Path.{_≡_, refl, ap, _∙_}
 use mathlib.Core.List.{List, [], _++_}
 use mathlib.Core.Logic.{inl}
 use native.Mathlib.Omega.{arith}
 use lib.Dec.{lit≤}
 use lib.IntN.{ℤ}
-use lib.ListN.{length}
+use lib.ListN.{length, take, length-take}
 use Rattle.paper.specs.Tree.{store, built}
-use Rattle.paper.specs.Program.{Office}
+use Rattle.paper.specs.Program.{Office, program}
 use Rattle.tree.specs.Rooms.{IsBuilt}
 use Rattle.serve.specs.declared.feeding.Sitting.{Sitting}
 use Rattle.serve.specs.Serving.{Ready}
 use Rattle.serve.specs.Feeding.{Set, Stands, Turning, Ended}
 use Rattle.stream.specs.Stream.{anewOf, emptiedOf, sittingStart, Roomy}
-use Rattle.stream.specs.Session.{Fed, handed, begun, next, feeds, Within, Answered, Ran}
+use Rattle.stream.specs.Session.{Fed, handed, begun, next, feeds, Within, Answered}
 use Rattle.stream.proofs.WholeInput.{whole}
 use Rattle.paper.specs.Limits.{longestAnswer, officeClaims, officePlaces, officeNodes}
 
@@ -125,20 +125,11 @@ pub ready-anew : (rf : List ℕ) (ps : List ℤ) (rs l : List ℕ) (d n : Sittin
     → Set (store (n .table) rf ps rs) l × (n .written + longestAnswer ≤ out)
 ready-anew rf ps rs l d n out e r h = rw e (r, h)
 
--- the input is over
-pub ran : (xs rf : List ℕ) (ps : List ℤ) (rs l b₀ b : List ℕ) (d n : Sitting) (v : ℕ) → n ≡ anewOf d → Answered xs (store (d .table) rf ps rs) l d
-    → ((o : Office) → Stands (store (n .table) rf ps rs) l n o → Ended o b₀ (n .written) b v) → v ≤ length b₀ → Ran b
-ran xs rf ps rs l b₀ b d n v e a f h =
-    let g : (o : Office) → Stands (store (d .table) rf ps rs) l (anewOf d) o → Ended o b₀ 0 b v = rw e at f in
-    record {
-      read = xs;
-      store = store (d .table) rf ps rs;
-      line = l;
-      sitting = d;
-      answered = a;
-      room = b₀;
-      end = v;
-      ended = g;
-      short = h;
-      says = whole a b₀ b v g h;
-    }
+-- the input is over: `finish` wrote w bytes of the room, and `hand_over` gave them back
+pub ended-says : (xs rf : List ℕ) (ps : List ℤ) (rs l b₀ b said : List ℕ) (d n : Sitting) (w : ℕ) → n ≡ anewOf d
+    → ((o : Office) → Stands (store (n .table) rf ps rs) l n o → Ended o b₀ (n .written) b w) → w ≤ length b₀ → length b ≡ length b₀ → said ≡ take w b
+    → (a : Answered xs (store (d .table) rf ps rs) l d) → a .within .told ++ take (length said) b ≡ program xs
+ended-says xs rf ps rs l b₀ b said d n w e f h k q a =
+    let g : (o : Office) → Stands (store (d .table) rf ps rs) l (anewOf d) o → Ended o b₀ 0 b w = rw e at f in
+    let z : length said ≡ w = omega (arith, simp length-take at (ap length q)) in
+    rw z (whole a b₀ b w g h)

@@ -1,6 +1,6 @@
 -- [10.11] However the input is cut into chunks, and wherever the output room fills: what is handed to the writer, joined, is what the
 -- program says to the whole input. Assumes nothing.
-use Prim.Native.Nat.{ℕ, zero, _+_, _≤_}
+use Prim.Native.Nat.{ℕ, _+_, _≤_}
 use mathlib.Core.Path.{_≡_, refl, sym, ap, _∙_}
 use mathlib.Core.List.{List, [], _++_}
 use mathlib.Core.Bool.{Bool, true, false}
@@ -15,7 +15,7 @@ use Rattle.paper.specs.Program.{Office, fed, inputDone, officeStart, program}
 use Rattle.cut.proofs.Laws.{kept-none}
 use Rattle.serve.specs.declared.feeding.Sitting.{Sitting}
 use Rattle.serve.specs.Serving.{wrote, booksOf}
-use Rattle.serve.specs.Feeding.{Stands, Turning, Moved, Ended}
+use Rattle.serve.specs.Feeding.{Stands, Moved, Ended}
 use Rattle.serve.proofs.Moves.{fed-more, fed-stop}
 use Rattle.serve.proofs.Written.{wrote-front}
 use Rattle.stream.specs.Stream.{anewOf, emptiedOf}

@@ -1,5 +1,4 @@
--- [10.11] The office from its first byte to here, by steps that are what `feed`, `emptied`, `anew` and `finish` promise. Definitions
--- only.
+-- [10.11] The office from its first byte to here, by steps that are what `feed`, `emptied` and `anew` promise. Definitions only.
 use Prim.Native.Nat.{ℕ, _≤_}
 use mathlib.Core.Path.{_≡_}
 use mathlib.Core.Logic.{_⊎_}
@@ -9,7 +8,7 @@ use lib.IntN.{ℤ}
 use Rattle.paper.specs.Tree.{Store, store}
 use Rattle.paper.specs.Program.{Office, program}
 use Rattle.serve.specs.declared.feeding.Sitting.{Sitting}
-use Rattle.serve.specs.Feeding.{Stands, Turning, Moved, Ended}
+use Rattle.serve.specs.Feeding.{Stands, Turning, Moved}
 use Rattle.stream.specs.Stream.{anewOf, emptiedOf, sittingStart}
 use Rattle.paper.specs.Limits.{longestAnswer}
 
@@ -48,15 +47,12 @@ pub record Answered (xs : List ℕ) (s : Store) (l : List ℕ) (d : Sitting) : T
   pub within : Within xs chunk s l d
   pub used : Used chunk d
 
--- [10.9] the input is over, and the room b is as `finish` left it: what was handed to the writer is what the program says to what was read
+-- [10.9] [10.11] the input is over, and the front of the room b is what was handed over last: in all it is what the program says to what was read
 pub record Ran (b : List ℕ) : Type 0 where
   pub read : List ℕ
   pub store : Store
   pub line : List ℕ
   pub sitting : Sitting
   pub answered : Answered read store line sitting
-  pub room : List ℕ
-  pub end : ℕ
-  pub ended : (o : Office) → Stands store line (anewOf sitting) o → Ended o room 0 b end
-  pub short : end ≤ length room
-  pub says : answered .within .told ++ take end b ≡ program read
+  pub last : ℕ
+  pub says : answered .within .told ++ take last b ≡ program read

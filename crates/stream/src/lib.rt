@@ -17,6 +17,7 @@ ghost use mathlib.Core.Logic.{_⊎_};
 ghost use mathlib.Core.List.{List, _++_};
 ghost use lib.ListN.{length, take};
 ghost use Rattle.paper.specs.Tree.{lent};
+ghost use Rattle.paper.specs.Program.{program};
 ghost use Rattle.serve.specs.Feeding.{Set};
 ghost use Rattle.stream.specs.Stream.{anewOf, emptiedOf, sittingStart, Roomy};
 ghost use Rattle.stream.specs.Session.{Answered, Ran};
@@ -166,6 +167,25 @@ fn going(open: bool, turns: u64) -> bool
     false
 }
 
+// [10.9] [10.11] The input is over: hands over what the office then says, and gives how much that was.
+fn end_input(
+    d: Sitting,
+    references: &mut [u32],
+    coordinates: &mut [i32],
+    nodes: &mut [u64],
+    line: &[u8],
+    out: &mut [u8],
+) -> usize
+    requires { ⌜ Set (lent (d .table) references coordinates nodes) (now line) × (longestAnswer ≤ length (now out)) ⌝ }
+    ensures { λ r. ⌜ ((xs : List ℕ) → (a : Answered xs (lent (d .table) (references .entry) (coordinates .entry) (nodes .entry)) (now (line .entry)) d)
+        → a .within .told ++ take r (now (out .exit)) ≡ program xs) ⌝ }
+{
+    let f = anew(d);
+    let w = finish(f, references, coordinates, nodes, line, out);
+    let said = hand_over(out, w);
+    said.len()
+}
+
 // Reads to the end of the input. A proved loop has to end, and nothing says that an input does: a line of it may have
 // no end. So the loop counts its reads down, from a number that no run uses up.
 fn run(
@@ -188,9 +208,7 @@ fn run(
         open = is_open(t);
         turns -= 1;
     }
-    let f = anew(d);
-    let w = finish(f, references, coordinates, nodes, line, out);
-    hand_over(out, w);
+    end_input(d, references, coordinates, nodes, line, out);
 }
 
 // The program `office`, with memory of its own.

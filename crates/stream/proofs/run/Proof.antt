@@ -1,12 +1,10 @@
 -- `stream::run` meets its contract: at every read a session from the first byte stands in the memory. Assumes nothing.
-use Prim.Native.Nat.{_≤_}
 use mathlib.Core.Path.{_≡_, refl, _∙_}
 use native.Mathlib.Omega.{arith}
 use lib.ListN.{length}
-use Rattle.stream.proofs.ProgramLoops.{Running, running-start, ready-anew, ran}
+use Rattle.stream.proofs.ProgramLoops.{Running, running-start}
 use Rattle.stream.proofs.run.Statement.{statement}
 use Rattle.stream.proofs.run.Tie as tie
-use Rattle.paper.specs.Limits.{longestAnswer}
 
 abbrev Inv-loop : tie.InvT-loop
 Inv-loop references₀ coordinates₀ nodes₀ line₀ chunk₀ out₀ d₀ open₀ turns₀ references coordinates nodes line chunk out d «open» turns = Running references₀ coordinates₀ nodes₀ line₀ out₀ references coordinates nodes line out d × (length chunk ≡ length chunk₀)
@@ -59,49 +57,42 @@ loop-again c =
       k .1 .1 .1 .1 .0 ∙ c .before .before .before .before .before .before .before .before .before .before .before .before .before .before .before .before .before .before .before .before .before .before .loop .inv .1,
     )
 
-anew-requires : tie.Need-anew-requires Inv-loop μ-loop
-anew-requires c κs = tt
-
-finish-requires : tie.Need-finish-requires Inv-loop μ-loop
-finish-requires c κs =
-    let v = c .before .before .before .before .before .before .before .before .loop .inv .0 in
-    let h : longestAnswer ≤ length (c .before .before .before .before .before .before .before .before .loop .out) = omega (arith, v .out, c .before .before .before .before .before .before .before .before .before .before .before .before .before .before .before .pre .space) in
-    ready-anew _ _ _ _ (c .before .before .before .before .before .before .before .before .loop .d) _ _ (c .before .before .before .before .before .anew .ensures) (v .ready) h
-
-hand-over-requires : tie.Need-hand-over-requires Inv-loop μ-loop
-hand-over-requires c κs = omega (arith, c .before .before .before .before .before .before .before .before .finish .ensures .1, c .before .before .before .before .before .before .before .before .finish .kept .1 .1 .1 .1 .1 .0)
+end-input-requires : tie.Need-end-input-requires Inv-loop μ-loop
+end-input-requires c κs =
+    let v = c .before .before .before .before .before .before .before .loop .inv .0 in
+    (v .ready, omega (arith, v .out, c .before .before .before .before .before .before .before .before .before .before .before .before .before .before .pre .space))
 
 same-length : tie.Need-same-length Inv-loop μ-loop
 same-length c =
-    let k = c .before .before .before .before .before .before .before .before .before .finish .kept .1 .0 in
-    k ∙ c .before .before .before .before .before .before .before .before .before .before .before .before .before .before .before .before .before .before .loop .inv .0 .references
+    let k = c .before .before .before .before .before .before .before .end-input .kept .1 .0 in
+    k ∙ c .before .before .before .before .before .before .before .before .before .before .before .before .before .before .before .loop .inv .0 .references
 
 same-length-2 : tie.Need-same-length-2 Inv-loop μ-loop
 same-length-2 c =
-    let k = c .before .before .before .before .before .before .before .before .before .finish .kept .1 .1 .0 in
-    k ∙ c .before .before .before .before .before .before .before .before .before .before .before .before .before .before .before .before .before .before .loop .inv .0 .coordinates
+    let k = c .before .before .before .before .before .before .before .end-input .kept .1 .1 .0 in
+    k ∙ c .before .before .before .before .before .before .before .before .before .before .before .before .before .before .before .loop .inv .0 .coordinates
 
 same-length-3 : tie.Need-same-length-3 Inv-loop μ-loop
 same-length-3 c =
-    let k = c .before .before .before .before .before .before .before .before .before .finish .kept .1 .1 .1 .0 in
-    k ∙ c .before .before .before .before .before .before .before .before .before .before .before .before .before .before .before .before .before .before .loop .inv .0 .nodes
+    let k = c .before .before .before .before .before .before .before .end-input .kept .1 .1 .1 .0 in
+    k ∙ c .before .before .before .before .before .before .before .before .before .before .before .before .before .before .before .loop .inv .0 .nodes
 
 same-length-4 : tie.Need-same-length-4 Inv-loop μ-loop
-same-length-4 c = c .before .before .before .before .before .before .before .before .before .before .before .before .before .before .before .before .before .before .loop .inv .0 .line
+same-length-4 c = c .before .before .before .before .before .before .before .before .before .before .before .before .before .before .before .loop .inv .0 .line
 
 same-length-5 : tie.Need-same-length-5 Inv-loop μ-loop
-same-length-5 c = c .before .before .before .before .before .before .before .before .before .before .before .before .before .before .before .before .before .before .loop .inv .1
+same-length-5 c = c .before .before .before .before .before .before .before .before .before .before .before .before .before .before .before .loop .inv .1
 
 same-length-6 : tie.Need-same-length-6 Inv-loop μ-loop
 same-length-6 c =
-    let k = c .before .before .before .before .before .before .before .before .before .finish .kept .1 .1 .1 .1 .1 .0 in
-    k ∙ c .before .before .before .before .before .before .before .before .before .before .before .before .before .before .before .before .before .before .loop .inv .0 .out
+    let k = c .before .before .before .before .before .before .before .end-input .kept .1 .1 .1 .1 .1 .0 in
+    k ∙ c .before .before .before .before .before .before .before .before .before .before .before .before .before .before .before .loop .inv .0 .out
 
 returns : tie.Need-returns Inv-loop μ-loop
 returns c =
-    let l = c .before .before .before .before .before .before .before .before .before .before .before .before .before .before .before .before .before .before .loop in
-    let f = c .before .before .before .before .before .before .before .before .before .finish in
-    ran _ (l .references) (l .coordinates) (l .nodes) (l .line) (l .out) _ (l .d) _ _ (c .before .before .before .before .before .before .before .before .before .before .before .before .before .before .before .anew .ensures) (l .inv .0 .answered) (f .ensures .0) (f .ensures .1)
+    let v = c .before .before .before .before .before .before .before .before .before .before .before .before .before .before .before .loop .inv .0 in
+    let e = c .before .before .before .before .before .before .before .end-input in
+    record { read = v .read; store = _; line = _; sitting = _; answered = v .answered; last = e .result; says = e .ensures (v .read) (v .answered) }
 
 pub run-spec : {M : Type 1} → statement M
 run-spec =
@@ -117,9 +108,7 @@ run-spec =
     sub-turns
     loop-less
     loop-again
-    anew-requires
-    finish-requires
-    hand-over-requires
+    end-input-requires
     same-length
     same-length-2
     same-length-3
