@@ -120,8 +120,8 @@ fn once(
     ensures answered { λ r. ⌜ ((xs : List ℕ) → Answered xs (lent (d .table) (references .entry) (coordinates .entry) (nodes .entry)) (now (line .entry)) d
         → Answered (xs ++ take (r .got) (now (chunk .exit))) (lent (r .sitting .table) (references .exit) (coordinates .exit) (nodes .exit)) (now (line .exit)) (r .sitting)) ⌝ }
 {
-    let answer = libc::read(STDIN_FILENO, chunk);
-    let n = io::count(answer, chunk);
+    let result = libc::read(STDIN_FILENO, chunk);
+    let n = io::count(result, chunk);
     let after = pump(d, references, coordinates, nodes, line, &chunk[..n], out);
     Pause {
         sitting: after,
