@@ -25,6 +25,8 @@ use Rattle.journey.specs.World.{TableOk}
 use Rattle.journey.proofs.Kept.{ListTrue, after, Vouched, kept-are, is-fitting}
 use Rattle.paper.specs.Limits.{mostClaims, mostPage}
 
+-- ---- the present ask is in range
+
 -- what a sound list says of its present place
 record Parts (L : Listing) : Type 0 where
   small : L .snapshot ≤ mostClaims
@@ -62,6 +64,8 @@ present-ok room L ok e c = go (L .started) refl (parts room L e)
 
 pub asked-ok : (room n : ℕ) (L : Listing) → QueryInRange (L .query) → soundIn room L ≡ true → L .complete ≡ false → 1 ≤ n → n ≤ mostPage → AskInRange (presentAsk L n)
 asked-ok room n L ok e c one most = record { query = ok; place = present-ok room L ok e c; one = one; most = most }
+
+-- ---- the answer is in range, and vouched for
 
 -- what the office gives is in range, and vouched for
 after-are : (t : Table) (q : Query) (p : Place) (s : ℕ) → All (IsOf q (t .claims) s) (after t q p s)
@@ -115,6 +119,8 @@ pub answer-vouched : (t : Table) (a : Ask) → matches t (a .query) ≡ true →
 unfolding answerOf pageOf following
 answer-vouched t a ours held one = record { ours = ours; held = held; size = a .size; one = one; page = refl; flag = refl }
 
+-- ---- the ask is answered
+
 -- the mark of a list's ask holds
 module _ (t : Table) (L : Listing) (k : ListTrue t L) (c : L .complete ≡ false) where
   mark-holds : markHolds (L .query) (t .claims) (presentPlace L) ≡ true
@@ -147,6 +153,8 @@ module _ (t : Table) (L : Listing) (k : ListTrue t L) (c : L .complete ≡ false
   pub present-answered : (n : ℕ) → matches t (L .query) ≡ true → answerTo t (presentAsk L n) ≡ gives (answerOf t (presentAsk L n))
   unfolding answerTo snapshotHolds
   present-answered n ours = must-go _ _ _ ours ∙ must-go _ _ _ (le-leb _ _ present-held) ∙ must-go _ _ _ mark-holds
+
+-- ---- the answer is taken
 
 -- the answer passes 14
 page-holds : (t : Table) (a : Ask) → 1 ≤ a .size → pageHolds (answerOf t a) ≡ true

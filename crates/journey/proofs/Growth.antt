@@ -19,6 +19,8 @@ use Rattle.journey.proofs.Kept.{ListTrue, TableGrown, grown-listed, kep
 use Rattle.journey.proofs.Answers.{asked-ok, answer-ok, present-snapshot, present-held, present-answered, reply-taken}
 use Rattle.paper.specs.Limits.{longestAnswer, longestAsk, mostClaims, mostPage}
 
+-- ---- a list asks, is answered and grows
+
 -- a list that may ask this table for a page
 pub record MayAnswer (c : Codec) (t : Table) (L : Listing) (size : ℕ) : Type 0 where
   pub table : TableOk t
@@ -86,6 +88,8 @@ module _ (c : Codec) (law : Lawful c) (t : Table) (L : Listing) (size : ℕ) (r 
     pub joined-front : L .items ++ pageOf (L .query) (t .claims) (presentPlace L) size ≡ take (length (L .items) + size) (listed (L .query) (u .claims) at)
     unfolding pageOf following
     joined-front = rw same (longer t L at size on (r .one) .items)
+
+-- ---- handed on: the same of worlds
 
 -- what a call gave is before the air of before, or in its list's place
 sent-is : (w : World) (x : Outcome (List ℕ)) (s : List ℕ) → x ≡ gives s → sent w x .air ≡ s ∷ w .air

@@ -24,6 +24,8 @@ use Rattle.journey.proofs.Kept.{ListTrue, Vouched, kept-fresh, TableGro
 use Rattle.journey.proofs.Answers.{asked-ok, answer-ok, replied, answer-vouched}
 use Rattle.journey.proofs.Queries.{same-query}
 
+-- ---- a run is entered
+
 -- what entering gave
 record Entered (t : Table) (run : List Claim) (u : Table) : Type 0 where
   roomy : count t + length run ≤ t .capacity
@@ -50,6 +52,8 @@ entered-ok t run u e ok typed =
       small = ok .small;
       references = λ k m. ⊎-elim (λ a. ok .references k a) (λ a. typed k a) (List·Memᴰ·append-cases (t .claims) m);
     })
+
+-- ---- one event, and every reachable world
 
 -- what one event, or none, makes of a world
 record Onward (w v : World) : Type 0 where

@@ -21,6 +21,8 @@ use Rattle.orders.specs.LawfulLines.{QueryInRange}
 use Rattle.journey.specs.Promise.{allOf}
 use Rattle.paper.specs.Limits.{mostClaims}
 
+-- ---- a list that is true, and an answer that a table vouches for
+
 pub record ListTrue (t : Table) (L : Listing) : Type 0 where
   pub query : QueryInRange (L .query)
   pub unstarted : L .started ≡ false → L ≡ fresh (L .query)
@@ -55,6 +57,8 @@ kept-fresh t q ok =
       whole = λ p. absurd (no-way (sym p));
       going = λ p. absurd (no-way (sym p));
     }
+
+-- ---- a table grows, and both stay
 
 -- a table that only grew
 pub record TableGrown (t u : Table) : Type 0 where
@@ -114,6 +118,8 @@ module _ (t u : Table) (g : TableGrown t u) where
         flag = rw e (v .flag);
       }
 
+-- ---- a page joined to the list
+
 -- what follows that place is what the list lacks
 pub record Continues (t : Table) (L : Listing) (s : ℕ) : Type 0 where
   pub had : L .items ≡ take (length (L .items)) (listed (L .query) (t .claims) s)
@@ -168,6 +174,8 @@ kept-joined t L y k v c f =
       whole = λ z. rw pg (lo .whole (sym fl ∙ z));
       going = λ z q. rw pg (lo .some (sym fl ∙ q));
     }
+
+-- ---- handed on: a true list is sound
 
 -- the items of a list
 module _ (t : Table) (L : Listing) (k : ListTrue t L) where

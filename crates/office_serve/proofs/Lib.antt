@@ -3,4 +3,3 @@ pub mod ClaimServed
 pub mod AskServed
 pub mod OneLineServed
 pub mod Moves
-pub mod Session

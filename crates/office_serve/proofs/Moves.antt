@@ -47,22 +47,22 @@ rest-none (x ∷ xs) h = go (eqb x 10) (rest-none xs) h
     go true deep e = absurd (let z : _≡_ {A = ℕ} 0 1 = cc in omega arith)
     go false deep e = deep e
 
--- what the cut left, where it was asked at the sitting d
-module _ (d : Sitting) (s : Store) (l l' chunk : List ℕ) (p : Piece) (len : length l ≡ longestAnswer)
-    (ens : cutWith l' p ≡ cutOf (length l) l (d .size) (d .at) (drop (d .at) chunk)) where
-  meant : (h : List ℕ) → LineHeld longestAnswer l (d .size) h → Meant longestAnswer chunk h (d .at) (drop (d .at) chunk) (cutWith l' p)
-  meant h k = rw (ens, len) (cut-means longestAnswer chunk (drop (d .at) chunk) l (d .size) (d .at) h refl k)
+-- what the cut left, where it was asked at the sitting `sit`
+module _ (sit : Sitting) (s : Store) (l l' chunk : List ℕ) (p : Piece) (len : length l ≡ longestAnswer)
+    (ens : cutWith l' p ≡ cutOf (length l) l (sit .size) (sit .at) (drop (sit .at) chunk)) where
+  meant : (h : List ℕ) → LineHeld longestAnswer l (sit .size) h → Meant longestAnswer chunk h (sit .at) (drop (sit .at) chunk) (cutWith l' p)
+  meant h k = rw (ens, len) (cut-means longestAnswer chunk (drop (sit .at) chunk) l (sit .size) (sit .at) h refl k)
 
-  pub turn-on : d .at < length chunk → d .at < p .at
+  pub turn-on : sit .at < length chunk → sit .at < p .at
   turn-on h =
-      let q : p .at ≡ cutOf (length l) l (d .size) (d .at) (drop (d .at) chunk) .piece .at = ap (λ (x : CutLine). x .piece .at) ens in
-      omega (arith, cut-on (length l) l chunk (d .size) (d .at) h)
+      let q : p .at ≡ cutOf (length l) l (sit .size) (sit .at) (drop (sit .at) chunk) .piece .at = ap (λ (x : CutLine). x .piece .at) ens in
+      omega (arith, cut-on (length l) l chunk (sit .size) (sit .at) h)
 
-  pub moved-part : (o : OfficeState) → 0 < d .left → p .whole ≡ false → (out : List ℕ) → Stands s l d o
-      → Moved o chunk d out s l' (record { table = s .table; size = p .size; left = d .left; at = p .at; written = d .written }) out
+  pub moved-part : (o : OfficeState) → 0 < sit .left → p .whole ≡ false → (out : List ℕ) → Stands s l sit o
+      → Moved o chunk sit out s l' (record { table = s .table; size = p .size; left = sit .left; at = p .at; written = sit .written }) out
   unfolding fed
   moved-part o h w out st =
-      let xs : List ℕ = drop (d .at) chunk in
+      let xs : List ℕ = drop (sit .at) chunk in
       let m = meant (o .held) (st .line) in
       let unended : hasEnd xs ≡ false = sym (m .whole) ∙ w in
       let f = fed-line xs o (omega (arith, st .left)) in
@@ -72,20 +72,20 @@ module _ (d : Sitting) (s : Store) (l l' chunk : List ℕ) (p : Piece) (len : le
         same = rw (m .rest, rest-none xs unended) (sym (rw unended at f));
         more = [];
         printed = sym (append-nil (o .printed));
-        out = sym (wrote-none out (d .written));
+        out = sym (wrote-none out (sit .written));
         written = omega arith;
       }
 
-  pub moved-line : (o : OfficeState) → 0 < d .left → p .whole ≡ true → (out out' : List ℕ) (s' : Store) (e : ℕ)
-      → ((h : List ℕ) → LineHeld longestAnswer l' (p .size) h → Served (lineTurn (booksOf s) h) s' out (d .written) out' e) → length l' ≡ longestAnswer → Stands s l d o
-      → Moved o chunk d out s' l' (record { table = s' .table; size = 0; left = d .left - 1; at = p .at; written = e }) out'
+  pub moved-line : (o : OfficeState) → 0 < sit .left → p .whole ≡ true → (out out' : List ℕ) (s' : Store) (e : ℕ)
+      → ((h : List ℕ) → LineHeld longestAnswer l' (p .size) h → Served (lineTurn (booksOf s) h) s' out (sit .written) out' e) → length l' ≡ longestAnswer → Stands s l sit o
+      → Moved o chunk sit out s' l' (record { table = s' .table; size = 0; left = sit .left - 1; at = p .at; written = e }) out'
   unfolding lineDone
   moved-line o h w out out' s' e serves len' st =
-      let xs : List ℕ = drop (d .at) chunk in
+      let xs : List ℕ = drop (sit .at) chunk in
       let m = meant (o .held) (st .line) in
       let whole : hasEnd xs ≡ true = sym (m .whole) ∙ w in
       let f = fed-line xs o (omega (arith, st .left)) in
-      let v : Served (lineTurn (o .books) (o .held ++ lineIn xs)) s' out (d .written) out' e = rw (st .books) at (serves (o .held ++ lineIn xs) (m .kept)) in
+      let v : Served (lineTurn (o .books) (o .held ++ lineIn xs)) s' out (sit .written) out' e = rw (st .books) at (serves (o .held ++ lineIn xs) (m .kept)) in
       record {
         after = lineDone o (o .held ++ lineIn xs);
         stands = record { books = v .books; line = rw len' at (kept-none l'); left = omega (arith, st .left) };
@@ -98,13 +98,13 @@ module _ (d : Sitting) (s : Store) (l l' chunk : List ℕ) (p : Piece) (len : le
 
 -- ---- turns add up
 
-pub moved-none : (o : OfficeState) (chunk : List ℕ) (d : Sitting) (out : List ℕ) (s : Store) (l : List ℕ) → Stands s l d o → Moved o chunk d out s l d out
-moved-none o chunk d out s l st =
-    record { after = o; stands = st; same = refl; more = []; printed = sym (append-nil (o .printed)); out = sym (wrote-none out (d .written)); written = omega arith }
+pub moved-none : (o : OfficeState) (chunk : List ℕ) (sit : Sitting) (out : List ℕ) (s : Store) (l : List ℕ) → Stands s l sit o → Moved o chunk sit out s l sit out
+moved-none o chunk sit out s l st =
+    record { after = o; stands = st; same = refl; more = []; printed = sym (append-nil (o .printed)); out = sym (wrote-none out (sit .written)); written = omega arith }
 
-pub moved-more : (o : OfficeState) (chunk : List ℕ) (d₀ d₁ d₂ : Sitting) (out₀ out₁ out₂ : List ℕ) (s₁ s₂ : Store) (l₁ l₂ : List ℕ)
-    → Moved o chunk d₀ out₀ s₁ l₁ d₁ out₁ → ((x : OfficeState) → Stands s₁ l₁ d₁ x → Moved x chunk d₁ out₁ s₂ l₂ d₂ out₂) → Moved o chunk d₀ out₀ s₂ l₂ d₂ out₂
-moved-more o chunk d₀ d₁ d₂ out₀ out₁ out₂ s₁ s₂ l₁ l₂ m f =
+pub moved-more : (o : OfficeState) (chunk : List ℕ) (sit₀ sit₁ sit₂ : Sitting) (out₀ out₁ out₂ : List ℕ) (s₁ s₂ : Store) (l₁ l₂ : List ℕ)
+    → Moved o chunk sit₀ out₀ s₁ l₁ sit₁ out₁ → ((x : OfficeState) → Stands s₁ l₁ sit₁ x → Moved x chunk sit₁ out₁ s₂ l₂ sit₂ out₂) → Moved o chunk sit₀ out₀ s₂ l₂ sit₂ out₂
+moved-more o chunk sit₀ sit₁ sit₂ out₀ out₁ out₂ s₁ s₂ l₁ l₂ m f =
     let n = f (m .after) (m .stands) in
     let len = length-append (m .more) (n .more) in
     record {
@@ -113,7 +113,7 @@ moved-more o chunk d₀ d₁ d₂ out₀ out₁ out₂ s₁ s₂ l₁ l₂ m f =
       same = n .same ∙ m .same;
       more = m .more ++ n .more;
       printed = n .printed ∙ ap (λ (x : List ℕ). x ++ n .more) (m .printed) ∙ append-assoc (o .printed) (m .more) (n .more);
-      out = n .out ∙ rw (m .out, m .written) (wrote-more out₀ (d₀ .written) (m .more) (n .more));
+      out = n .out ∙ rw (m .out, m .written) (wrote-more out₀ (sit₀ .written) (m .more) (n .more));
       written = omega (arith, m .written, n .written, len);
     }
 
@@ -121,22 +121,22 @@ pub never : (X : Type 0) → _≡_ {A = Bool} false true → X
 never X e = absurd (let z : _≡_ {A = ℕ} 0 1 = cc in omega arith)
 
 -- what holds at each turn of `feed`
-pub record FeedGoing (chunk rf₀ : List ℕ) (ps₀ : List ℤ) (rs₀ l₀ out₀ : List ℕ) (d₀ : Sitting) (rf : List ℕ) (ps : List ℤ) (rs l b : List ℕ) (d : Sitting) : Type 0 where
-  pub moved : (o : OfficeState) → Stands (store (d₀ .table) rf₀ ps₀ rs₀) l₀ d₀ o → Moved o chunk d₀ out₀ (store (d .table) rf ps rs) l d b
-  pub ready : Set (store (d .table) rf ps rs) l
-  pub went : (d ≡ d₀) ⊎ (d₀ .at < d .at)
-  pub short : d .written ≤ length out₀
+pub record FeedGoing (chunk rf₀ : List ℕ) (ps₀ : List ℤ) (rs₀ l₀ out₀ : List ℕ) (sit₀ : Sitting) (rf : List ℕ) (ps : List ℤ) (rs l b : List ℕ) (sit : Sitting) : Type 0 where
+  pub moved : (o : OfficeState) → Stands (store (sit₀ .table) rf₀ ps₀ rs₀) l₀ sit₀ o → Moved o chunk sit₀ out₀ (store (sit .table) rf ps rs) l sit b
+  pub ready : Set (store (sit .table) rf ps rs) l
+  pub went : (sit ≡ sit₀) ⊎ (sit₀ .at < sit .at)
+  pub short : sit .written ≤ length out₀
   pub references : length rf ≡ length rf₀
   pub coordinates : length ps ≡ length ps₀
   pub nodes : length rs ≡ length rs₀
   pub line : length l ≡ length l₀
   pub out : length b ≡ length out₀
 
-pub going-start : (chunk rf : List ℕ) (ps : List ℤ) (rs l out : List ℕ) (d : Sitting) → Set (store (d .table) rf ps rs) l → d .written ≤ length out
-    → FeedGoing chunk rf ps rs l out d rf ps rs l out d
-going-start chunk rf ps rs l out d r h =
+pub going-start : (chunk rf : List ℕ) (ps : List ℤ) (rs l out : List ℕ) (sit : Sitting) → Set (store (sit .table) rf ps rs) l → sit .written ≤ length out
+    → FeedGoing chunk rf ps rs l out sit rf ps rs l out sit
+going-start chunk rf ps rs l out sit r h =
     record {
-      moved = λ o st. moved-none o chunk d out (store (d .table) rf ps rs) l st;
+      moved = λ o st. moved-none o chunk sit out (store (sit .table) rf ps rs) l st;
       ready = r;
       went = inl refl;
       short = h;
@@ -147,12 +147,16 @@ going-start chunk rf ps rs l out d r h =
       out = refl;
     }
 
--- the loop is left: something was read if it could be
-pub going-on : (chunk out : ℕ) (d₀ d : Sitting) → (d ≡ d₀) ⊎ (d₀ .at < d .at) → (Turning d chunk out → ⊥) → Turning d₀ chunk out → d₀ .at < d .at
-going-on chunk out d₀ d w stop t = ⊎-elim (λ e. absurd (stop (rw e t))) (λ h. h) w
+-- the loop is left: it could not go on
+pub stopped : (chunk b out : ℕ) (sit : Sitting) (r : Bool) → r ≡ false → b ≡ out → (Turning sit chunk b → r ≡ true) → Turning sit chunk out → ⊥
+stopped chunk b out sit r e q f t = never ⊥ (sym e ∙ f (rw q t))
 
-pub still-later : (d₀ d : Sitting) (at : ℕ) → (d ≡ d₀) ⊎ (d₀ .at < d .at) → d .at < at → d₀ .at < at
-still-later d₀ d at w h = ⊎-elim (λ e. rw (← e) h) (λ g. omega arith) w
+-- and something was read if it could be
+pub going-on : (chunk out : ℕ) (sit₀ sit : Sitting) → (sit ≡ sit₀) ⊎ (sit₀ .at < sit .at) → (Turning sit chunk out → ⊥) → Turning sit₀ chunk out → sit₀ .at < sit .at
+going-on chunk out sit₀ sit w stop t = ⊎-elim (λ e. absurd (stop (rw e t))) (λ h. h) w
+
+pub still-later : (sit₀ sit : Sitting) (at : ℕ) → (sit ≡ sit₀) ⊎ (sit₀ .at < sit .at) → sit .at < at → sit₀ .at < at
+still-later sit₀ sit at w h = ⊎-elim (λ e. rw (← e) h) (λ g. omega arith) w
 
 -- ---- the end of the input
 
@@ -185,18 +189,18 @@ ended-none : (o : OfficeState) (out : List ℕ) (w : ℕ) → inputDone o ≡ o 
 ended-none o out w e =
     record { more = []; printed = rw e (sym (append-nil (o .printed))); out = sym (wrote-none out w); written = omega arith }
 
-module _ (s : Store) (l : List ℕ) (d : Sitting) (o : OfficeState) (st : Stands s l d o) (out : List ℕ) where
-  pub ended-left : d .left < 1 → Ended o out (d .written) out (d .written)
-  ended-left h = ended-none o out (d .written) (over-stop o (omega (arith, st .left)))
+module _ (s : Store) (l : List ℕ) (sit : Sitting) (o : OfficeState) (st : Stands s l sit o) (out : List ℕ) where
+  pub ended-left : sit .left < 1 → Ended o out (sit .written) out (sit .written)
+  ended-left h = ended-none o out (sit .written) (over-stop o (omega (arith, st .left)))
 
-  pub ended-size : d .size < 1 → Ended o out (d .written) out (d .written)
-  ended-size h = ended-none o out (d .written) (over-none o (no-bytes (o .held) (omega (arith, st .line .size))))
+  pub ended-size : sit .size < 1 → Ended o out (sit .written) out (sit .written)
+  ended-size h = ended-none o out (sit .written) (over-none o (no-bytes (o .held) (omega (arith, st .line .size))))
 
-  pub ended-line : 1 ≤ d .left → 1 ≤ d .size → (s' : Store) (out' : List ℕ) (e : ℕ)
-      → ((h : List ℕ) → LineHeld longestAnswer l (d .size) h → Served (lineTurn (booksOf s) h) s' out (d .written) out' e) → Ended o out (d .written) out' e
+  pub ended-line : 1 ≤ sit .left → 1 ≤ sit .size → (s' : Store) (out' : List ℕ) (e : ℕ)
+      → ((h : List ℕ) → LineHeld longestAnswer l (sit .size) h → Served (lineTurn (booksOf s) h) s' out (sit .written) out' e) → Ended o out (sit .written) out' e
   unfolding lineDone
   ended-line hl hs s' out' e serves =
-      let v : Served (lineTurn (o .books) (o .held)) s' out (d .written) out' e = rw (st .books) at (serves (o .held) (st .line)) in
+      let v : Served (lineTurn (o .books) (o .held)) s' out (sit .written) out' e = rw (st .books) at (serves (o .held) (st .line)) in
       let ov = over-some o (omega (arith, st .left)) (omega (arith, st .line .size)) in
       record { more = lineTurn (o .books) (o .held) .printed; printed = ap (λ (x : OfficeState). x .printed) ov; out = v .printed .out; written = v .printed .end }
 

@@ -23,7 +23,7 @@ pub struct Sitting {
 
 // Reads on to the end of a line, which is served, or of the chunk.
 fn turn(
-    d: Sitting,
+    sit: Sitting,
     references: &mut [u32],
     coordinates: &mut [i32],
     nodes: &mut [u64],
@@ -31,21 +31,21 @@ fn turn(
     chunk: &[u8],
     out: &mut [u8],
 ) -> Sitting
-    requires { ⌜ Set (lent (d .table) references coordinates nodes) (now line) × Turning d (length (now chunk)) (length (now out)) ⌝ }
-    ensures moved { λ r. ⌜ ((o : OfficeState) → Stands (lent (d .table) (references .entry) (coordinates .entry) (nodes .entry)) (now (line .entry)) d o → Moved o (now (chunk .entry)) d (now (out .entry)) (lent (r .table) (references .exit) (coordinates .exit) (nodes .exit)) (now (line .exit)) r (now (out .exit))) ⌝ }
+    requires { ⌜ Set (lent (sit .table) references coordinates nodes) (now line) × Turning sit (length (now chunk)) (length (now out)) ⌝ }
+    ensures moved { λ r. ⌜ ((o : OfficeState) → Stands (lent (sit .table) (references .entry) (coordinates .entry) (nodes .entry)) (now (line .entry)) sit o → Moved o (now (chunk .entry)) sit (now (out .entry)) (lent (r .table) (references .exit) (coordinates .exit) (nodes .exit)) (now (line .exit)) r (now (out .exit))) ⌝ }
     ensures ready { λ r. ⌜ Set (lent (r .table) (references .exit) (coordinates .exit) (nodes .exit)) (now (line .exit)) ⌝ }
-    ensures on { λ r. ⌜ (d .at < r .at) × (r .written ≤ length (now (out .entry))) ⌝ }
+    ensures on { λ r. ⌜ (sit .at < r .at) × (r .written ≤ length (now (out .entry))) ⌝ }
 {
-    let t = d.table;
-    let size = d.size;
-    let at = d.at;
-    let w = d.written;
+    let t = sit.table;
+    let size = sit.size;
+    let at = sit.at;
+    let w = sit.written;
     let c = office_cut::cut(line, size, chunk, at);
     if !c.whole {
         return Sitting {
             table: t,
             size: c.size,
-            left: d.left,
+            left: sit.left,
             at: c.at,
             written: w,
         };
@@ -55,31 +55,31 @@ fn turn(
     Sitting {
         table: after,
         size: 0,
-        left: d.left - 1,
+        left: sit.left - 1,
         at: c.at,
         written: s.at,
     }
 }
 
 // [10.10] Whether there is a byte to read, a line left and room to write.
-fn goes_on(d: Sitting, chunk: usize, out: usize) -> bool
-    ensures { λ r. ⌜ (r ≡ true → Turning d chunk out) × (Turning d chunk out → r ≡ true) ⌝ }
+fn goes_on(sit: Sitting, chunk: usize, out: usize) -> bool
+    ensures { λ r. ⌜ (r ≡ true → Turning sit chunk out) × (Turning sit chunk out → r ≡ true) ⌝ }
 {
-    if chunk <= d.at {
+    if chunk <= sit.at {
         return false;
     }
-    if d.left < 1 {
+    if sit.left < 1 {
         return false;
     }
     if out < LONGEST_ANSWER {
         return false;
     }
-    d.written <= out - LONGEST_ANSWER
+    sit.written <= out - LONGEST_ANSWER
 }
 
 // [10.11] Reads on while there is room to write: to the end of the chunk, or of what may be read.
 pub fn feed(
-    d: Sitting,
+    sit: Sitting,
     references: &mut [u32],
     coordinates: &mut [i32],
     nodes: &mut [u64],
@@ -87,13 +87,14 @@ pub fn feed(
     chunk: &[u8],
     out: &mut [u8],
 ) -> Sitting
-    requires { ⌜ Set (lent (d .table) references coordinates nodes) (now line) × (d .written ≤ length (now out)) ⌝ }
-    ensures moved { λ r. ⌜ ((o : OfficeState) → Stands (lent (d .table) (references .entry) (coordinates .entry) (nodes .entry)) (now (line .entry)) d o → Moved o (now (chunk .entry)) d (now (out .entry)) (lent (r .table) (references .exit) (coordinates .exit) (nodes .exit)) (now (line .exit)) r (now (out .exit))) ⌝ }
+    requires { ⌜ Set (lent (sit .table) references coordinates nodes) (now line) × (sit .written ≤ length (now out)) ⌝ }
+    ensures moved { λ r. ⌜ ((o : OfficeState) → Stands (lent (sit .table) (references .entry) (coordinates .entry) (nodes .entry)) (now (line .entry)) sit o → Moved o (now (chunk .entry)) sit (now (out .entry)) (lent (r .table) (references .exit) (coordinates .exit) (nodes .exit)) (now (line .exit)) r (now (out .exit))) ⌝ }
     ensures ready { λ r. ⌜ Set (lent (r .table) (references .exit) (coordinates .exit) (nodes .exit)) (now (line .exit)) ⌝ }
-    ensures on { λ r. ⌜ (Turning d (length (now (chunk .entry))) (length (now (out .entry))) → d .at < r .at) ⌝ }
+    ensures on { λ r. ⌜ (Turning sit (length (now (chunk .entry))) (length (now (out .entry))) → sit .at < r .at) ⌝ }
     ensures short { λ r. ⌜ r .written ≤ length (now (out .entry)) ⌝ }
+    ensures stops { λ r. ⌜ (Turning r (length (now (chunk .entry))) (length (now (out .entry))) → ⊥) ⌝ }
 {
-    let mut n = d;
+    let mut n = sit;
     while goes_on(n, chunk.len(), out.len()) {
         n = turn(n, references, coordinates, nodes, line, chunk, out);
     }
@@ -102,25 +103,25 @@ pub fn feed(
 
 // [10.9] The input is over: serves the line that has no end, if there is one, and gives how much of the room is then written.
 pub fn finish(
-    d: Sitting,
+    sit: Sitting,
     references: &mut [u32],
     coordinates: &mut [i32],
     nodes: &mut [u64],
     line: &[u8],
     out: &mut [u8],
 ) -> usize
-    requires { ⌜ Set (lent (d .table) references coordinates nodes) (now line) × (d .written + longestAnswer ≤ length (now out)) ⌝ }
-    ensures done { λ r. ⌜ ((o : OfficeState) → Stands (lent (d .table) (references .entry) (coordinates .entry) (nodes .entry)) (now (line .entry)) d o → Ended o (now (out .entry)) (d .written) (now (out .exit)) r) ⌝ }
+    requires { ⌜ Set (lent (sit .table) references coordinates nodes) (now line) × (sit .written + longestAnswer ≤ length (now out)) ⌝ }
+    ensures done { λ r. ⌜ ((o : OfficeState) → Stands (lent (sit .table) (references .entry) (coordinates .entry) (nodes .entry)) (now (line .entry)) sit o → Ended o (now (out .entry)) (sit .written) (now (out .exit)) r) ⌝ }
     ensures short { λ r. ⌜ r ≤ length (now (out .entry)) ⌝ }
 {
-    let t = d.table;
-    let w = d.written;
-    if d.left < 1 {
+    let t = sit.table;
+    let w = sit.written;
+    if sit.left < 1 {
         return w;
     }
-    if d.size < 1 {
+    if sit.size < 1 {
         return w;
     }
-    let s = serve_cut(t, references, coordinates, nodes, line, d.size, out, w);
+    let s = serve_cut(t, references, coordinates, nodes, line, sit.size, out, w);
     s.at
 }

@@ -1,48 +1,42 @@
 -- Laws of the program's loops. Assumes nothing.
 use Prim.Native.Nat.{ℕ, _+_, _<_, _≤_}
-use mathlib.Core.Path.{_≡_, refl, sym, ap, _∙_}
+use mathlib.Core.Path.{_≡_, refl, ap, _∙_}
 use mathlib.Core.List.{List, [], _++_}
-use mathlib.Core.Logic.{_⊎_, ⊎-elim}
+use mathlib.Core.Logic.{inl}
 use native.Mathlib.Omega.{arith}
 use lib.Dec.{lit≤}
 use lib.IntN.{ℤ}
-use lib.ListN.{length, drop, drop-of-length-le}
-use Rattle.paper.specs.Tree.{Store, store, built}
-use Rattle.paper.specs.Program.{OfficeState, fed, officeStart}
+use lib.ListN.{length, take, length-take}
+use Rattle.paper.specs.Tree.{store, built}
+use Rattle.paper.specs.Program.{OfficeState, program}
 use Rattle.tree.specs.BuiltNodes.{IsBuilt}
-use Rattle.office_cut.proofs.Laws.{kept-none}
 use Rattle.office_serve.specs.declared.feeding.Sitting.{Sitting}
-use Rattle.office_serve.specs.Serving.{booksOf, Ready}
-use Rattle.office_serve.specs.Feeding.{Set, Stands, Turning, Moved}
-use Rattle.office_serve.proofs.Moves.{fed-more, fed-stop}
-use Rattle.office_stream.specs.Stream.{anewOf, emptiedOf, sittingStart, Reached, ProgramMemory}
+use Rattle.office_serve.specs.Serving.{Ready}
+use Rattle.office_serve.specs.Feeding.{Set, Stands, Turning, Ended}
+use Rattle.office_stream.specs.Stream.{anewOf, emptiedOf, sittingStart, ProgramMemory}
+use Rattle.office_stream.specs.Session.{Fed, handed, begun, next, feeds, InChunk, BetweenReads}
+use Rattle.office_stream.proofs.WholeInput.{whole}
 use Rattle.paper.specs.Limits.{longestAnswer, officeClaims, officeCoordinates, officeNodes}
 
 -- ---- a chunk
 
--- the office `here` at the sitting d still reads from the chunk what the office o would read of the whole
-pub record Reading (o : OfficeState) (chunk : List ℕ) (s : Store) (l : List ℕ) (d : Sitting) : Type 0 where
-  pub here : OfficeState
-  pub stands : Stands s l d here
-  pub same : fed here (drop (d .at) chunk) ≡ fed o chunk
-
 -- what holds at each turn of `pump`
-pub record Pumping (chunk rf₀ : List ℕ) (ps₀ : List ℤ) (rs₀ l₀ out₀ : List ℕ) (d₀ : Sitting) (rf : List ℕ) (ps : List ℤ) (rs l b : List ℕ) (d : Sitting) : Type 0 where
-  pub reading : (o : OfficeState) → Stands (store (d₀ .table) rf₀ ps₀ rs₀) l₀ d₀ o → Reading o chunk (store (d .table) rf ps rs) l d
-  pub ready : Set (store (d .table) rf ps rs) l
-  pub written : d .written ≡ 0
+pub record Pumping (chunk rf₀ : List ℕ) (ps₀ : List ℤ) (rs₀ l₀ out₀ : List ℕ) (sit₀ : Sitting) (rf : List ℕ) (ps : List ℤ) (rs l b : List ℕ) (sit : Sitting) : Type 0 where
+  pub within : (xs : List ℕ) → InChunk xs chunk (store (sit₀ .table) rf₀ ps₀ rs₀) l₀ sit₀ → InChunk xs chunk (store (sit .table) rf ps rs) l sit
+  pub ready : Set (store (sit .table) rf ps rs) l
+  pub written : sit .written ≡ 0
   pub references : length rf ≡ length rf₀
   pub coordinates : length ps ≡ length ps₀
   pub nodes : length rs ≡ length rs₀
   pub line : length l ≡ length l₀
   pub out : length b ≡ length out₀
 
-pub pumping-start : (chunk rf : List ℕ) (ps : List ℤ) (rs l out : List ℕ) (d n : Sitting) → n ≡ anewOf d → Set (store (d .table) rf ps rs) l
+pub pumping-start : (chunk rf : List ℕ) (ps : List ℤ) (rs l out : List ℕ) (sit n : Sitting) → n ≡ anewOf sit → Set (store (sit .table) rf ps rs) l
     → Pumping chunk rf ps rs l out n rf ps rs l out n
-pumping-start chunk rf ps rs l out d n e r =
+pumping-start chunk rf ps rs l out sit n e r =
     rw e
     (record {
-      reading = λ o st. record { here = o; stands = st; same = refl };
+      within = λ xs w. w;
       ready = r;
       written = refl;
       references = refl;
@@ -52,35 +46,25 @@ pumping-start chunk rf ps rs l out d n e r =
       out = refl;
     })
 
-pub stands-anew : (rf : List ℕ) (ps : List ℤ) (rs l : List ℕ) (d n : Sitting) (o : OfficeState) → n ≡ anewOf d
-    → Stands (store (d .table) rf ps rs) l d o → Stands (store (n .table) rf ps rs) l n o
-stands-anew rf ps rs l d n o e st = rw e (record { books = st .books; line = st .line; left = st .left })
+-- a chunk is begun
+pub within-start : (xs chunk rf : List ℕ) (ps : List ℤ) (rs l : List ℕ) (sit n : Sitting) → n ≡ anewOf sit → BetweenReads xs (store (sit .table) rf ps rs) l sit
+    → InChunk (xs ++ chunk) chunk (store (n .table) rf ps rs) l n
+within-start xs chunk rf ps rs l sit n e a = rw e (record { handedOver = a .within .handedOver; session = next chunk (a .within .session) (a .used) })
 
-pub pump-turning : (d : Sitting) (chunk out : ℕ) → (d .at < chunk) × (0 < d .left) → d .written ≡ 0 → longestAnswer ≤ out → Turning d chunk out
-pump-turning d chunk out h w r = record { unread = h .0; left = h .1; room = omega (arith, w) }
+pub pump-turning : (sit : Sitting) (chunk out : ℕ) → (sit .at < chunk) × (0 < sit .left) → sit .written ≡ 0 → longestAnswer ≤ out → Turning sit chunk out
+pump-turning sit chunk out h w r = record { unread = h .0; left = h .1; room = omega (arith, w) }
 
--- the office went on by a turn
-reading-more : (o : OfficeState) (chunk : List ℕ) (s s' : Store) (l l' out out' : List ℕ) (d d' : Sitting)
-    → Reading o chunk s l d → ((x : OfficeState) → Stands s l d x → Moved x chunk d out s' l' d' out') → Reading o chunk s' l' (emptiedOf d')
-reading-more o chunk s s' l l' out out' d d' r f =
-    let m = f (r .here) (r .stands) in
-    record {
-      here = m .after;
-      stands = record { books = m .stands .books; line = m .stands .line; left = m .stands .left };
-      same = m .same ∙ r .same;
-    }
-
-pub pumping-more : (chunk rf₀ : List ℕ) (ps₀ : List ℤ) (rs₀ l₀ out₀ : List ℕ) (d₀ : Sitting) (rf : List ℕ) (ps : List ℤ) (rs l b : List ℕ) (d : Sitting)
+pub pumping-more : (chunk rf₀ : List ℕ) (ps₀ : List ℤ) (rs₀ l₀ out₀ : List ℕ) (sit₀ : Sitting) (rf : List ℕ) (ps : List ℤ) (rs l b : List ℕ) (sit : Sitting)
     (rf' : List ℕ) (ps' : List ℤ) (rs' l' b' : List ℕ) (r n : Sitting)
-    → Pumping chunk rf₀ ps₀ rs₀ l₀ out₀ d₀ rf ps rs l b d
-    → ((x : OfficeState) → Stands (store (d .table) rf ps rs) l d x → Moved x chunk d b (store (r .table) rf' ps' rs') l' r b')
+    → Pumping chunk rf₀ ps₀ rs₀ l₀ out₀ sit₀ rf ps rs l b sit
+    → Fed chunk (store (sit .table) rf ps rs) l sit b (store (r .table) rf' ps' rs') l' r b'
     → Set (store (r .table) rf' ps' rs') l' → n ≡ emptiedOf r
     → length rf' ≡ length rf → length ps' ≡ length ps → length rs' ≡ length rs → length l' ≡ length l → length b' ≡ length b
-    → Pumping chunk rf₀ ps₀ rs₀ l₀ out₀ d₀ rf' ps' rs' l' b' n
-pumping-more chunk rf₀ ps₀ rs₀ l₀ out₀ d₀ rf ps rs l b d rf' ps' rs' l' b' r n v m ready e k1 k2 k3 k4 k5 =
+    → Pumping chunk rf₀ ps₀ rs₀ l₀ out₀ sit₀ rf' ps' rs' l' b' n
+pumping-more chunk rf₀ ps₀ rs₀ l₀ out₀ sit₀ rf ps rs l b sit rf' ps' rs' l' b' r n v f ready e k1 k2 k3 k4 k5 =
     rw e
     (record {
-      reading = λ o st. reading-more o chunk (store (d .table) rf ps rs) (store (r .table) rf' ps' rs') l l' b b' d r (v .reading o st) m;
+      within = λ xs w. let x = v .within xs w in record { handedOver = x .handedOver ++ handed r b'; session = feeds (x .session) f };
       ready = ready;
       written = refl;
       references = k1 ∙ v .references;
@@ -89,17 +73,6 @@ pumping-more chunk rf₀ ps₀ rs₀ l₀ out₀ d₀ rf ps rs l b d rf' ps' rs'
       line = k4 ∙ v .line;
       out = k5 ∙ v .out;
     })
-
-pub reading-done : (o : OfficeState) (chunk : List ℕ) (s : Store) (l : List ℕ) (d : Sitting) → Reading o chunk s l d → (length chunk ≤ d .at) ⊎ (d .left ≡ 0)
-    → Stands s l d (fed o chunk)
-unfolding fed
-reading-done o chunk s l d r w =
-    let e : r .here ≡ fed o chunk =
-    ⊎-elim
-    (λ h. sym (ap (λ (x : List ℕ). fed (r .here) x) (drop-of-length-le chunk {i = d .at} h)) ∙ r .same)
-    (λ z. sym (fed-stop (drop (d .at) chunk) (r .here) (sym (r .stands .left) ∙ z)) ∙ r .same)
-    w in
-    rw (← e) (r .stands)
 
 -- ---- the whole input
 
@@ -123,23 +96,24 @@ opened-ready rf ps rs a b c =
     }
 
 -- what holds at each turn of `run`
-pub record Running (rf₀ : List ℕ) (ps₀ : List ℤ) (rs₀ l₀ out₀ rf : List ℕ) (ps : List ℤ) (rs l b : List ℕ) (d : Sitting) : Type 0 where
-  pub ready : Set (store (d .table) rf ps rs) l
-  pub reached : Reached officeStart (store (d .table) rf ps rs) l d
+pub record Running (rf₀ : List ℕ) (ps₀ : List ℤ) (rs₀ l₀ out₀ rf : List ℕ) (ps : List ℤ) (rs l b : List ℕ) (sit : Sitting) : Type 0 where
+  pub ready : Set (store (sit .table) rf ps rs) l
+  pub read : List ℕ
+  pub answered : BetweenReads read (store (sit .table) rf ps rs) l sit
   pub references : length rf ≡ length rf₀
   pub coordinates : length ps ≡ length ps₀
   pub nodes : length rs ≡ length rs₀
   pub line : length l ≡ length l₀
   pub out : length b ≡ length out₀
 
-pub running-start : (rf : List ℕ) (ps : List ℤ) (rs l out : List ℕ) (d : Sitting) → d ≡ sittingStart
-    → ProgramMemory (length rf) (length ps) (length rs) (length l) (length out) → Running rf ps rs l out rf ps rs l out d
-unfolding fed officeStart booksOf
-running-start rf ps rs l out d e h =
+pub running-start : (rf : List ℕ) (ps : List ℤ) (rs l out : List ℕ) (sit : Sitting) → sit ≡ sittingStart
+    → ProgramMemory (length rf) (length ps) (length rs) (length l) (length out) → Running rf ps rs l out rf ps rs l out sit
+running-start rf ps rs l out sit e h =
     rw e
     (record {
       ready = record { ready = opened-ready rf ps rs (h .refs) (h .wide) (h .noded); line = h .longest };
-      reached = record { bytes = []; stands = record { books = refl; line = rw (h .longest) at (kept-none l); left = refl } };
+      read = [];
+      answered = record { chunk = []; within = record { handedOver = []; session = begun rf ps rs l (h .longest) }; used = inl (lit≤ tt) };
       references = refl;
       coordinates = refl;
       nodes = refl;
@@ -147,16 +121,15 @@ running-start rf ps rs l out d e h =
       out = refl;
     })
 
-pub reached-more : (o : OfficeState) (s s' : Store) (l l' : List ℕ) (d d' : Sitting) → Reached o s l d → ((x : OfficeState) → Stands s l d x → Reached x s' l' d')
-    → Reached o s' l' d'
-reached-more o s s' l l' d d' r f =
-    let n = f (fed o (r .bytes)) (r .stands) in
-    record { bytes = r .bytes ++ n .bytes; stands = rw (fed-more (r .bytes) (n .bytes) o) (n .stands) }
-
-pub reached-none : (o : OfficeState) (s : Store) (l : List ℕ) (d : Sitting) → Stands s l d o → Reached o s l d
-unfolding fed
-reached-none o s l d st = record { bytes = []; stands = st }
-
-pub ready-anew : (rf : List ℕ) (ps : List ℤ) (rs l : List ℕ) (d n : Sitting) (out : ℕ) → n ≡ anewOf d → Set (store (d .table) rf ps rs) l → longestAnswer ≤ out
+pub ready-anew : (rf : List ℕ) (ps : List ℤ) (rs l : List ℕ) (sit n : Sitting) (out : ℕ) → n ≡ anewOf sit → Set (store (sit .table) rf ps rs) l → longestAnswer ≤ out
     → Set (store (n .table) rf ps rs) l × (n .written + longestAnswer ≤ out)
-ready-anew rf ps rs l d n out e r h = rw e (r, h)
+ready-anew rf ps rs l sit n out e r h = rw e (r, h)
+
+-- the input is over: `finish` wrote w bytes of the room, and `hand_over` gave them back
+pub ended-says : (xs rf : List ℕ) (ps : List ℤ) (rs l b₀ b printed : List ℕ) (sit n : Sitting) (w : ℕ) → n ≡ anewOf sit
+    → ((o : OfficeState) → Stands (store (n .table) rf ps rs) l n o → Ended o b₀ (n .written) b w) → w ≤ length b₀ → length b ≡ length b₀ → printed ≡ take w b
+    → (a : BetweenReads xs (store (sit .table) rf ps rs) l sit) → a .within .handedOver ++ take (length printed) b ≡ program xs
+ended-says xs rf ps rs l b₀ b printed sit n w e f h k q a =
+    let g : (o : OfficeState) → Stands (store (sit .table) rf ps rs) l (anewOf sit) o → Ended o b₀ 0 b w = rw e at f in
+    let z : length printed ≡ w = omega (arith, simp length-take at (ap length q)) in
+    rw z (whole a b₀ b w g h)

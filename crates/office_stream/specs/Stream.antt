@@ -1,18 +1,14 @@
 -- The office between chunks. Definitions only.
 use Prim.Native.Nat.{ℕ, _≤_}
 use mathlib.Core.Path.{_≡_}
-use mathlib.Core.List.{List}
-use Rattle.paper.specs.Tree.{Store}
-use Rattle.paper.specs.Program.{OfficeState, fed}
 use Rattle.office_serve.specs.declared.feeding.Sitting.{Sitting}
-use Rattle.office_serve.specs.Feeding.{Stands}
 use Rattle.paper.specs.Limits.{longestAnswer, officeClaims, officeCoordinates, officeNodes}
 
 abbrev pub anewOf : Sitting → Sitting
-anewOf d = record { table = d .table; size = d .size; left = d .left; at = 0; written = 0 }
+anewOf sit = record { table = sit .table; size = sit .size; left = sit .left; at = 0; written = 0 }
 
 abbrev pub emptiedOf : Sitting → Sitting
-emptiedOf d = record { table = d .table; size = d .size; left = d .left; at = d .at; written = 0 }
+emptiedOf sit = record { table = sit .table; size = sit .size; left = sit .left; at = sit .at; written = 0 }
 
 -- [10.1] [10.10] before the first byte
 abbrev pub sittingStart : Sitting
@@ -24,11 +20,6 @@ sittingStart =
       at = 0;
       written = 0;
     }
-
--- the memory stands for the office o after some bytes that were read
-pub record Reached (o : OfficeState) (s : Store) (l : List ℕ) (d : Sitting) : Type 0 where
-  pub bytes : List ℕ
-  pub stands : Stands s l d (fed o bytes)
 
 -- the memory that the program has, and room for a line
 pub record ProgramMemory (references coordinates nodes line out : ℕ) : Type 0 where

@@ -4,7 +4,7 @@ use mathlib.Core.Path.{_≡_, ap}
 use native.Mathlib.Omega.{arith}
 use lib.ListN.{length}
 use Rattle.office_serve.specs.declared.feeding.Sitting.{Sitting}
-use Rattle.office_stream.proofs.ProgramLoops.{Pumping, pumping-start, pumping-more, pump-turning, reading-done, stands-anew}
+use Rattle.office_stream.proofs.ProgramLoops.{Pumping, pumping-start, pumping-more, pump-turning, within-start}
 use Rattle.office_stream.proofs.pump.Statement.{statement}
 use Rattle.office_stream.proofs.pump.Tie as tie
 
@@ -18,7 +18,7 @@ anew-requires : tie.Need-anew-requires Inv-loop μ-loop
 anew-requires c κs = tt
 
 loop-holds : tie.Need-loop-holds Inv-loop μ-loop
-loop-holds c = pumping-start _ _ _ _ _ _ (c .before .before .before .before .before .before .args .d) _ (c .anew .ensures) (c .before .before .before .before .before .before .pre .0)
+loop-holds c = pumping-start _ _ _ _ _ _ (c .before .before .before .before .before .before .args .sit) _ (c .anew .ensures) (c .before .before .before .before .before .before .pre .0)
 
 unread-requires : tie.Need-unread-requires Inv-loop μ-loop
 unread-requires c κs = tt
@@ -26,40 +26,28 @@ unread-requires c κs = tt
 feed-requires : tie.Need-feed-requires Inv-loop μ-loop
 feed-requires c κs = let v = c .before .before .before .before .before .before .before .loop .inv in (v .ready, omega (arith, v .written))
 
-sub-write-all : tie.Need-sub-write-all Inv-loop μ-loop
-sub-write-all c = omega arith
-
-part-write-all-start : tie.Need-part-write-all-start Inv-loop μ-loop
-part-write-all-start c = omega arith
-
-part-write-all-end : tie.Need-part-write-all-end Inv-loop μ-loop
-part-write-all-end c = omega (arith, c .before .before .before .before .before .before .before .before .before .before .feed .ensures .1 .1 .1, c .before .before .before .before .before .before .before .before .before .before .feed .kept .1 .1 .1 .1 .1 .1 .0)
-
-write-all-requires : tie.Need-write-all-requires Inv-loop μ-loop
-write-all-requires c κs = tt
-
 emptied-requires : tie.Need-emptied-requires Inv-loop μ-loop
-emptied-requires c κs = tt
+emptied-requires c κs = let f = c .before .before .before .before .before .before .before .before .before .before .feed in omega (arith, f .ensures .1 .1 .1 .0, f .kept .1 .1 .1 .1 .1 .1 .0)
 
 loop-less : tie.Need-loop-less Inv-loop μ-loop
 loop-less c =
-    let pre = c .before .before .before .before .before .before .before .before .before .before .before .before .before .before .before .before .before .before .before .before .before .before .before .before .before .before .before .before .pre in
-    let loop = c .before .before .before .before .before .before .before .before .before .before .before .before .before .before .before .before .before .before .before .before .before .loop in
-    let unread = c .before .before .before .before .before .before .before .before .before .before .before .before .before .before .before .before .before .before .before .before .unread in
-    let if1 = c .before .before .before .before .before .before .before .before .before .before .before .before .before .before .before .before .before .before .before .if1 in
-    let feed = c .before .before .before .before .before .before .before .before .before .before .before .before .before .feed in
-    let emptied = c .emptied in
-    let v = loop .inv in
-    let u = unread .ensures .0 (if1 .taken) in
+    let pre = c .before .before .before .before .before .before .before .before .before .before .before .before .before .before .before .before .before .before .before .before .before .before .before .before .before .before .pre in
+    let feed = c .before .before .before .before .before .before .before .before .before .before .before .feed in
+    let out = c .emptied in
+    let v = c .before .before .before .before .before .before .before .before .before .before .before .before .before .before .before .before .before .before .before .loop .inv in
+    let if1 = c .before .before .before .before .before .before .before .before .before .before .before .before .before .before .before .before .before .if1 in
+    let u = c .before .before .before .before .before .before .before .before .before .before .before .before .before .before .before .before .before .before .unread .ensures .0 (if1 .taken) in
     let t = feed .ensures .1 .1 .0 (pump-turning _ _ _ u (v .written) (rw (v .out) (pre .1))) in
-    let e : emptied .result .at ≡ feed .result .at = ap (λ (x : Sitting). x .at) (emptied .ensures) in
+    let e : out .result .at ≡ feed .result .at = ap (λ (x : Sitting). x .at) (out .ensures) in
     omega (arith, t, u .0)
 
 loop-again : tie.Need-loop-again Inv-loop μ-loop
 loop-again c =
-    let f = c .before .before .before .before .before .before .before .before .before .before .before .before .before .feed in
-    pumping-more _ _ _ _ _ _ _ _ _ _ _ _ _ _ _ _ _ _ _ _ (c .before .before .before .before .before .before .before .before .before .before .before .before .before .before .before .before .before .before .before .before .before .loop .inv) (f .ensures .0) (f .ensures .1 .0) (c .emptied .ensures)
-    (f .kept .1 .0) (f .kept .1 .1 .0) (f .kept .1 .1 .1 .0) (f .kept .1 .1 .1 .1 .0) (f .kept .1 .1 .1 .1 .1 .1 .0)
+    let f = c .before .before .before .before .before .before .before .before .before .before .before .feed in
+    let k = f .kept .1 in
+    let e = f .ensures .1 .1 .1 in
+    pumping-more _ _ _ _ _ _ _ _ _ _ _ _ _ _ _ _ _ _ _ _ (c .before .before .before .before .before .before .before .before .before .before .before .before .before .before .before .before .before .before .before .loop .inv)
+    (record { moved = f .ensures .0; short = e .0; stops = λ t. e .1 t }) (f .ensures .1 .0) (c .emptied .ensures) (k .0) (k .1 .0) (k .1 .1 .0) (k .1 .1 .1 .0) (k .1 .1 .1 .1 .1 .0)
 
 same-length : tie.Need-same-length Inv-loop μ-loop
 same-length c = c .before .before .loop .inv .references
@@ -81,10 +69,12 @@ returns c =
     let v = c .before .before .loop .inv in
     let a = c .before .before .before .before .before .before .before .before .before .args in (
       v .ready,
-      λ o st.
-          reading-done o _ _ _ _
-          (v .reading o (stands-anew (a .references .now) (a .coordinates .now) (a .nodes .now) (a .line .now) (a .d) _ o (c .before .before .before .anew .ensures) st))
-          (c .before .unread .ensures .1 (c .if1 .left)),
+      λ xs w.
+          record {
+            chunk = a .chunk .now;
+            within = v .within _ (within-start xs (a .chunk .now) (a .references .now) (a .coordinates .now) (a .nodes .now) (a .line .now) (a .sit) _ (c .before .before .before .anew .ensures) w);
+            used = c .before .unread .ensures .1 (c .if1 .left);
+          },
     )
 
 pub pump-spec : {M : Type 1} → statement M
@@ -97,10 +87,6 @@ pump-spec =
     loop-holds
     unread-requires
     feed-requires
-    sub-write-all
-    part-write-all-start
-    part-write-all-end
-    write-all-requires
     emptied-requires
     loop-less
     loop-again

@@ -1,10 +1,10 @@
 -- `serve::feeding::feed` meets its contract: turns add up. Assumes nothing.
 use Prim.Native.Nat.{_-_}
-use mathlib.Core.Path.{sym, _∙_}
+use mathlib.Core.Path.{_∙_}
 use mathlib.Core.Logic.{inr}
 use native.Mathlib.Omega.{arith}
 use lib.ListN.{length}
-use Rattle.office_serve.proofs.Moves.{never, FeedGoing, going-start, going-on, moved-more, still-later}
+use Rattle.office_serve.proofs.Moves.{FeedGoing, going-start, stopped, going-on, moved-more, still-later}
 use Rattle.office_serve.proofs.feeding.feed.Statement.{statement}
 use Rattle.office_serve.proofs.feeding.feed.Tie as tie
 
@@ -64,8 +64,8 @@ same-length-5 c = c .before .before .loop .inv .out
 returns : tie.Need-returns Inv-loop μ-loop
 returns c =
     let v = c .before .before .loop .inv in
-    let g = c .before .goes-on .ensures .1 in
-    (v .moved, (v .ready, (going-on _ _ _ _ (v .went) (λ t. never _ (sym (c .if1 .left) ∙ g (rw (v .out) t))), v .short)))
+    let stop = stopped _ _ _ _ _ (c .if1 .left) (v .out) (c .before .goes-on .ensures .1) in
+    (v .moved, (v .ready, (going-on _ _ _ _ (v .went) stop, (v .short, stop))))
 
 pub feed-spec : {M : Type 1} → statement M
 feed-spec =

@@ -9,14 +9,14 @@ use Rattle.office_serve.proofs.feeding.finish.Tie as tie
 returns : tie.Need-returns
 returns c =
     let a = c .before .before .before .before .before .before .before .args in
-    let s = store (a .d .table) (a .references .now) (a .coordinates .now) (a .nodes .now) in
-    ((λ o st. ended-left s (a .line .now) (a .d) o st _ (c .if1 .taken)), omega (arith, c .before .before .before .before .before .before .before .pre .1))
+    let s = store (a .sit .table) (a .references .now) (a .coordinates .now) (a .nodes .now) in
+    ((λ o st. ended-left s (a .line .now) (a .sit) o st _ (c .if1 .taken)), omega (arith, c .before .before .before .before .before .before .before .pre .1))
 
 returns-2 : tie.Need-returns-2
 returns-2 c =
     let a = c .before .before .before .before .before .before .before .before .before .args in
-    let s = store (a .d .table) (a .references .now) (a .coordinates .now) (a .nodes .now) in
-    ((λ o st. ended-size s (a .line .now) (a .d) o st _ (c .if2 .taken)), omega (arith, c .before .before .before .before .before .before .before .before .before .pre .1))
+    let s = store (a .sit .table) (a .references .now) (a .coordinates .now) (a .nodes .now) in
+    ((λ o st. ended-size s (a .line .now) (a .sit) o st _ (c .if2 .taken)), omega (arith, c .before .before .before .before .before .before .before .before .before .pre .1))
 
 serve-cut-requires : tie.Need-serve-cut-requires
 serve-cut-requires c κs = search needs
@@ -40,9 +40,9 @@ returns-3 c =
     let if2 = c .before .before .before .before .before .before .before .before .before .before .before .before .if2 in
     let serve-cut = c .before .before .before .before .before .before .before .serve-cut in
     let a = args in
-    let s = store (a .d .table) (a .references .now) (a .coordinates .now) (a .nodes .now) in
+    let s = store (a .sit .table) (a .references .now) (a .coordinates .now) (a .nodes .now) in
     let v = serve-cut .ensures in
-    ((λ o st. ended-line s (a .line .now) (a .d) o st _ (if1 .left) (if2 .left) _ _ _ (v .served)), v .short)
+    ((λ o st. ended-line s (a .line .now) (a .sit) o st _ (if1 .left) (if2 .left) _ _ _ (v .served)), v .short)
 
 pub finish-spec : {M : Type 1} → statement M
 finish-spec =

@@ -19,10 +19,10 @@ returns-3 c = ((λ e. never _ e), λ t. absurd (omega (arith, t .room)))
 returns-4 : tie.Need-returns-4
 returns-4 c = (
   (λ e.
-      let h : c .before .before .before .before .before .before .args .d .written ≤ c .before .before .before .before .before .before .args .out - longestAnswer = leb-true _ _ e in
+      let h : c .before .before .before .before .before .before .args .sit .written ≤ c .before .before .before .before .before .before .args .out - longestAnswer = leb-true _ _ e in
       record { unread = c .before .before .before .before .if1 .left; left = c .before .before .if2 .left; room = omega arith }),
   λ t.
-      let h : c .before .before .before .before .before .before .args .d .written ≤ c .before .before .before .before .before .before .args .out - longestAnswer = omega (arith, t .room) in
+      let h : c .before .before .before .before .before .before .args .sit .written ≤ c .before .before .before .before .before .before .args .out - longestAnswer = omega (arith, t .room) in
       le-leb _ _ h,
 )
 

@@ -19,13 +19,13 @@ same-length c = search needs
 returns : tie.Need-returns
 returns c =
     let a = c .before .before .before .before .before .before .before .before .before .before .before .before .args in
-    let s = store (a .d .table) (a .references .now) (a .coordinates .now) (a .nodes .now) in
+    let s = store (a .sit .table) (a .references .now) (a .coordinates .now) (a .nodes .now) in
     let p = c .before .before .before .before .before .before .before .before .before .before .before .before .pre in
     let k = c .before .before .before .before .cut in (
-      (λ o st. moved-part (a .d) s (a .line .now) _ (a .chunk .now) _ (p .0 .line) (k .ensures) o (p .1 .left) (not-true _ (c .if1 .taken)) _ st),
+      (λ o st. moved-part (a .sit) s (a .line .now) _ (a .chunk .now) _ (p .0 .line) (k .ensures) o (p .1 .left) (not-true _ (c .if1 .taken)) _ st),
       (
         record { ready = p .0 .ready; line = k .kept .0 ∙ p .0 .line },
-        (turn-on (a .d) s (a .line .now) _ (a .chunk .now) _ (p .0 .line) (k .ensures) (p .1 .unread), omega (arith, p .1 .room)),
+        (turn-on (a .sit) s (a .line .now) _ (a .chunk .now) _ (p .0 .line) (k .ensures) (p .1 .unread), omega (arith, p .1 .room)),
       ),
     )
 
@@ -56,13 +56,13 @@ same-length-6 c = search needs
 returns-2 : tie.Need-returns-2
 returns-2 c =
     let a = c .before .before .before .before .before .before .before .before .before .before .before .before .before .before .before .before .before .before .before .before .before .before .before .before .before .before .before .args in
-    let s = store (a .d .table) (a .references .now) (a .coordinates .now) (a .nodes .now) in
+    let s = store (a .sit .table) (a .references .now) (a .coordinates .now) (a .nodes .now) in
     let p = c .before .before .before .before .before .before .before .before .before .before .before .before .before .before .before .before .before .before .before .before .before .before .before .before .before .before .before .pre in
     let k = c .before .before .before .before .before .before .before .before .before .before .before .before .before .before .before .before .before .before .before .cut in
     let v = c .before .before .before .before .before .before .before .before .before .serve-cut .ensures in
     let len : length (k .last .0) ≡ longestAnswer = k .kept .0 ∙ p .0 .line in (
-      (λ o st. moved-line (a .d) s (a .line .now) _ (a .chunk .now) _ (p .0 .line) (k .ensures) o (p .1 .left) (not-false _ (c .before .before .before .before .before .before .before .before .before .before .before .before .before .before .before .if1 .left)) _ _ _ _ (v .served) len st),
-      (record { ready = v .ready; line = len }, (turn-on (a .d) s (a .line .now) _ (a .chunk .now) _ (p .0 .line) (k .ensures) (p .1 .unread), v .short)),
+      (λ o st. moved-line (a .sit) s (a .line .now) _ (a .chunk .now) _ (p .0 .line) (k .ensures) o (p .1 .left) (not-false _ (c .before .before .before .before .before .before .before .before .before .before .before .before .before .before .before .if1 .left)) _ _ _ _ (v .served) len st),
+      (record { ready = v .ready; line = len }, (turn-on (a .sit) s (a .line .now) _ (a .chunk .now) _ (p .0 .line) (k .ensures) (p .1 .unread), v .short)),
     )
 
 pub turn-spec : {M : Type 1} → statement M
