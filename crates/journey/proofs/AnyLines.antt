@@ -12,7 +12,7 @@ use Rattle.journey.specs.World.{World, noListing, theList, Reachable, La
 use Rattle.journey.specs.Promise.{allOf, Truthful, MayAsk, Answered, Grows}
 use Rattle.journey.proofs.Kept.{ListTrue, TableGrown, grown-matches, kept-grown, kept-sound}
 use Rattle.journey.proofs.Growth.{MayAnswer, is-answered, has-grown}
-use Rattle.journey.proofs.Queries.{Keeps, next-keeps}
+use Rattle.journey.proofs.Queries.{QueryKept, next-keeps}
 use Rattle.journey.proofs.Journey.{Good, always, later-grown, later-reachable, later-lists}
 use Rattle.paper.specs.Limits.{mostClaims}
 
@@ -65,7 +65,7 @@ module _ (c : Codec) (law : Lawful c) (Elsewhere : List ℕ → Type 0) (w : Wor
 
 -- a list keeps its query at every later moment
 module _ (c : Codec) (law : Lawful c) (Elsewhere : List ℕ → Type 0) where
-  pub later-query : (w : World) {v : World} → Later c Elsewhere w v → Keeps w v
+  pub later-query : (w : World) {v : World} → Later c Elsewhere w v → QueryKept w v
   later-query w still i h = refl
   later-query w (onwards {v} l e a) i h =
       next-keeps c v e i (omega (arith, later-lists c law Elsewhere w l)) ∙ later-query w l i h

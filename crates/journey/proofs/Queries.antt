@@ -16,18 +16,18 @@ use Rattle.orders.proofs.Taking.{took, took-query}
 use Rattle.journey.specs.World.{World, Event, enters, opens, asks, receives, takes, strays, noListing, theList, tableChanged, sent, listAdded, listChanged, runEntering, next}
 
 -- each list of w still has its query in v
-abbrev pub Keeps : World → World → Type 0
-Keeps w v = (i : ℕ) → i < length (w .lists) → theList v i .query ≡ theList w i .query
+abbrev pub QueryKept : World → World → Type 0
+QueryKept w v = (i : ℕ) → i < length (w .lists) → theList v i .query ≡ theList w i .query
 
-changed-keeps : (w : World) (x : Outcome Table) → Keeps w (tableChanged w x)
+changed-keeps : (w : World) (x : Outcome Table) → QueryKept w (tableChanged w x)
 changed-keeps w (refused n) i h = refl
 changed-keeps w (gives t) i h = refl
 
-sent-keeps : (w : World) (x : Outcome (List ℕ)) → Keeps w (sent w x)
+sent-keeps : (w : World) (x : Outcome (List ℕ)) → QueryKept w (sent w x)
 sent-keeps w (refused n) i h = refl
 sent-keeps w (gives s) i h = refl
 
-added-keeps : (w : World) (x : Outcome Listing) → Keeps w (listAdded w x)
+added-keeps : (w : World) (x : Outcome Listing) → QueryKept w (listAdded w x)
 added-keeps w (refused n) i h = refl
 added-keeps w (gives L) i h = ap (λ (K : Listing). K .query) (List·getD-append (w .lists) _ noListing i h)
 
@@ -39,7 +39,7 @@ module _ (c : Codec) where
       let a1 = through (c .readAnswer (L .query .order) s) _ _ (must-rest (soundIn room L) 2 _ _ e) in
       took-query room L (a1 .value) K (took room L (a1 .value) K (a1 .second))
 
-  moved-keeps : (w : World) (j room : ℕ) (s : List ℕ) (x : Outcome Listing) → taking c room (theList w j) s ≡ x → Keeps w (listChanged w j x)
+  moved-keeps : (w : World) (j room : ℕ) (s : List ℕ) (x : Outcome Listing) → taking c room (theList w j) s ≡ x → QueryKept w (listChanged w j x)
   moved-keeps w j room s (refused n) e i h = refl
   moved-keeps w j room s (gives K) e i h = go (eqb i j) refl
     where
@@ -49,7 +49,7 @@ module _ (c : Codec) where
           rw (← q) (ap (λ (L : Listing). L .query) (getD-set-same (w .lists) i K noListing h) ∙ rw q (same-query room (theList w j) K s e))
       go false p = ap (λ (L : Listing). L .query) (getD-set-other (w .lists) j i K noListing (eqb-false i j p))
 
-  pub next-keeps : (w : World) (e : Event) → Keeps w (next c w e)
+  pub next-keeps : (w : World) (e : Event) → QueryKept w (next c w e)
   unfolding next
   next-keeps w (enters run) = changed-keeps w (runEntering (w .table) run)
   next-keeps w (opens q) = added-keeps w (opening q)

@@ -16,7 +16,7 @@ use Rattle.journey.specs.Promise.{askLineOf, MayAsk, Answered, Grows}
 use Rattle.journey.proofs.Journey.{later-lists}
 use Rattle.journey.proofs.AnyLines as any
 use Rattle.journey_lent.specs.Elsewhere.{Foreign}
-use Rattle.journey_lent.specs.World.{LentWorld, takes, theHeld, theListing, next, Reachable, Later}
+use Rattle.journey_lent.specs.World.{LentWorld, takes, theHeld, theListing, nextLent, LentReachable, LentLater}
 use Rattle.journey_lent.specs.Seen.{seen}
 use Rattle.journey_lent.specs.Promise.{askIn, replyIn, AnsweredHeld, GrowsHeld}
 use Rattle.journey_lent.proofs.SoundMemory.{SoundMemory, the-sound, sound-in, sound-memory}
@@ -24,7 +24,7 @@ use Rattle.journey_lent.proofs.Seen.{list-seen, asks-seen, receives-see
 use Rattle.journey_lent.proofs.Elsewhere.{unshared}
 
 -- list i, which may ask for a page of this size
-module _ (w : LentWorld) (r : Reachable w) (i size : ℕ) (here : i < length (w .lists)) (may : MayAsk (tableOf (w .store)) (theListing w i) size) where
+module _ (w : LentWorld) (r : LentReachable w) (i size : ℕ) (here : i < length (w .lists)) (may : MayAsk (tableOf (w .store)) (theListing w i) size) where
   abbrev Elsewhere : List ℕ → Type 0
   Elsewhere = Foreign (w .store .table .number)
 
@@ -40,7 +40,7 @@ module _ (w : LentWorld) (r : Reachable w) (i size : ℕ) (here : i < length (w 
   may-seen : MayAsk (seen w .table) (journey.theList (seen w) i) size
   may-seen = rw (list-seen w i) may
 
-  module _ (v : LentWorld) (l : Later w v) where
+  module _ (v : LentWorld) (l : LentLater w v) where
     v-sound : SoundMemory v
     v-sound = sound-memory (later-reachable r l)
 
@@ -61,7 +61,7 @@ module _ (w : LentWorld) (r : Reachable w) (i size : ℕ) (here : i < length (w 
               ∙ rw (list-seen w i) at (as-journey .answered out g);
         }
 
-    module _ (u : LentWorld) (k : Later v u) (stands : theListing u i ≡ theListing w i) where
+    module _ (u : LentWorld) (k : LentLater v u) (stands : theListing u i ≡ theListing w i) where
       u-sound : SoundMemory u
       u-sound = sound-memory (later-reachable (later-reachable r l) k)
 
@@ -89,7 +89,7 @@ module _ (w : LentWorld) (r : Reachable w) (i size : ℕ) (here : i < length (w 
           record {
             grown = grows .grown;
             accepted = λ h.
-                sym (list-seen (next u (takes i (replyIn w v i size))) i)
+                sym (list-seen (nextLent u (takes i (replyIn w v i size))) i)
                 ∙ ap (λ (x : journey.World). journey.theList x i) (takes-seen u u-sound i (replyIn w v i size) u-here)
                 ∙ rw (list-seen w i) at (grows .accepted (roomFor (theHeld u i)) h);
             extended = rw (list-seen w i) at (grows .extended);

@@ -26,7 +26,7 @@ use Rattle.paper.specs.Ends.{Listing, fresh, opening}
 use Rattle.paper.specs.Lists.{held, Takes, openedAs, openingHeld, openedShown, askingHeld, takingHeld, heldAfter}
 use Rattle.paper.specs.Calls.{tableRefusal, officeCall}
 use Rattle.paper.specs.Codec.{lines}
-use Rattle.journey_lent.specs.World.{LentWorld, enters, opens, asks, receives, takes, theHeld, putTable, putList, putInAir, next}
+use Rattle.journey_lent.specs.World.{LentWorld, enters, opens, asks, receives, takes, theHeld, putTable, putList, putInAir, nextLent}
 use Rattle.journey_lent.specs.Contracts.{lentTo, afterEnter, afterOpen, afterLine, afterTake}
 
 -- ---- one call that enters, opens, writes or takes, whatever its outcome
@@ -56,33 +56,33 @@ opened-step w room q true true = refl
 module _ (w : LentWorld) where
   -- [9.6] `enter`
   pub entering-steps : (given : List ℕ) (points : List ℤ) (r : Entered) (after : Memory)
-      → Promise enteredShown putStore (enterCall (w .store) given points) (lentTo (w .store)) r after → afterEnter w r after ≡ next w (enters given points)
-  unfolding next
+      → Promise enteredShown putStore (enterCall (w .store) given points) (lentTo (w .store)) r after → afterEnter w r after ≡ nextLent w (enters given points)
+  unfolding nextLent
   entering-steps given points r after p = entered-step w _ r after p
 
   -- [9.11] `open_list`
-  pub opening-steps : (q : Query) (room : List ℕ) (r : Opened) → r ≡ openedShown (openingHeld q) → afterOpen w room r ≡ next w (opens q room)
-  unfolding next openingHeld opening
+  pub opening-steps : (q : Query) (room : List ℕ) (r : Opened) → r ≡ openedShown (openingHeld q) → afterOpen w room r ≡ nextLent w (opens q room)
+  unfolding nextLent openingHeld opening
   opening-steps q room r p = ap (afterOpen w room) p ∙ opened-step w room q (inRange (q .measure) (q .d)) (eqb (length (q .probe)) (q .d))
 
   -- [9.12] `write_ask`
   pub asking-steps : (i size : ℕ) (out : List ℕ) (r : Wrote) (after : List ℕ)
       → Writes (askingHeld lines (held (theHeld w i .list) (theHeld w i .room)) size (length out)) out r after
-      → afterLine w r after ≡ next w (asks i size (length out))
-  unfolding next
+      → afterLine w r after ≡ nextLent w (asks i size (length out))
+  unfolding nextLent
   asking-steps i size out r after p = written-step w _ out r after p
 
   -- [9.10] `answer`
   pub answering-steps : (line out : List ℕ) (r : Wrote) (after : List ℕ) → Writes (officeCall (w .store) (length out) line) out r after
-      → afterLine w r after ≡ next w (receives line (length out))
-  unfolding next
+      → afterLine w r after ≡ nextLent w (receives line (length out))
+  unfolding nextLent
   answering-steps line out r after p = written-step w _ out r after p
 
   -- [9.13] `take`
   pub taking-steps : (i : ℕ) (line : List ℕ) (r : Taken) (after : List ℕ)
       → Takes (theHeld w i .list) (takingHeld lines (held (theHeld w i .list) (theHeld w i .room)) line) (theHeld w i .room) r after
-      → afterTake w i r after ≡ next w (takes i line)
-  unfolding next heldAfter
+      → afterTake w i r after ≡ nextLent w (takes i line)
+  unfolding nextLent heldAfter
   taking-steps i line r after p = λ j. afterTake w i (p .result j) (p .memory j)
 
 -- ---- [9.4] a table that `make_table` gives is one that a world may begin with

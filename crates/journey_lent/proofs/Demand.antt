@@ -21,7 +21,7 @@ use Rattle.journey.specs.World.{Unshared}
 use Rattle.journey.specs.Promise.{allOf, MayAsk}
 use Rattle.journey.proofs.AnyLines as any
 use Rattle.journey_lent.specs.Elsewhere.{Foreign}
-use Rattle.journey_lent.specs.World.{LentWorld, opens, theListing, next, Reachable, Later}
+use Rattle.journey_lent.specs.World.{LentWorld, opens, theListing, nextLent, LentReachable, LentLater}
 use Rattle.journey_lent.specs.Seen.{seen}
 use Rattle.journey_lent.specs.Promise.{TruthfulHeld, AnsweredHeld, GrowsHeld}
 use Rattle.journey_lent.proofs.SoundMemory.{sound-memory}
@@ -34,7 +34,7 @@ mem-map : {A B : Type 0} (f : A → B) (x : A) (l : List A) → List·Memᴰ x l
 mem-map f x (y ∷ l) (List·Memᴰ·head e) = List·Memᴰ·head (ap f e)
 mem-map f x (y ∷ l) (List·Memᴰ·tail m) = List·Memᴰ·tail (mem-map f x l m)
 
-module _ (w : LentWorld) (r : Reachable w) where
+module _ (w : LentWorld) (r : LentReachable w) where
   -- every list that is for the number of the world's table
   module _ (h : Held) (m : List·Memᴰ h (w .lists)) (ours : h .list .query .table ≡ w .store .table .number) where
     alone : Unshared lines (Foreign (w .store .table .number)) (listing h .query .table)
@@ -46,7 +46,7 @@ module _ (w : LentWorld) (r : Reachable w) where
     every-list-is-the-first-so-many =
         record {
           sound = all-mem _ h (w .lists) (sound-memory r .lists) m;
-          told = any.truthful lines lawful _ (seen w) (reachable-seen r) (listing h) (mem-map listing h (w .lists) m) alone;
+          truthful = any.truthful lines lawful _ (seen w) (reachable-seen r) (listing h) (mem-map listing h (w .lists) m) alone;
         }
 
     -- [7.12] where it is complete it has all of it
@@ -63,16 +63,16 @@ module _ (w : LentWorld) (r : Reachable w) where
         rw (complete-only-when-none-is-missing c) (listed-has (queryIn (h .list .query)) (claimsIn (w .store)) (h .list .snapshot) k below within)
 
   -- [7.13] the present ask of a list that is for the table is answered, wherever it reaches the office and finds room
-  pub the-present-ask-is-answered : (v : LentWorld) → Later w v → (i size : ℕ) → i < length (w .lists)
+  pub the-present-ask-is-answered : (v : LentWorld) → LentLater w v → (i size : ℕ) → i < length (w .lists)
       → MayAsk (tableOf (w .store)) (theListing w i) size → AnsweredHeld w v i size
   the-present-ask-is-answered v l i size here may = answered-held w r i size here may v l
 
   -- [7.13] that answer, taken before the list has moved and with room for it, adds a full page or all that is left
-  pub that-answer-makes-the-list-grow : (v u : LentWorld) → Later w v → Later v u → (i size : ℕ) → i < length (w .lists)
+  pub that-answer-makes-the-list-grow : (v u : LentWorld) → LentLater w v → LentLater v u → (i size : ℕ) → i < length (w .lists)
       → MayAsk (tableOf (w .store)) (theListing w i) size → theListing u i ≡ theListing w i → GrowsHeld w v u i size
   that-answer-makes-the-list-grow v u l k i size here may stands = grows-held w r i size here may v l u k stands
 
   -- [7.1] a list that is opened is for what it was opened for, at every later moment
   pub a-list-keeps-what-it-was-opened-for : (q : Query) (room : List ℕ) → Typed q → spoken (q .order) ≡ true → (l : lists.List)
-      → openingHeld q ≡ gives l → (v : LentWorld) → Later (next w (opens q room)) v → theListing v (length (w .lists)) .query ≡ q
+      → openingHeld q ≡ gives l → (v : LentWorld) → LentLater (nextLent w (opens q room)) v → theListing v (length (w .lists)) .query ≡ q
   a-list-keeps-what-it-was-opened-for q room typed spoke l given v k = query-kept w r q room typed spoke l given v k

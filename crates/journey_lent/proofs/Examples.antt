@@ -18,7 +18,7 @@ use Rattle.orders.specs.LawfulLines.{Typed}
 use Rattle.orders.proofs.Lists.{all-mem}
 use Rattle.journey.specs.Promise.{MayAsk}
 use Rattle.journey_lent.specs.Elsewhere.{References}
-use Rattle.journey_lent.specs.World.{enters, opens, theListing, next, Allowed, happens, Reachable, begins, goes, Later}
+use Rattle.journey_lent.specs.World.{enters, opens, theListing, nextLent, LentAllowed, happens, LentReachable, begins, goes, LentLater}
 use Rattle.journey_lent.specs.Promise.{GrowsHeld}
 use Rattle.journey_lent.specs.Examples.{small, around, opened, Lives}
 use Rattle.journey_lent.proofs.Demand.{that-answer-makes-the-list-grow}
@@ -33,29 +33,29 @@ around-typed : Typed around
 around-typed =
     record { table = omega arith; reach = omega arith; probe = λ x m. all-mem (λ (k : ℤ). mag k < 2 ^ 31) x (pos 4 ∷ []) (omega arith, tt) m }
 
-reached : Reachable opened
-unfolding Allowed
+reached : LentReachable opened
+unfolding LentAllowed
 reached =
     goes (goes (begins small (unfold tableRefusal sound afresh built sameFront fits inRange in refl) small-typed)
     (happens (enters (5 ∷ []) (pos 3 ∷ [])) run-typed)) (happens (opens around (replicate 3 9)) (around-typed, refl))
 
 may : MayAsk (tableOf (opened .store)) (theListing opened 0) 1
-unfolding next enterCall fits inRange sound afresh built sameFront addedRun added openingHeld opening openedAs matches entered newNode enteredFrom listing
+unfolding nextLent enterCall fits inRange sound afresh built sameFront addedRun added openingHeld opening openedAs matches entered newNode enteredFrom listing
     queryInSlots inSlots
 may = record { ours = refl; unfinished = refl; one = omega arith; most = omega arith }
 
 here : 0 < length (opened .lists)
-unfolding next enterCall fits inRange sound afresh built sameFront addedRun added openingHeld opening
+unfolding nextLent enterCall fits inRange sound afresh built sameFront addedRun added openingHeld opening
 here = omega arith
 
 grows : GrowsHeld opened opened opened 0 1
-grows = that-answer-makes-the-list-grow opened reached opened opened Later.still Later.still 0 1 here may refl
+grows = that-answer-makes-the-list-grow opened reached opened opened LentLater.still LentLater.still 0 1 here may refl
 
 abbrev found : Query → ℕ → List Item
 found q n = take (length (theListing opened 0 .items) + 1) (listed q (claimsIn (opened .store)) n)
 
 pub lives : Lives
-unfolding next enterCall fits inRange sound afresh built sameFront addedRun added openingHeld opening openedAs entered newNode enteredFrom listing itemsIn
+unfolding nextLent enterCall fits inRange sound afresh built sameFront addedRun added openingHeld opening openedAs entered newNode enteredFrom listing itemsIn
     queryInSlots inSlots listed itemOf insert measureOf weigh joined distance claimsFrom point
 lives =
     record {

@@ -28,7 +28,7 @@ use Rattle.journey.specs.World as journey
 use Rattle.journey.proofs.Journey as journeys
 use Rattle.journey_lent.specs.EnteredRuns.{runOf, callEnters}
 use Rattle.journey_lent.specs.Elsewhere.{References, Foreign}
-use Rattle.journey_lent.specs.World.{LentWorld, Event, enters, opens, asks, receives, takes, strays, theHeld, theListing, putTable, putList, putInAir, putHeld, next, Allowed, Step, happens, copies, Reachable, begins, goes, Later, still, onwards}
+use Rattle.journey_lent.specs.World.{LentWorld, LentEvent, enters, opens, asks, receives, takes, strays, theHeld, theListing, putTable, putList, putInAir, putHeld, nextLent, LentAllowed, LentStep, happens, copies, LentReachable, begins, goes, LentLater, still, onwards}
 use Rattle.journey_lent.specs.Seen.{seen, runSeen, eventSeen}
 use Rattle.journey_lent.proofs.Agreement.{office-agrees, enter-agrees, open-agrees, ask-agrees, take-agrees}
 use Rattle.journey_lent.proofs.SoundMemory.{SoundMemory, the-sound, sound-well, copied-same, asked-sound, sound-memory}
@@ -75,45 +75,45 @@ taken-seen w i line (gives L) e =
 -- each step
 module _ (w : LentWorld) (m : SoundMemory w) where
   pub asks-seen : (i size out : ℕ) → i < length (w .lists)
-      → seen (next w (asks i size out)) ≡ journey.next lines (seen w) (journey.asks i size (roomFor (theHeld w i)) out)
-  unfolding next journey.next
+      → seen (nextLent w (asks i size out)) ≡ journey.next lines (seen w) (journey.asks i size (roomFor (theHeld w i)) out)
+  unfolding nextLent journey.next
   asks-seen i size out here =
       air-seen w (askingHeld lines (theHeld w i) size out)
       ∙ ap (journey.sent (seen w)) (ask-agrees (theHeld w i) (sound-well _ (the-sound w i here m)) size out)
       ∙ ap (λ (L : Listing). journey.sent (seen w) (asking lines (roomFor (theHeld w i)) size out L)) (sym (list-seen w i))
 
-  pub receives-seen : (line : List ℕ) (out : ℕ) → seen (next w (receives line out)) ≡ journey.next lines (seen w) (journey.receives line out)
-  unfolding next journey.next
+  pub receives-seen : (line : List ℕ) (out : ℕ) → seen (nextLent w (receives line out)) ≡ journey.next lines (seen w) (journey.receives line out)
+  unfolding nextLent journey.next
   receives-seen line out =
       air-seen w (officeCall (w .store) out line) ∙ ap (journey.sent (seen w)) (office-agrees (w .store) (m .fit) (m .table) out line)
 
   pub takes-seen : (i : ℕ) (line : List ℕ) → i < length (w .lists)
-      → seen (next w (takes i line)) ≡ journey.next lines (seen w) (journey.takes i (roomFor (theHeld w i)) line)
-  unfolding next journey.next
+      → seen (nextLent w (takes i line)) ≡ journey.next lines (seen w) (journey.takes i (roomFor (theHeld w i)) line)
+  unfolding nextLent journey.next
   takes-seen i line here =
       taken-seen w i line _ refl
       ∙ ap (journey.listChanged (seen w) i) (take-agrees (theHeld w i) (sound-well _ (the-sound w i here m)) line)
       ∙ ap (λ (L : Listing). journey.listChanged (seen w) i (taking lines (roomFor (theHeld w i)) L line)) (sym (list-seen w i))
 
-  pub opens-seen : (q : Query) (room : List ℕ) → seen (next w (opens q room)) ≡ journey.next lines (seen w) (journey.opens q)
-  unfolding next journey.next
+  pub opens-seen : (q : Query) (room : List ℕ) → seen (nextLent w (opens q room)) ≡ journey.next lines (seen w) (journey.opens q)
+  unfolding nextLent journey.next
   opens-seen q room = opened-seen w room (openingHeld q) ∙ ap (journey.listAdded (seen w)) (open-agrees q room)
 
   enters-seen : (given : List ℕ) (points : List ℤ)
-      → seen (next w (enters given points)) ≡ journey.next lines (seen w) (journey.enters (runSeen (w .store) given points))
-  unfolding next journey.next callEnters
+      → seen (nextLent w (enters given points)) ≡ journey.next lines (seen w) (journey.enters (runSeen (w .store) given points))
+  unfolding nextLent journey.next callEnters
   enters-seen given points =
       table-seen w (enterCall (w .store) given points)
       ∙ ap (journey.tableChanged (seen w)) (enter-agrees (w .store) (m .fit) (m .table) given points)
 
-  event-seen : (e : Event) → Allowed w e → seen (next w e) ≡ journey.next lines (seen w) (eventSeen w e)
-  unfolding Allowed eventSeen
+  event-seen : (e : LentEvent) → LentAllowed w e → seen (nextLent w e) ≡ journey.next lines (seen w) (eventSeen w e)
+  unfolding LentAllowed eventSeen
   event-seen (enters given points) a = enters-seen given points
   event-seen (opens q room) a = opens-seen q room
   event-seen (asks i size out) a = asks-seen i size out a
   event-seen (receives line out) a = receives-seen line out
   event-seen (takes i line) a = takes-seen i line (a .0)
-  event-seen (strays line) a = unfold next journey.next in refl
+  event-seen (strays line) a = unfold nextLent journey.next in refl
 
 -- ---- what is allowed, seen
 
@@ -137,8 +137,8 @@ run-typed s given points t k = go (eqb (length points) (s .table .d * length giv
     go true h = all-mem _ k (runOf s given points) (claims-typed (s .table .d) (length given) given points t) h
     go false h = all-mem (λ (x : Claim). x .reference < 2 ^ 32) k (record { reference = 0; point = [] } ∷ []) (omega arith, tt) h
 
-allowed-seen : (w : LentWorld) (e : Event) → Allowed w e → journey.Allowed lines (Foreign (w .store .table .number)) (seen w) (eventSeen w e)
-unfolding Allowed eventSeen journey.Allowed
+allowed-seen : (w : LentWorld) (e : LentEvent) → LentAllowed w e → journey.Allowed lines (Foreign (w .store .table .number)) (seen w) (eventSeen w e)
+unfolding LentAllowed eventSeen journey.Allowed
 allowed-seen w (enters given points) a = run-typed (w .store) given points a
 allowed-seen w (opens q room) a = a
 allowed-seen w (asks i size out) a = omega (arith, length-map (w .lists) listing)
@@ -158,7 +158,7 @@ table-ok s fit well typed =
 
 -- ---- worlds, seen
 
-pub later-reachable : {w v : LentWorld} → Reachable w → Later w v → Reachable v
+pub later-reachable : {w v : LentWorld} → LentReachable w → LentLater w v → LentReachable v
 later-reachable r still = r
 later-reachable r (onwards l s) = goes (later-reachable r l) s
 
@@ -171,21 +171,21 @@ module _ (number : ℕ) where
   same-number w v l = journeys.later-grown lines lawful (Foreign number) (seen w) l .number
 
   -- one step more after a moment x
-  step-seen : (x : LentWorld) {w v : LentWorld} → w .store .table .number ≡ number → SoundMemory w → LaterSeen x w → Step w v → LaterSeen x v
+  step-seen : (x : LentWorld) {w v : LentWorld} → w .store .table .number ≡ number → SoundMemory w → LaterSeen x w → LentStep w v → LaterSeen x v
   step-seen x {w} own m l (happens e a) = rw (event-seen w m e a) (journey.onwards l (eventSeen w e) (rw (← own) (allowed-seen w e a)))
   step-seen x {w} own m l (copies i here room c) = rw (same-seen w i _ (copied-same (theHeld w i) (the-sound w i here m) room c)) l
 
-  pub later-seen : {w v : LentWorld} → w .store .table .number ≡ number → Reachable w → Later w v → LaterSeen w v
+  pub later-seen : {w v : LentWorld} → w .store .table .number ≡ number → LentReachable w → LentLater w v → LaterSeen w v
   later-seen own r still = journey.still
   later-seen {w} own r (onwards {v} l s) =
       let k = later-seen own r l in step-seen w (same-number w v k ∙ own) (sound-memory (later-reachable r l)) k s
 
-pub number-stays : {w v : LentWorld} → Reachable w → Later w v → v .store .table .number ≡ w .store .table .number
+pub number-stays : {w v : LentWorld} → LentReachable w → LentLater w v → v .store .table .number ≡ w .store .table .number
 number-stays {w} {v} r l = same-number (w .store .table .number) w v (later-seen (w .store .table .number) refl r l)
 
-pub reachable-seen : {w : LentWorld} → Reachable w → journey.Reachable lines (Foreign (w .store .table .number)) (seen w)
+pub reachable-seen : {w : LentWorld} → LentReachable w → journey.Reachable lines (Foreign (w .store .table .number)) (seen w)
 reachable-seen (begins s e typed) = let a = asked-sound s e in journey.begins (tableOf s) (table-ok s (a .0) (a .1) typed)
 reachable-seen (goes {w} {v} r s) =
-    let l : Later w v = onwards still s in
+    let l : LentLater w v = onwards still s in
     subst (λ (n : ℕ). journey.Reachable lines (Foreign n) (seen v)) (sym (number-stays r l))
     (journeys.later-reachable lines lawful (Foreign (w .store .table .number)) (seen w) (reachable-seen r) (later-seen (w .store .table .number) refl r l))

@@ -29,7 +29,7 @@ use Rattle.journey_lent.proofs.RealLines.{lawful}
 use Rattle.tree.specs.Soundness.{Good}
 use Rattle.tree.proofs.TestedTables.{fit-fits, good-sound}
 use Rattle.tree.proofs.RunLaws.{entered-good}
-use Rattle.journey_lent.specs.World.{LentWorld, Event, enters, opens, asks, receives, takes, strays, theHeld, putTable, putList, putInAir, putHeld, next, Allowed, Copied, Step, happens, copies, Reachable, begins, goes}
+use Rattle.journey_lent.specs.World.{LentWorld, LentEvent, enters, opens, asks, receives, takes, strays, theHeld, putTable, putList, putInAir, putHeld, nextLent, LentAllowed, Copied, LentStep, happens, copies, LentReachable, begins, goes}
 
 -- ---- one list
 
@@ -134,8 +134,8 @@ air-sound w (gives s) m = record { fit = m .fit; table = m .table; lists = m .li
 held-at-sound : (w : LentWorld) (i : ℕ) (h : Held) → IsSound h → SoundMemory w → SoundMemory (putHeld i h w)
 held-at-sound w i h s m = record { fit = m .fit; table = m .table; lists = all-set IsSound (w .lists) i h (m .lists) s }
 
-event-sound : (w : LentWorld) (e : Event) → Allowed w e → SoundMemory w → SoundMemory (next w e)
-unfolding next Allowed
+event-sound : (w : LentWorld) (e : LentEvent) → LentAllowed w e → SoundMemory w → SoundMemory (nextLent w e)
+unfolding nextLent LentAllowed
 event-sound w (enters given points) a m = table-sound w given points _ refl m
 event-sound w (opens q room) a m = list-sound w q room _ (a .1) refl m
 event-sound w (asks i size out) a m = air-sound w (askingHeld lines (theHeld w i) size out) m
@@ -143,10 +143,10 @@ event-sound w (receives line out) a m = air-sound w (officeCall (w .store) out l
 event-sound w (takes i line) a m = held-at-sound w i _ (after-sound (theHeld w i) line _ refl (the-sound w i (a .0) m)) m
 event-sound w (strays line) a m = air-sound w (gives line) m
 
-step-sound : {w v : LentWorld} → Step w v → SoundMemory w → SoundMemory v
+step-sound : {w v : LentWorld} → LentStep w v → SoundMemory w → SoundMemory v
 step-sound {w} (happens e a) m = event-sound w e a m
 step-sound {w} (copies i here room c) m = held-at-sound w i _ (copied-sound (theHeld w i) (the-sound w i here m) room c) m
 
-pub sound-memory : {w : LentWorld} → Reachable w → SoundMemory w
+pub sound-memory : {w : LentWorld} → LentReachable w → SoundMemory w
 sound-memory (begins s e typed) = let a = asked-sound s e in record { fit = a .0; table = a .1; lists = tt }
 sound-memory (goes r s) = step-sound s (sound-memory r)

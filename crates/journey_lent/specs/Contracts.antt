@@ -17,13 +17,13 @@ use Rattle.journey_lent.specs.World.{LentWorld, putTable, putList, putIn
 abbrev pub lentTo : Store → Memory
 lentTo s = memory (s .references) (s .coordinates) (s .nodes)
 
-abbrev pub under : Table → Memory → Store
-under t m = store t (m .references) (m .coordinates) (m .nodes)
+abbrev pub storeUnder : Table → Memory → Store
+storeUnder t m = store t (m .references) (m .coordinates) (m .nodes)
 
 -- [9.6] after `enter`: with the header that came back, or with the header of before
 abbrev pub afterEnter : LentWorld → Entered → Memory → LentWorld
-afterEnter w (Entered.Refused n) m = putTable (under (w .store .table) m) w
-afterEnter w (Entered.Table t) m = putTable (under t m) w
+afterEnter w (Entered.Refused n) m = putTable (storeUnder (w .store .table) m) w
+afterEnter w (Entered.Table t) m = putTable (storeUnder t m) w
 
 -- [9.11] after `open_list`: the list that came back goes to a room, beside refusal 0
 unfoldable pub afterOpen : LentWorld → List ℕ → Opened → LentWorld

@@ -9,7 +9,7 @@ use Rattle.paper.specs.Tree.{Store, store}
 use Rattle.paper.specs.Runs.{emptyTable}
 use Rattle.paper.specs.Ends.{tableOf}
 use Rattle.journey.specs.Promise.{MayAsk}
-use Rattle.journey_lent.specs.World.{LentWorld, enters, opens, theListing, next, Reachable}
+use Rattle.journey_lent.specs.World.{LentWorld, enters, opens, theListing, nextLent, LentReachable}
 use Rattle.journey_lent.specs.Promise.{GrowsHeld}
 
 -- table 7, city block, one coordinate, capacity 2
@@ -23,10 +23,10 @@ around = record { order = Near; table = 7; measure = 1; d = 1; probe = pos 4 ∷
 -- a claim at 3 with reference 5 is entered, and a list is opened in a room of one item
 abbrev pub opened : LentWorld
 opened =
-    next (next (record { store = small; air = []; lists = [] }) (enters (5 ∷ []) (pos 3 ∷ []))) (opens around (replicate 3 9))
+    nextLent (nextLent (record { store = small; air = []; lists = [] }) (enters (5 ∷ []) (pos 3 ∷ []))) (opens around (replicate 3 9))
 
 pub record Lives : Type 0 where
-  pub reached : Reachable opened
+  pub reached : LentReachable opened
   pub asks : MayAsk (tableOf (opened .store)) (theListing opened 0) 1
   pub grows : GrowsHeld opened opened opened 0 1
   -- the list then has the claim

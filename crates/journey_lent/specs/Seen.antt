@@ -11,7 +11,7 @@ use Rattle.paper.specs.Ends.{tableOf}
 use Rattle.paper.specs.Lists.{roomFor, listing}
 use Rattle.journey.specs.World as journey
 use Rattle.journey_lent.specs.EnteredRuns.{runOf}
-use Rattle.journey_lent.specs.World.{LentWorld, Event, enters, opens, asks, receives, takes, strays, theHeld}
+use Rattle.journey_lent.specs.World.{LentWorld, LentEvent, enters, opens, asks, receives, takes, strays, theHeld}
 
 abbrev pub seen : LentWorld → journey.World
 seen w = record { table = tableOf (w .store); air = w .air; lists = map listing (w .lists) }
@@ -22,7 +22,7 @@ runSeen s given points =
     cond (eqb (length points) (s .table .d * length given)) (runOf s given points) (record { reference = 0; point = [] } ∷ [])
 
 -- an event, with the room that the list has
-unfoldable pub eventSeen : LentWorld → Event → journey.Event
+unfoldable pub eventSeen : LentWorld → LentEvent → journey.Event
 eventSeen w (enters given points) = journey.enters (runSeen (w .store) given points)
 eventSeen w (opens q room) = journey.opens q
 eventSeen w (asks i size out) = journey.asks i size (roomFor (theHeld w i)) out

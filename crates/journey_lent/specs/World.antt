@@ -25,19 +25,19 @@ pub record LentWorld : Type 0 where
   pub air : List (List ℕ)
   pub lists : List Held
 
-pub data Event : Type 0 where
+pub data LentEvent : Type 0 where
   -- a run is entered: its references, and its coordinates one after another
-  enters : List ℕ → List ℤ → Event
+  enters : List ℕ → List ℤ → LentEvent
   -- a list is opened, to stand in a room of its own, whatever that holds
-  opens : Query → List ℕ → Event
+  opens : Query → List ℕ → LentEvent
   -- list i writes its present ask of a page size, into so many characters
-  asks : (i size out : ℕ) → Event
+  asks : (i size out : ℕ) → LentEvent
   -- a line reaches the office, whose output room has so many characters
-  receives : List ℕ → ℕ → Event
+  receives : List ℕ → ℕ → LentEvent
   -- list i takes a line
-  takes : ℕ → List ℕ → Event
+  takes : ℕ → List ℕ → LentEvent
   -- a line comes from elsewhere
-  strays : List ℕ → Event
+  strays : List ℕ → LentEvent
 
 -- list i with its room, and as a list of items; behind the last there is none
 abbrev pub theHeld : LentWorld → ℕ → Held
@@ -61,23 +61,23 @@ abbrev pub putHeld : ℕ → Held → LentWorld → LentWorld
 putHeld i h w = record { store = w .store; air = w .air; lists = set (w .lists) i h }
 
 -- [9.6] [9.10] [9.11] [9.12] [9.13] each step by the outcome of its call; a refusal changes nothing [9.2]
-unfoldable pub next : LentWorld → Event → LentWorld
-next w (enters given points) = leaves putTable (enterCall (w .store) given points) w
-next w (opens q room) = leaves (putList room) (openingHeld q) w
-next w (asks i size out) = leaves putInAir (askingHeld lines (theHeld w i) size out) w
-next w (receives line out) = leaves putInAir (officeCall (w .store) out line) w
-next w (takes i line) = putHeld i (heldAfter (theHeld w i) (takingHeld lines (theHeld w i) line)) w
-next w (strays line) = putInAir line w
+unfoldable pub nextLent : LentWorld → LentEvent → LentWorld
+nextLent w (enters given points) = leaves putTable (enterCall (w .store) given points) w
+nextLent w (opens q room) = leaves (putList room) (openingHeld q) w
+nextLent w (asks i size out) = leaves putInAir (askingHeld lines (theHeld w i) size out) w
+nextLent w (receives line out) = leaves putInAir (officeCall (w .store) out line) w
+nextLent w (takes i line) = putHeld i (heldAfter (theHeld w i) (takingHeld lines (theHeld w i) line)) w
+nextLent w (strays line) = putInAir line w
 
 -- [7.14] the premises: arguments are of their types, an order that is opened has lines, and what a list takes was written by one of the
 -- two ends, or comes from elsewhere and not from another table of this number; the office may get any line
-unfoldable pub Allowed : LentWorld → Event → Type 0
-Allowed w (enters given points) = References given
-Allowed w (opens q room) = Typed q × (spoken (q .order) ≡ true)
-Allowed w (asks i size out) = i < length (w .lists)
-Allowed w (receives line out) = Unit {0}
-Allowed w (takes i line) = (i < length (w .lists)) × List·Memᴰ line (w .air)
-Allowed w (strays line) = Foreign (w .store .table .number) line
+unfoldable pub LentAllowed : LentWorld → LentEvent → Type 0
+LentAllowed w (enters given points) = References given
+LentAllowed w (opens q room) = Typed q × (spoken (q .order) ≡ true)
+LentAllowed w (asks i size out) = i < length (w .lists)
+LentAllowed w (receives line out) = Unit {0}
+LentAllowed w (takes i line) = (i < length (w .lists)) × List·Memᴰ line (w .air)
+LentAllowed w (strays line) = Foreign (w .store .table .number) line
 
 -- [7.3] another room with a list's items at its front
 pub record Copied (h : Held) (room : List ℕ) : Type 0 where
@@ -85,16 +85,16 @@ pub record Copied (h : Held) (room : List ℕ) : Type 0 where
   pub enough : 3 * h .list .count ≤ length room
 
 -- one step: an event, or a list that goes on in another room, to which its items were copied
-pub data Step (w : LentWorld) : LentWorld → Type 0 where
-  happens : (e : Event) → Allowed w e → Step w (next w e)
-  copies : (i : ℕ) → i < length (w .lists) → (room : List ℕ) → Copied (theHeld w i) room → Step w (putHeld i (held (theHeld w i .list) room) w)
+pub data LentStep (w : LentWorld) : LentWorld → Type 0 where
+  happens : (e : LentEvent) → LentAllowed w e → LentStep w (nextLent w e)
+  copies : (i : ℕ) → i < length (w .lists) → (room : List ℕ) → Copied (theHeld w i) room → LentStep w (putHeld i (held (theHeld w i .list) room) w)
 
 -- [9.5] a world begins with a table that may be asked
-pub data Reachable : LentWorld → Type 0 where
-  begins : (s : Store) → tableRefusal s ≡ 0 → References (s .references) → Reachable (record { store = s; air = []; lists = [] })
-  goes : {w v : LentWorld} → Reachable w → Step w v → Reachable v
+pub data LentReachable : LentWorld → Type 0 where
+  begins : (s : Store) → tableRefusal s ≡ 0 → References (s .references) → LentReachable (record { store = s; air = []; lists = [] })
+  goes : {w v : LentWorld} → LentReachable w → LentStep w v → LentReachable v
 
 -- a later moment
-pub data Later (w : LentWorld) : LentWorld → Type 0 where
-  still : Later w w
-  onwards : {v u : LentWorld} → Later w v → Step v u → Later w u
+pub data LentLater (w : LentWorld) : LentWorld → Type 0 where
+  still : LentLater w w
+  onwards : {v u : LentWorld} → LentLater w v → LentStep v u → LentLater w u

@@ -14,7 +14,7 @@ use Rattle.office_serve.specs.declared.feeding.Sitting.{Sitting}
 use Rattle.office_serve.specs.Serving.{Ready}
 use Rattle.office_serve.specs.Feeding.{Set, Stands, Turning, Ended}
 use Rattle.office_stream.specs.Stream.{anewOf, emptiedOf, sittingStart, ProgramMemory}
-use Rattle.office_stream.specs.Session.{Fed, handed, begun, next, feeds, InChunk, BetweenReads}
+use Rattle.office_stream.specs.Session.{FeedPromise, handed, begun, next, feeds, InChunk, BetweenReads}
 use Rattle.office_stream.proofs.WholeInput.{whole}
 use Rattle.paper.specs.Limits.{longestAnswer, officeClaims, officeCoordinates, officeNodes}
 
@@ -57,7 +57,7 @@ pump-turning sit chunk out h w r = record { unread = h .0; left = h .1; room = o
 pub pumping-more : (chunk rf₀ : List ℕ) (ps₀ : List ℤ) (rs₀ l₀ out₀ : List ℕ) (sit₀ : Sitting) (rf : List ℕ) (ps : List ℤ) (rs l b : List ℕ) (sit : Sitting)
     (rf' : List ℕ) (ps' : List ℤ) (rs' l' b' : List ℕ) (r n : Sitting)
     → Pumping chunk rf₀ ps₀ rs₀ l₀ out₀ sit₀ rf ps rs l b sit
-    → Fed chunk (store (sit .table) rf ps rs) l sit b (store (r .table) rf' ps' rs') l' r b'
+    → FeedPromise chunk (store (sit .table) rf ps rs) l sit b (store (r .table) rf' ps' rs') l' r b'
     → Set (store (r .table) rf' ps' rs') l' → n ≡ emptiedOf r
     → length rf' ≡ length rf → length ps' ≡ length ps → length rs' ≡ length rs → length l' ≡ length l → length b' ≡ length b
     → Pumping chunk rf₀ ps₀ rs₀ l₀ out₀ sit₀ rf' ps' rs' l' b' n

@@ -19,7 +19,7 @@ use Rattle.office_serve.specs.Feeding.{Stands, Moved, Ended}
 use Rattle.office_serve.proofs.Moves.{fed-more, fed-stop}
 use Rattle.office_serve.proofs.Written.{wrote-front}
 use Rattle.office_stream.specs.Stream.{anewOf, emptiedOf}
-use Rattle.office_stream.specs.Session.{Used, Fed, handed, Session, begun, next, feeds, BetweenReads}
+use Rattle.office_stream.specs.Session.{Used, FeedPromise, handed, Session, begun, next, feeds, BetweenReads}
 use Rattle.paper.specs.Limits.{longestAnswer}
 
 -- what a session means: the memory stands for an office that has said ys, and reads of the chunk's rest what the whole input leads to
@@ -51,7 +51,7 @@ used-up {c = c} {sit = sit} t u =
     (λ z. sym (fed-stop (drop (sit .at) c) (t .office) (sym (t .stands .left) ∙ z)) ∙ t .same)
     u
 
-fed-stood : {xs ys c : List ℕ} {s₀ s : Store} {l₀ l b₀ b : List ℕ} {sit r : Sitting} → Stood xs ys c s₀ l₀ sit → Fed c s₀ l₀ sit b₀ s l r b
+fed-stood : {xs ys c : List ℕ} {s₀ s : Store} {l₀ l b₀ b : List ℕ} {sit r : Sitting} → Stood xs ys c s₀ l₀ sit → FeedPromise c s₀ l₀ sit b₀ s l r b
     → Stood xs (ys ++ handed r b) c s l (emptiedOf r)
 fed-stood {ys = ys} {c} {s₀} {s} {l₀} {l} {b₀} {b} {sit} {r} t f =
     let m = f .moved (t .office) (t .stands) in
@@ -96,7 +96,7 @@ pub cut-either-way : {xs : List ℕ} {s s' : Store} {l l' : List ℕ} {sit d' : 
 cut-either-way a b = answered-printed a ∙ sym (answered-printed b)
 
 -- [10.10] a feed that leaves room for a line has used its chunk
-pub feeds-on : {c : List ℕ} {s₀ s : Store} {l₀ l b₀ b : List ℕ} {sit r : Sitting} → Fed c s₀ l₀ sit b₀ s l r b → r .written + longestAnswer ≤ length b₀
+pub feeds-on : {c : List ℕ} {s₀ s : Store} {l₀ l b₀ b : List ℕ} {sit r : Sitting} → FeedPromise c s₀ l₀ sit b₀ s l r b → r .written + longestAnswer ≤ length b₀
     → Used c r
 feeds-on {c = c} {r = r} f h = go (leb (length c) (r .at)) refl
   where

@@ -17,7 +17,7 @@ abbrev pub Used : List ℕ → Sitting → Type 0
 Used chunk sit = (length chunk ≤ sit .at) ⊎ (sit .left ≡ 0)
 
 -- what `feed` promises: from the sitting `sit` and the output room b₀ it read on in the chunk, to the sitting r and the room b
-pub record Fed (chunk : List ℕ) (s₀ : Store) (l₀ : List ℕ) (sit : Sitting) (b₀ : List ℕ) (s : Store) (l : List ℕ) (r : Sitting) (b : List ℕ) : Type 0 where
+pub record FeedPromise (chunk : List ℕ) (s₀ : Store) (l₀ : List ℕ) (sit : Sitting) (b₀ : List ℕ) (s : Store) (l : List ℕ) (r : Sitting) (b : List ℕ) : Type 0 where
   pub moved : (o : OfficeState) → Stands s₀ l₀ sit o → Moved o chunk sit b₀ s l r b
   pub short : r .written ≤ length b₀
   pub stops : Turning r (length chunk) (length b₀) → ⊥
@@ -33,7 +33,7 @@ pub data Session : List ℕ → List ℕ → List ℕ → Store → List ℕ →
   -- any bytes are the next chunk, once the one before is used
   next : {xs ys c : List ℕ} {s : Store} {l : List ℕ} {sit : Sitting} (chunk : List ℕ) → Session xs ys c s l sit → Used c sit → Session (xs ++ chunk) ys chunk s l (anewOf sit)
   -- a chunk is fed, wherever that stops, and the front of the room is written out
-  feeds : {xs ys c : List ℕ} {s₀ s : Store} {l₀ l b₀ b : List ℕ} {sit r : Sitting} → Session xs ys c s₀ l₀ sit → Fed c s₀ l₀ sit b₀ s l r b
+  feeds : {xs ys c : List ℕ} {s₀ s : Store} {l₀ l b₀ b : List ℕ} {sit r : Sitting} → Session xs ys c s₀ l₀ sit → FeedPromise c s₀ l₀ sit b₀ s l r b
       → Session xs (ys ++ handed r b) c s l (emptiedOf r)
 
 -- within a chunk: it is the last of xs

@@ -29,7 +29,8 @@ returns : tie.Need-returns
 returns c =
     let f = c .before .before .before .before .before .before .before .before .before .finish in
     let a = c .before .before .before .before .before .before .before .before .before .before .before .before .before .before .before .before .before .before .before .args in
-    λ xs x. ended-says xs (a .references .now) (a .coordinates .now) (a .nodes .now) (a .line .now) (a .out .now) _ _ (a .sit) _ _ (c .before .before .before .before .before .before .before .before .before .before .before .before .before .before .anew .ensures) (f .ensures .0) (f .ensures .1) (f .kept .1 .1 .1 .1 .1 .0) (c .hand-over .ensures) x
+    let n = c .before .before .before .before .before .before .before .before .before .before .before .before .before .before .anew in
+    λ xs x. ended-says xs (a .references .now) (a .coordinates .now) (a .nodes .now) (a .line .now) (a .out .now) _ _ (a .sit) _ _ (n .ensures) (f .ensures .0) (f .ensures .1) (f .kept .1 .1 .1 .1 .1 .0) (c .hand-over .ensures) x
 
 pub end-input-spec : {M : Type 1} → statement M
 end-input-spec =
