@@ -13,3 +13,4 @@ pub mod TestedTables
 pub mod ClaimsInMemory
 pub mod Adding
 pub mod RunLaws
+pub mod UnusedMemory
