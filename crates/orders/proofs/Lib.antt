@@ -4,7 +4,7 @@ pub mod Sorted
 pub mod Page
 pub mod Meaning
 pub mod Pages
-pub mod MarksKept
+pub mod KeptBack
 pub mod Taking
 pub mod Sound
 pub mod Rooms
