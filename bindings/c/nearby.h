@@ -221,7 +221,8 @@ typedef struct {
     size_t count;
 } nearby_list;
 
-/* A list after opening or taking. Beside a refused opening it is all 0; beside a refused taking it is the list as it was. */
+/* A list after opening or taking. Beside a refused opening it is all 0; beside a refused taking it is the list as it came, but a
+ * flag that was over 1 is 1. */
 typedef struct {
     uint8_t refusal;
     nearby_list list;

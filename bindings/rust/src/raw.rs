@@ -116,9 +116,9 @@ pub struct List {
     pub table: u32,
     /// The measure, 1 to 3.
     pub measure: u8,
-    /// Whether a first answer was taken.
+    /// Whether a first answer was taken: 0 or 1. Any other number goes in as 1 and comes back as 1.
     pub started: u8,
-    /// Whether the last page was taken.
+    /// Whether the last page was taken, in the same way.
     pub complete: u8,
     /// How many coordinates the probe has.
     pub d: usize,

@@ -52,13 +52,13 @@ distance-triangle m (suc d) p q r = joined-sub m
 abbrev pub In32 : List ℤ → Type 0
 In32 p = (k : ℕ) → SFits w32 (getD p k (pos 0))
 
-joined-most : (m : Measure) (d : ℕ) {a b : ℕ} → a ≤ greatestOf m d → b ≤ greatestOf m 1 → joined m a b ≤ greatestOf m (suc d)
+pub joined-most : (m : Measure) (d : ℕ) {a b : ℕ} → a ≤ greatestOf m d → b ≤ greatestOf m 1 → joined m a b ≤ greatestOf m (suc d)
 unfolding joined greatestOf
 joined-most CityBlock d h k = omega arith
 joined-most Maximum d h k = omega arith
 joined-most Hamming d h k = omega arith
 
-weigh-most : (m : Measure) (x y : ℤ) → SFits w32 x → SFits w32 y → weigh m x y ≤ greatestOf m 1
+pub weigh-most : (m : Measure) (x y : ℤ) → SFits w32 x → SFits w32 y → weigh m x y ≤ greatestOf m 1
 unfolding weigh greatestOf
 weigh-most CityBlock x y h k = omega (arith, abs-away x y, away-bound x y h k)
 weigh-most Maximum x y h k = omega (arith, abs-away x y, away-bound x y h k)

@@ -3,7 +3,7 @@ ghost use mathlib.Core.Path.{_≡_};
 ghost use Prim.Native.Nat.{_+_, _≤_, _<_};
 ghost use lib.IntN.{_-ℤ_, natAbs};
 ghost use lib.ListN.{length, drop};
-ghost use Rattle.paper.specs.Points.{measureOf, weigh, joined};
+ghost use Rattle.paper.specs.Points.{measureOf, weigh, joined, greatestOf};
 ghost use Rattle.paper.specs.Points.{distance as Points·distance};
 ghost use Rattle.paper.specs.Limits.{mostCoordinates};
 use paper::points::Measure;
@@ -31,11 +31,12 @@ fn with_one(m: Measure, sum: u64, x: i32, y: i32) -> u64
     }
 }
 
-// The distance of the points at `at` of a and at `bt` of b. The measure is the same from coordinate to coordinate, so the
+// [1.9] The distance of the points at `at` of a and at `bt` of b, no more than the measure's greatest. The measure is the same from coordinate to coordinate, so the
 // compiler takes the choice out of the loop.
 fn measured(m: Measure, d: usize, a: &[i32], at: usize, b: &[i32], bt: usize) -> u64
     requires { ⌜ (d ≤ mostCoordinates) × ((at + d ≤ length (now a)) × (bt + d ≤ length (now b))) ⌝ }
-    ensures { λ r. ⌜ r ≡ Points·distance m d (drop at (now (a .entry))) (drop bt (now (b .entry))) ⌝ }
+    ensures exact { λ r. ⌜ r ≡ Points·distance m d (drop at (now (a .entry))) (drop bt (now (b .entry))) ⌝ }
+    ensures bounded { λ r. ⌜ r ≤ greatestOf m d ⌝ }
 {
     let mut sum: u64 = 0;
     let mut i: usize = 0;
@@ -49,7 +50,8 @@ fn measured(m: Measure, d: usize, a: &[i32], at: usize, b: &[i32], bt: usize) ->
 // The same, by the number that tables and lines name a measure by.
 pub fn distance(measure: u8, d: usize, a: &[i32], at: usize, b: &[i32], bt: usize) -> u64
     requires { ⌜ (d ≤ mostCoordinates) × ((at + d ≤ length (now a)) × (bt + d ≤ length (now b))) ⌝ }
-    ensures { λ r. ⌜ r ≡ Points·distance (measureOf measure) d (drop at (now (a .entry))) (drop bt (now (b .entry))) ⌝ }
+    ensures exact { λ r. ⌜ r ≡ Points·distance (measureOf measure) d (drop at (now (a .entry))) (drop bt (now (b .entry))) ⌝ }
+    ensures bounded { λ r. ⌜ r ≤ greatestOf (measureOf measure) d ⌝ }
 {
     measured(Measure::numbered(measure), d, a, at, b, bt)
 }

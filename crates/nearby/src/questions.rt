@@ -5,7 +5,7 @@ ghost use lib.ListN.{length, take};
 ghost use Rattle.paper.specs.declared.orders.Order.the-variants.{Near};
 ghost use Rattle.paper.specs.Outcomes.{Promise, Shows};
 ghost use Rattle.paper.specs.Tree.{lent};
-ghost use Rattle.paper.specs.Calls.{nearestCall, farthestCall, nearestShown, pageCall, pageShown, putPage};
+ghost use Rattle.paper.specs.Calls.{nearestCall, farthestCall, nearestShown, NothingJust, pageCall, pageShown, putPage};
 use crate::tables::table_refusal;
 use checks::size_holds;
 use paper::orders::Nearest;
@@ -44,7 +44,8 @@ pub fn farthest(
     nodes: &[u64],
     probe: &[i32],
 ) -> Nearest
-    ensures { λ r. ⌜ Shows nearestShown (farthestCall (lent t (references .entry) (coordinates .entry) (nodes .entry)) (now (probe .entry))) r ⌝ }
+    ensures shown { λ r. ⌜ Shows nearestShown (farthestCall (lent t (references .entry) (coordinates .entry) (nodes .entry)) (now (probe .entry))) r ⌝ }
+    ensures nothing { λ r. ⌜ NothingJust (t .count) r ⌝ }
 {
     let why = table_refusal(t, references, coordinates, nodes);
     if why != 0 {

@@ -4,6 +4,7 @@ pub mod Sorted
 pub mod Page
 pub mod Meaning
 pub mod Pages
+pub mod KeptBack
 pub mod Taking
 pub mod Sound
 pub mod Rooms

@@ -77,3 +77,13 @@ module _ {A R M : Type 0} (shown : Outcome A → R) (put : A → M → M) (o : O
 
   pub promise-given : (a : A) (r : R) (after : M) → o ≡ gives a → r ≡ shown (gives a) → after ≡ put a before → Promise shown put o before r after
   promise-given a r after e q m = record { result = q ∙ ap shown (sym e); memory = m ∙ sym (ap (λ (u : Outcome A). leaves put u before) e) }
+
+-- [9.2] [9.3] what a promise P settles: of one outcome and one memory before, it allows one result and one memory after; and where the outcome
+-- is a refusal, the memory after is the memory before
+pub record Settled {A R M : Type 0} (P : Outcome A → M → R → M → Type 0) : Type 0 where
+  pub one : (o : Outcome A) (before : M) (r r' : R) (after after' : M) → P o before r after → P o before r' after' → (r ≡ r') × (after ≡ after')
+  pub kept : (o : Outcome A) (before : M) (n : ℕ) (r : R) (after : M) → o ≡ refused n → P o before r after → after ≡ before
+
+-- every promise is so
+pub promise-settled : {A R M : Type 0} (shown : Outcome A → R) (put : A → M → M) → Settled (Promise shown put)
+promise-settled shown put = record { one = settled shown put; kept = kept shown put }

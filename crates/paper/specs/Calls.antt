@@ -1,11 +1,13 @@
 -- Section 9 of the rules: the public calls on tables in lent memory, as functions of their inputs. Definitions only.
 -- Making and entering stand in `Runs`, lists in `Lists`, bare lines in `Lines`.
-use Prim.Native.Nat.{ℕ, _*_}
+use Prim.Native.Nat.{ℕ, _*_, _<_}
+use mathlib.Core.Path.{_≡_}
 use mathlib.Core.Bool.{Bool}
 use mathlib.Core.List.{List}
 use lib.Dec.{leb, eqb}
 use lib.IntN.{ℤ}
 use lib.ListN.{length}
+use Rattle.paper.specs.declared.orders.Found.the-variants.{Nothing, Item as AnItem}
 use Rattle.paper.specs.declared.orders.Nearest as Answers
 use Rattle.paper.specs.declared.orders.Order.{Order}
 use Rattle.paper.specs.declared.orders.Order.the-variants.{Near}
@@ -47,6 +49,12 @@ farthestCall s probe = aimed s probe (gives (farthestOf (tableQuery (s .table) N
 abbrev pub nearestShown : Outcome Found → Answers.Nearest
 nearestShown (refused n) = Answers.the-variants.Refused n
 nearestShown (gives f) = Answers.the-variants.Answer (foundShown f)
+
+-- [4.2] what farthest's result says of the count of claims: Nothing just where there is none
+abbrev pub NothingJust : ℕ → Answers.Nearest → Type 0
+NothingJust count (Answers.the-variants.Refused n) = Unit {0}
+NothingJust count (Answers.the-variants.Answer Nothing) = count ≡ 0
+NothingJust count (Answers.the-variants.Answer (AnItem k y x)) = 0 < count
 
 -- [4.6] [4.7] a page: its items, and whether it is the last
 pub record ThePage : Type 0 where

@@ -14,3 +14,4 @@ pub mod TestedTables
 pub mod ClaimsInMemory
 pub mod Adding
 pub mod RunLaws
+pub mod UnusedMemory

@@ -5,8 +5,8 @@ use mathlib.Core.Bool.{Bool, cond}
 use mathlib.Core.List.{List}
 use lib.IntN.{ℤ}
 use lib.ListN.{length, drop}
-use Rattle.paper.specs.Points.{measureOf, distance}
-use Rattle.paper.specs.Tree.{fieldAt, apart, referenceAt}
+use Rattle.paper.specs.Points.{measureOf, distance, greatestOf}
+use Rattle.paper.specs.Tree.{fieldAt, sideClaim, apart, referenceAt}
 use Rattle.tree.specs.BuiltNodes.{Inside, Holds, Searchable, Neartree, Located}
 use Rattle.walk_keep.specs.declared.Asked.{Asked}
 use Rattle.walk_keep.specs.Page.{ranks, Filled}
@@ -17,6 +17,15 @@ use Rattle.paper.specs.Limits.{mostCoordinates}
 -- how far claim k is from the probe
 unfoldable pub distOf : ℕ → ℕ → List ℤ → List ℤ → ℕ → ℕ
 distOf measure d coordinates probe k = distance (measureOf measure) d (drop (k * d) coordinates) probe
+
+-- [1.9] claim k is no farther from the probe than the measure's greatest distance; that it was measured shows it, as slices of 32-bit coordinates
+-- are lent
+abbrev pub Bounded : ℕ → ℕ → List ℤ → List ℤ → ℕ → Type 0
+Bounded measure d coordinates probe k = distOf measure d coordinates probe k ≤ greatestOf (measureOf measure) d
+
+-- so is the left claim of the root, where a node is in use
+abbrev pub RootBounded : ℕ → ℕ → ℕ → List ℤ → List ℕ → List ℤ → Type 0
+RootBounded used measure d coordinates nodes probe = (used ≡ 0 → ⊥) → Bounded measure d coordinates probe (sideClaim nodes 0 0)
 
 abbrev pub distBy : Asked → List ℤ → List ℤ → ℕ → ℕ
 distBy ask coordinates probe = distOf (ask .measure) (ask .d) coordinates probe

@@ -6,7 +6,9 @@ ghost use Rattle.paper.specs.declared.orders.Order.{Order};
 ghost use Rattle.paper.specs.declared.orders.Order.the-variants.{Near, Far};
 ghost use Rattle.paper.specs.Orders.{foundIn, listed, pageOf, firstOf, nearestOf, farthestOf, markHolds};
 ghost use Rattle.paper.specs.Tree.{lent, claimsFrom, claimsIn};
-ghost use Rattle.paper.specs.Calls.{tableQuery};
+ghost use Rattle.paper.specs.declared.orders.Nearest.the-variants.{Answer};
+ghost use Rattle.paper.specs.Calls.{tableQuery, NothingJust};
+ghost use Rattle.walk.specs.Walking.{RootBounded};
 ghost use Rattle.walk.specs.Asking.{askedOf, Answerable, Pageable, Markable, Fills, PageIs};
 use super::walking::from_probe;
 use super::walking::page;
@@ -67,7 +69,8 @@ pub fn fill(
 ) -> usize
     requires { ⌜ Answerable (lent t references coordinates nodes) (now probe) ⌝ }
     requires { ⌜ Pageable t place size (now room) ⌝ }
-    ensures { λ r. ⌜ Fills (pageOf (tableQuery t order (now (probe .entry)) reach) (claimsIn (lent t (references .entry) (coordinates .entry) (nodes .entry))) place size) (now (room .entry)) (now (room .exit)) r ⌝ }
+    ensures filled { λ r. ⌜ Fills (pageOf (tableQuery t order (now (probe .entry)) reach) (claimsIn (lent t (references .entry) (coordinates .entry) (nodes .entry))) place size) (now (room .entry)) (now (room .exit)) r ⌝ }
+    ensures bounded { λ _. ⌜ RootBounded (t .used) (t .measure) (t .d) (now (coordinates .entry)) (now (nodes .entry)) (now (probe .entry)) ⌝ }
 {
     let ask = asked(t, order, reach, place, size);
     page(references, coordinates, nodes, probe, ask, room)
@@ -119,7 +122,8 @@ fn first(
     reach: u64,
 ) -> Found
     requires { ⌜ Answerable (lent t references coordinates nodes) (now probe) ⌝ }
-    ensures { λ r. ⌜ foundIn r ≡ firstOf (listed (tableQuery t order (now (probe .entry)) reach) (claimsIn (lent t (references .entry) (coordinates .entry) (nodes .entry))) (t .count)) ⌝ }
+    ensures found { λ r. ⌜ foundIn r ≡ firstOf (listed (tableQuery t order (now (probe .entry)) reach) (claimsIn (lent t (references .entry) (coordinates .entry) (nodes .entry))) (t .count)) ⌝ }
+    ensures bounded { λ _. ⌜ RootBounded (t .used) (t .measure) (t .d) (now (coordinates .entry)) (now (nodes .entry)) (now (probe .entry)) ⌝ }
 {
     let mut room = [0u64; 3];
     let start = Place::Start;
@@ -166,7 +170,8 @@ pub fn farthest(
     probe: &[i32],
 ) -> Found
     requires { ⌜ Answerable (lent t references coordinates nodes) (now probe) ⌝ }
-    ensures { λ r. ⌜ foundIn r ≡ farthestOf (tableQuery t Near (now (probe .entry)) 0) (claimsIn (lent t (references .entry) (coordinates .entry) (nodes .entry))) ⌝ }
+    ensures found { λ r. ⌜ foundIn r ≡ farthestOf (tableQuery t Near (now (probe .entry)) 0) (claimsIn (lent t (references .entry) (coordinates .entry) (nodes .entry))) ⌝ }
+    ensures nothing { λ r. ⌜ NothingJust (t .count) (Answer r) ⌝ }
 {
     let far = Order::Far;
     let greatest = Measure::numbered(t.measure).greatest(t.d as u64);

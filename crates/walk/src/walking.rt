@@ -1,15 +1,17 @@
 // One walk for every order and every question. It keeps the first so many claims, in order, in the front of the caller's room.
 ghost use mathlib.Core.Path.{_≡_};
+ghost use Rattle.paper.specs.Tree.{sideClaim};
 ghost use Rattle.tree.specs.BuiltNodes.{Holds};
-ghost use Rattle.walk.specs.Walking.{distOf, distBy, InSight, apartBy, wayDown, WayAsk, InOrBelow, AskWalked, Stepped, StepAsk, NodeAsk, SideAsk, PageAsk, AskFilled};
+ghost use Rattle.walk.specs.Walking.{distOf, Bounded, RootBounded, distBy, InSight, apartBy, wayDown, WayAsk, InOrBelow, AskWalked, Stepped, StepAsk, NodeAsk, SideAsk, PageAsk, AskFilled};
 use tree::nodes::field;
 use tree::rows::reference;
 use walk_keep::Asked;
 
-// How far claim k is from the probe.
+// [1.9] How far claim k is from the probe: no farther than the measure's greatest distance.
 pub fn from_probe(measure: u8, d: usize, coordinates: &[i32], probe: &[i32], k: u64) -> u64
     requires { ⌜ InSight d k (now coordinates) (now probe) ⌝ }
-    ensures { λ r. ⌜ r ≡ distOf measure d (now (coordinates .entry)) (now (probe .entry)) k ⌝ }
+    ensures exact { λ r. ⌜ r ≡ distOf measure d (now (coordinates .entry)) (now (probe .entry)) k ⌝ }
+    ensures bounded { λ _. ⌜ Bounded measure d (now (coordinates .entry)) (now (probe .entry)) k ⌝ }
 {
     measure::distance(measure, d, coordinates, k as usize * d, probe, 0)
 }
@@ -70,7 +72,8 @@ fn node(
     count: usize,
 ) -> usize
     requires { ⌜ NodeAsk (now references) (now coordinates) (now nodes) (now probe) ask m (now room) count ⌝ }
-    ensures { λ r. ⌜ AskWalked ask (now (references .entry)) (distBy ask (now (coordinates .entry)) (now (probe .entry))) (Holds (now (nodes .entry)) (apartBy ask (now (coordinates .entry))) m) (now (room .entry)) count (now (room .exit)) r ⌝ }
+    ensures walked { λ r. ⌜ AskWalked ask (now (references .entry)) (distBy ask (now (coordinates .entry)) (now (probe .entry))) (Holds (now (nodes .entry)) (apartBy ask (now (coordinates .entry))) m) (now (room .entry)) count (now (room .exit)) r ⌝ }
+    ensures bounded { λ _. ⌜ Bounded (ask .measure) (ask .d) (now (coordinates .entry)) (now (probe .entry)) (sideClaim (now (nodes .entry)) m 0) ⌝ }
 {
     let order = ask.order;
     let kl = field(nodes, m, 0) - 1;
@@ -129,7 +132,8 @@ pub fn page(
     room: &mut [u64],
 ) -> usize
     requires { ⌜ PageAsk (now references) (now coordinates) (now nodes) (now probe) ask (now room) ⌝ }
-    ensures { λ r. ⌜ AskFilled ask (now (references .entry)) (distBy ask (now (coordinates .entry)) (now (probe .entry))) (now (room .entry)) (now (room .exit)) r ⌝ }
+    ensures filled { λ r. ⌜ AskFilled ask (now (references .entry)) (distBy ask (now (coordinates .entry)) (now (probe .entry))) (now (room .entry)) (now (room .exit)) r ⌝ }
+    ensures bounded { λ _. ⌜ RootBounded (ask .used) (ask .measure) (ask .d) (now (coordinates .entry)) (now (nodes .entry)) (now (probe .entry)) ⌝ }
 {
     let used = ask.used;
     if used == 0 {

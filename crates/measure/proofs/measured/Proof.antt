@@ -6,11 +6,14 @@ use lib.Seq.{getD-drop}
 use lib.IntN.{ℤ, pos}
 use Rattle.paper.specs.declared.points.Measure.{Measure}
 use Prim.Native.Nat.{ℕ, _+_, _≤_, _*_, _-_}
-use mathlib.Core.Path.{_≡_, refl, ap, _∙_}
+use mathlib.Core.Path.{_≡_, refl, ap, subst, _∙_}
 use native.Mathlib.Omega.{arith}
 use lib.ListN.{drop}
 use Rattle.measure.proofs.Away.{same-args}
-use Rattle.paper.specs.Points.{distance, joined, weigh}
+use mir.Syntax.{w32}
+use mir.Val.{SFits}
+use Rattle.paper.specs.Points.{distance, joined, weigh, greatestOf}
+use Rattle.measure.proofs.Metric.{joined-most, weigh-most}
 use Rattle.measure.proofs.measured.Statement.{statement}
 use Rattle.measure.proofs.measured.Tie as tie
 
@@ -19,15 +22,19 @@ one-more : (m : Measure) (i at bt s : ℕ) (a b : List ℤ) → s ≡ distance m
 unfolding distance
 one-more m i at bt s a b e = rw (add-one, getD-drop, getD-drop, e)
 
+-- and no more than the greatest
+bounded-more : (m : Measure) (i s r : ℕ) (x y : ℤ) → r ≡ joined m s (weigh m x y) → SFits w32 x → SFits w32 y → s ≤ greatestOf m i → r ≤ greatestOf m (i + 1)
+bounded-more m i s r x y e hx hy h = rw (e, add-one i) (joined-most m i h (weigh-most m x y hx hy))
+
 abbrev Inv-loop : tie.InvT-loop
-Inv-loop m d a at b bt sum₀ i₀ sum i = (i ≤ d) × (sum ≡ distance m i (drop at a) (drop bt b)) × (sum ≤ i * 4294967295)
+Inv-loop m d a at b bt sum₀ i₀ sum i = (i ≤ d) × (sum ≡ distance m i (drop at a) (drop bt b)) × (sum ≤ i * 4294967295) × (sum ≤ greatestOf m i)
 
 abbrev μ-loop : tie.MeasureT-loop
 μ-loop m d a at b bt sum₀ i₀ sum i = d - i
 
 loop-holds : tie.Need-loop-holds Inv-loop μ-loop
 unfolding distance
-loop-holds c = (omega arith, refl, omega arith)
+loop-holds c = (omega arith, refl, omega arith, omega arith)
 
 add-with-one : tie.Need-add-with-one Inv-loop μ-loop
 add-with-one c = omega arith
@@ -59,21 +66,27 @@ loop-less c = omega arith
 loop-again : tie.Need-loop-again Inv-loop μ-loop
 loop-again c =
     let l = c .before .before .before .before .loop in
-    let g = c .before .before .before .before .before .args in (
+    let g = c .before .before .before .before .before .args in
+    let x : ℤ = getD (g .a .now) (g .at + l .i) (pos 0) in
+    let y : ℤ = getD (g .b .now) (g .bt + l .i) (pos 0) in
+    let hx : SFits w32 x = record { sfits = c .before .before .with-one-arg .given } in
+    let hy : SFits w32 y = record { sfits = c .before .with-one-arg2 .given } in
+    let is : c .with-one .result ≡ joined (g .m) (l .sum) (weigh (g .m) x y) =
+    c .with-one .ensures .0 ∙ same-args (λ (u v : ℤ). joined (g .m) (l .sum) (weigh (g .m) u v)) hx hy in (
       omega arith,
-      c .with-one .ensures .0
-          ∙ same-args {x = getD (g .a .now) (g .at + l .i) (pos 0)} {y = getD (g .b .now) (g .bt + l .i) (pos 0)}
-          (λ (x y : ℤ). joined (g .m) (l .sum) (weigh (g .m) x y))
-          (record { sfits = c .before .before .with-one-arg .given }) (record { sfits = c .before .with-one-arg2 .given })
-          ∙ one-more (g .m) (l .i) (g .at) (g .bt) (l .sum) (g .a .now) (g .b .now) (l .inv .1),
+      is ∙ one-more (g .m) (l .i) (g .at) (g .bt) (l .sum) (g .a .now) (g .b .now) (l .inv .1),
       omega (arith, c .with-one .ensures .1),
+      bounded-more (g .m) (l .i) (l .sum) _ x y is hx hy (l .inv .3),
     )
 
 returns : tie.Need-returns Inv-loop μ-loop
 returns c =
     let args = c .before .before .args in
     let loop = c .before .loop in
-    let e : loop .i ≡ args .d = omega arith in loop .inv .1 ∙ ap (λ (n : ℕ). distance (args .m) n (drop (args .at) (args .a .now)) (drop (args .bt) (args .b .now))) e
+    let e : loop .i ≡ args .d = omega arith in (
+      loop .inv .1 ∙ ap (λ (n : ℕ). distance (args .m) n (drop (args .at) (args .a .now)) (drop (args .bt) (args .b .now))) e,
+      subst (λ (n : ℕ). loop .sum ≤ greatestOf (args .m) n) e (loop .inv .3),
+    )
 
 pub measured-spec : {M : Type 1} → statement M
 measured-spec =

@@ -17,14 +17,14 @@ returns : tie.Need-returns
 unfolding farthestCall
 returns c =
     let s = store (c .before .before .before .before .args .t) (c .before .before .before .before .args .references .now) (c .before .before .before .before .args .coordinates .now) (c .before .before .before .before .args .nodes .now) in
-    ask-refused s (c .before .before .before .before .args .probe .now) _ (c .before .table-refusal .ensures) (farthestOf (tableQuery (s .table) Near (c .before .before .before .before .args .probe .now) 0) (claimsIn s)) (c .if1 .taken)
+    (ask-refused s (c .before .before .before .before .args .probe .now) _ (c .before .table-refusal .ensures) (farthestOf (tableQuery (s .table) Near (c .before .before .before .before .args .probe .now) 0) (claimsIn s)) (c .if1 .taken), tt)
 
 returns-2 : tie.Need-returns-2
 unfolding farthestCall
 returns-2 c =
     let args = c .before .before .before .before .before .before .args in
     let s = store (args .t) (args .references .now) (args .coordinates .now) (args .nodes .now) in
-    ask-5 s (args .probe .now) _ (c .before .before .before .table-refusal .ensures) (farthestOf (tableQuery (s .table) Near (args .probe .now) 0) (claimsIn s)) (c .before .before .if1 .left) (c .if2 .taken)
+    (ask-5 s (args .probe .now) _ (c .before .before .before .table-refusal .ensures) (farthestOf (tableQuery (s .table) Near (args .probe .now) 0) (claimsIn s)) (c .before .before .if1 .left) (c .if2 .taken), tt)
 
 farthest-requires : tie.Need-farthest-requires
 farthest-requires c κs =
@@ -36,7 +36,7 @@ unfolding farthestCall farthestOf
 returns-3 c =
     let args = c .before .before .before .before .before .before .before .args in
     let s = store (args .t) (args .references .now) (args .coordinates .now) (args .nodes .now) in
-    ask-answered s (args .probe .now) _ (c .before .before .before .before .table-refusal .ensures) (farthestOf (tableQuery (s .table) Near (args .probe .now) 0) (claimsIn s)) (c .before .before .before .if1 .left) (c .before .if2 .left) _ (c .farthest .ensures)
+    (ask-answered s (args .probe .now) _ (c .before .before .before .before .table-refusal .ensures) (farthestOf (tableQuery (s .table) Near (args .probe .now) 0) (claimsIn s)) (c .before .before .before .if1 .left) (c .before .if2 .left) _ (c .farthest .ensures .0), c .farthest .ensures .1)
 
 pub farthest-spec : {M : Type 1} → statement M
 farthest-spec =

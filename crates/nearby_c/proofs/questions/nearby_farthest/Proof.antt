@@ -12,7 +12,7 @@ item-of-requires : tie.Need-item-of-requires
 item-of-requires c κs = search needs
 
 returns : tie.Need-returns
-returns c = c .item-of .ensures ∙ ap itemOut (c .before .farthest .ensures)
+returns c = c .item-of .ensures ∙ ap itemOut (c .before .farthest .ensures .0)
 
 pub nearby-farthest-spec : {M : Type 1} → statement M
 nearby-farthest-spec = tie.close (tie.spec farthest-requires item-of-requires returns)

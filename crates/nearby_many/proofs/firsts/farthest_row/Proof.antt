@@ -44,7 +44,7 @@ unfolding farthestOf
 returns c =
     let a = c .before .before .before .before .before .before .before .before .before .args in
     let s = store (a .t) (a .references .now) (a .coordinates .now) (a .nodes .now) in
-    row-found (λ (p : List ℤ). farthestOf (tableQuery (s .table) Near p 0) (claimsIn s)) _ _ _ _ _ _ (c .before .before .before .before .farthest .ensures) (c .before .before .put-found .ensures)
+    row-found (λ (p : List ℤ). farthestOf (tableQuery (s .table) Near p 0) (claimsIn s)) _ _ _ _ _ _ (c .before .before .before .before .farthest .ensures .0) (c .before .before .put-found .ensures)
 
 pub farthest-row-spec : {M : Type 1} → statement M
 farthest-row-spec =

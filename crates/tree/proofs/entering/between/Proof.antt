@@ -24,7 +24,7 @@ distance-requires c κs =
 
 returns : tie.Need-returns
 unfolding apart
-returns c = c .distance .ensures
+returns c = c .distance .ensures .0
 
 pub between-spec : {M : Type 1} → statement M
 between-spec = tie.close (tie.spec mul-at mul-bt distance-requires returns)

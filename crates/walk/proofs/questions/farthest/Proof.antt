@@ -1,5 +1,6 @@
 -- `walk::questions::farthest` meets its contract. Assumes nothing.
 use Rattle.walk.proofs.Answers.{farthest-is}
+use Rattle.walk.proofs.Farthest.{farthest-just}
 use Rattle.paper.specs.Tree.{store}
 use borrow.Author.Needs.{needs}
 use Rattle.walk.proofs.questions.farthest.Statement.{statement}
@@ -15,7 +16,12 @@ first-requires : tie.Need-first-requires
 first-requires c κs = search needs
 
 returns : tie.Need-returns
-returns c = let a = c .before .before .before .before .before .args in farthest-is (store (a .t) (a .references .now) (a .coordinates .now) (a .nodes .now)) (a .probe .now) _ _ _ (c .before .before .numbered .ensures) (c .before .greatest .ensures) (c .first .ensures)
+returns c =
+    let start = c .before .before .before .before .before in
+    let a = start .args in
+    let s = store (a .t) (a .references .now) (a .coordinates .now) (a .nodes .now) in
+    let is = farthest-is s (a .probe .now) _ _ _ (c .before .before .numbered .ensures) (c .before .greatest .ensures) (c .first .ensures .0) in
+    (is, farthest-just s (a .probe .now) (start .pre) (c .first .ensures .1) _ is)
 
 pub farthest-spec : {M : Type 1} → statement M
 farthest-spec = tie.close (tie.spec numbered-requires greatest-requires first-requires returns)

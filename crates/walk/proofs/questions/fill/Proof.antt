@@ -1,5 +1,6 @@
 -- `walk::questions::fill` meets its contract. Assumes nothing.
 use Rattle.walk.proofs.Answers.{fill-ready, fill-done}
+use Rattle.walk.proofs.Farthest.{root-asked}
 use Rattle.paper.specs.Tree.{store}
 use borrow.Author.Needs.{needs}
 use Rattle.walk.proofs.questions.fill.Statement.{statement}
@@ -21,7 +22,11 @@ returns : tie.Need-returns
 returns c =
     let args = c .before .before .before .before .before .before .before .before .args in
     let pre = c .before .before .before .before .before .before .before .before .pre in
-    let a = args in fill-done (store (a .t) (a .references .now) (a .coordinates .now) (a .nodes .now)) (a .probe .now) (pre .0) _ _ _ _ _ (c .before .before .before .before .asked .ensures) _ (pre .1) _ _ (c .before .before .page .ensures)
+    let a = args in
+    let is = c .before .before .before .before .asked .ensures in (
+      fill-done (store (a .t) (a .references .now) (a .coordinates .now) (a .nodes .now)) (a .probe .now) (pre .0) _ _ _ _ _ is _ (pre .1) _ _ (c .before .before .page .ensures .0),
+      root-asked (a .t) _ _ _ _ _ (a .coordinates .now) (a .nodes .now) (a .probe .now) is (c .before .before .page .ensures .1),
+    )
 
 pub fill-spec : {M : Type 1} → statement M
 fill-spec = tie.close (tie.spec asked-requires page-requires same-length returns)

@@ -9,7 +9,7 @@ first-requires : tie.Need-first-requires
 first-requires c κs = search needs
 
 returns : tie.Need-returns
-returns c = let a = c .before .before .before .args in nearest-is (store (a .t) (a .references .now) (a .coordinates .now) (a .nodes .now)) (a .probe .now) _ (a .reach) (c .first .ensures)
+returns c = let a = c .before .before .before .args in nearest-is (store (a .t) (a .references .now) (a .coordinates .now) (a .nodes .now)) (a .probe .now) _ (a .reach) (c .first .ensures .0)
 
 pub nearest-spec : {M : Type 1} → statement M
 nearest-spec = tie.close (tie.spec first-requires returns)

@@ -11,7 +11,7 @@ same-length : tie.Need-same-length
 same-length c = search needs
 
 returns : tie.Need-returns
-returns c = page-is _ _ _ _ _ _ _ (c .before .before .fill .ensures)
+returns c = page-is _ _ _ _ _ _ _ (c .before .before .fill .ensures .0)
 
 pub page-of-spec : {M : Type 1} → statement M
 page-of-spec = tie.close (tie.spec fill-requires same-length returns)

@@ -10,6 +10,7 @@ use Rattle.paper.proofs.orders.Order.rank.Reads as rank-reads
 use Rattle.tree.proofs.nodes.field.Reads as field-reads
 use Rattle.walk.specs.Walking.{distBy, apartBy}
 use Rattle.walk.proofs.Skipping.{metric}
+use Rattle.walk.proofs.Farthest.{bounded-left}
 use Rattle.walk.proofs.Sides.{side-none, side-down}
 use Rattle.walk.proofs.Nodes.{node-one, node-left-first, node-right-first, stored-here, left-here, in-sight, way-ready, side-asked, leftAbove, node-falls, roomy-again}
 use Rattle.walk.proofs.walking.consider.Reads as consider-reads
@@ -89,10 +90,12 @@ node-returns : (t : ℕ) → node-lts.Need-returns (node-calls t) (node-at t) no
 node-returns t c =
     let one = c .before .before .before .before in
     let start = one .before .before .before .before .before .before .before in
-    let a = start .args in
-    node-one (a .ask) (a .references .now) (a .nodes .now) (apartBy (a .ask) (a .coordinates .now))
-    (distBy (a .ask) (a .coordinates .now) (a .probe .now)) _ _ _ _ (one .before .before .before .field .ensures) _ (c .before .field2 .ensures) _
-    (one .before .before .from-probe .ensures) _ _ (one .consider .ensures) (c .if1 .taken)
+    let a = start .args in (
+      node-one (a .ask) (a .references .now) (a .nodes .now) (apartBy (a .ask) (a .coordinates .now))
+          (distBy (a .ask) (a .coordinates .now) (a .probe .now)) _ _ _ _ (one .before .before .before .field .ensures) _ (c .before .field2 .ensures) _
+          (one .before .before .from-probe .ensures .0) _ _ (one .consider .ensures) (c .if1 .taken),
+      bounded-left (a .ask .measure) (a .ask .d) (a .coordinates .now) (a .probe .now) (a .nodes .now) (a .m) _ (one .before .before .before .field .ensures) (one .before .before .from-probe .ensures .1),
+    )
 
 node-sub-kr : (t : ℕ) → node-lts.Need-sub-kr (node-calls t) (node-at t) node.Post
 node-sub-kr t c = let h = c .if1 .left in omega arith
@@ -167,14 +170,16 @@ node-returns-2 t c =
     let one = two .before .before .before .before .before .before .before in
     let start = one .before .before .before .before .before .before .before in
     let a = start .args in
-    let p = start .pre .1 in
-    node-right-first (a .ask) (a .references .now) (a .nodes .now) (apartBy (a .ask) (a .coordinates .now))
-    (distBy (a .ask) (a .coordinates .now) (a .probe .now)) _ _ _ _ (one .before .before .before .field .ensures) _
-    (two .before .before .before .before .field2 .ensures) _ (one .before .before .from-probe .ensures) _ _ (one .consider .ensures) _
-    (two .before .before .from-probe2 .ensures) _ _ (two .consider2 .ensures) _ _ _ _ (metric (a .ask) (a .coordinates .now) (a .probe .now))
-    (p .roomy .some) _ (three .before .before .before .before .before .before .rank .ensures) _
-    (three .before .before .before .before .before .rank2 .ensures) _ _ (three .before .before .way-down .ensures) (three .side .ensures)
-    (c .before .before .before .before .way-down2 .ensures) (c .before .before .side2 .ensures)
+    let p = start .pre .1 in (
+      node-right-first (a .ask) (a .references .now) (a .nodes .now) (apartBy (a .ask) (a .coordinates .now))
+          (distBy (a .ask) (a .coordinates .now) (a .probe .now)) _ _ _ _ (one .before .before .before .field .ensures) _
+          (two .before .before .before .before .field2 .ensures) _ (one .before .before .from-probe .ensures .0) _ _ (one .consider .ensures) _
+          (two .before .before .from-probe2 .ensures .0) _ _ (two .consider2 .ensures) _ _ _ _ (metric (a .ask) (a .coordinates .now) (a .probe .now))
+          (p .roomy .some) _ (three .before .before .before .before .before .before .rank .ensures) _
+          (three .before .before .before .before .before .rank2 .ensures) _ _ (three .before .before .way-down .ensures) (three .side .ensures)
+          (c .before .before .before .before .way-down2 .ensures) (c .before .before .side2 .ensures),
+      bounded-left (a .ask .measure) (a .ask .d) (a .coordinates .now) (a .probe .now) (a .nodes .now) (a .m) _ (one .before .before .before .field .ensures) (one .before .before .from-probe .ensures .1),
+    )
 
 node-way-down-requires-3 : (t : ℕ) → node-lts.Need-way-down-requires-3 (node-calls t) (node-at t) node.Post
 node-way-down-requires-3 t c κs =
@@ -224,14 +229,16 @@ node-returns-3 t c =
     let one = two .before .before .before .before .before .before .before in
     let start = one .before .before .before .before .before .before .before in
     let a = start .args in
-    let p = start .pre .1 in
-    node-left-first (a .ask) (a .references .now) (a .nodes .now) (apartBy (a .ask) (a .coordinates .now))
-    (distBy (a .ask) (a .coordinates .now) (a .probe .now)) _ _ _ _ (one .before .before .before .field .ensures) _
-    (two .before .before .before .before .field2 .ensures) _ (one .before .before .from-probe .ensures) _ _ (one .consider .ensures) _
-    (two .before .before .from-probe2 .ensures) _ _ (two .consider2 .ensures) _ _ _ _ (metric (a .ask) (a .coordinates .now) (a .probe .now))
-    (p .roomy .some) _ (three .before .before .before .before .before .before .rank .ensures) _
-    (three .before .before .before .before .before .rank2 .ensures) _ _ (three .before .before .way-down3 .ensures) (three .side3 .ensures)
-    (c .before .before .before .before .way-down4 .ensures) (c .before .before .side4 .ensures)
+    let p = start .pre .1 in (
+      node-left-first (a .ask) (a .references .now) (a .nodes .now) (apartBy (a .ask) (a .coordinates .now))
+          (distBy (a .ask) (a .coordinates .now) (a .probe .now)) _ _ _ _ (one .before .before .before .field .ensures) _
+          (two .before .before .before .before .field2 .ensures) _ (one .before .before .from-probe .ensures .0) _ _ (one .consider .ensures) _
+          (two .before .before .from-probe2 .ensures .0) _ _ (two .consider2 .ensures) _ _ _ _ (metric (a .ask) (a .coordinates .now) (a .probe .now))
+          (p .roomy .some) _ (three .before .before .before .before .before .before .rank .ensures) _
+          (three .before .before .before .before .before .rank2 .ensures) _ _ (three .before .before .way-down3 .ensures) (three .side3 .ensures)
+          (c .before .before .before .before .way-down4 .ensures) (c .before .before .side4 .ensures),
+      bounded-left (a .ask .measure) (a .ask .d) (a .coordinates .now) (a .probe .now) (a .nodes .now) (a .m) _ (one .before .before .before .field .ensures) (one .before .before .from-probe .ensures .1),
+    )
 
 side-returns : (t : ℕ) → side-lts.Need-returns (side-calls t) (side-at t) side.Post
 side-returns t c =
@@ -259,7 +266,7 @@ side-returns-2 t c =
     let start = c .before .before .before .before .before .before .before .before in
     let a = start .args in
     side-down (a .ask) (a .references .now) (a .nodes .now) (apartBy (a .ask) (a .coordinates .now))
-    (distBy (a .ask) (a .coordinates .now) (a .probe .now)) _ _ _ _ _ (c .before .before .node .ensures)
+    (distBy (a .ask) (a .coordinates .now) (a .probe .now)) _ _ _ _ _ (c .before .before .node .ensures .0)
 
 pub +node+side-spec : {M : Type 1} → statement M
 +node+side-spec =

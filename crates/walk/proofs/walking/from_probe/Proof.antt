@@ -1,4 +1,7 @@
 -- `walk::walking::from_probe` meets its contract. Assumes nothing.
+use Prim.Native.Nat.{ℕ, _≤_}
+use mathlib.Core.Path.{subst}
+use Rattle.paper.specs.Points.{measureOf, greatestOf}
 use Rattle.walk.specs.Walking.{distOf}
 use borrow.Author.Needs.{needs}
 use Rattle.walk.proofs.walking.from_probe.Statement.{statement}
@@ -12,7 +15,9 @@ distance-requires c κs = search needs
 
 returns : tie.Need-returns
 unfolding distOf
-returns c = c .distance .ensures
+returns c =
+    let a = c .before .args in
+    (c .distance .ensures .0, subst (λ (x : ℕ). x ≤ greatestOf (measureOf (a .measure)) (a .d)) (c .distance .ensures .0) (c .distance .ensures .1))
 
 pub from-probe-spec : {M : Type 1} → statement M
 from-probe-spec = tie.close (tie.spec mul-distance distance-requires returns)
