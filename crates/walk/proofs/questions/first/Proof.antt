@@ -12,7 +12,10 @@ fill-requires : tie.Need-fill-requires
 fill-requires c κs = search needs
 
 returns : tie.Need-returns
-returns c = let a = c .before .before .before .before .before .before .args in (first-none (store (a .t) (a .references .now) (a .coordinates .now) (a .nodes .now)) (a .order) (a .probe .now) (a .reach) _ _ _ (c .before .before .fill .ensures .0) (c .if1 .taken), c .before .before .fill .ensures .1)
+returns c =
+    let a = c .before .before .before .before .before .before .args in
+    let filled = c .before .before .fill in
+    (first-none (store (a .t) (a .references .now) (a .coordinates .now) (a .nodes .now)) (a .order) (a .probe .now) (a .reach) _ _ _ (filled .ensures .0) (c .if1 .taken), filled .ensures .1)
 
 array-read-t16 : tie.Need-array-read-t16
 array-read-t16 c = search needs
@@ -24,7 +27,10 @@ array-read-t22 : tie.Need-array-read-t22
 array-read-t22 c = search needs
 
 returns-2 : tie.Need-returns-2
-returns-2 c = let a = c .before .before .before .before .before .before .args in (first-some (store (a .t) (a .references .now) (a .coordinates .now) (a .nodes .now)) (a .order) (a .probe .now) (a .reach) _ _ _ (c .before .before .fill .ensures .0) (c .if1 .left), c .before .before .fill .ensures .1)
+returns-2 c =
+    let a = c .before .before .before .before .before .before .args in
+    let filled = c .before .before .fill in
+    (first-some (store (a .t) (a .references .now) (a .coordinates .now) (a .nodes .now)) (a .order) (a .probe .now) (a .reach) _ _ _ (filled .ensures .0) (c .if1 .left), filled .ensures .1)
 
 pub first-spec : {M : Type 1} → statement M
 first-spec =
