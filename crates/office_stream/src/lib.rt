@@ -1,4 +1,4 @@
-// The office on standard input and output. What it says to its lines is proved in `serve`; [10.12] here they are read in large
+// The office on standard input and output. What it says to its lines is proved in `office_serve`; [10.12] here they are read in large
 // chunks, and whatever was said is written before the next read, so that the office can be talked to through a pipe.
 use libc::STDIN_FILENO;
 use libc::STDOUT_FILENO;

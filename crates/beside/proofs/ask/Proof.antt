@@ -1,4 +1,4 @@
--- `scan_beside::ask` is safe: what is asked was tested. Assumes nothing.
+-- `beside::ask` is safe: what is asked was tested. Assumes nothing.
 use Rattle.beside.proofs.ask.Statement.{statement}
 use Rattle.beside.proofs.ask.Tie as tie
 

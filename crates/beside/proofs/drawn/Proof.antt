@@ -1,4 +1,4 @@
--- `scan_beside::drawn` meets its contract: the snapshot is that of the whole table, or below it. Assumes nothing.
+-- `beside::drawn` meets its contract: the snapshot is that of the whole table, or below it. Assumes nothing.
 use lib.Dec.{lit<}
 use borrow.Author.Needs.{needs}
 use Rattle.beside.proofs.DrawnQuestions.{start-drawn, mark-drawn}

@@ -1,4 +1,4 @@
--- `scan_beside::firsts_beside` is safe. Assumes nothing.
+-- `beside::firsts_beside` is safe. Assumes nothing.
 use Rattle.beside.proofs.DrawnQuestions.{start-scanned}
 use Rattle.beside.proofs.firsts_beside.Statement.{statement}
 use Rattle.beside.proofs.firsts_beside.Tie as tie

@@ -1,4 +1,4 @@
--- `scan_beside::page_beside` is safe. Assumes nothing.
+-- `beside::page_beside` is safe. Assumes nothing.
 use mathlib.Core.Path.{refl}
 use borrow.Author.Needs.{needs}
 use Rattle.beside.proofs.DrawnQuestions.{drawn-scanned, pageable}

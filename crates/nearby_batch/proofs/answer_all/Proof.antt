@@ -1,4 +1,4 @@
--- `batch::answer_all` meets its contract: 12, 1, 2, and then line after line. Assumes nothing.
+-- `nearby_batch::answer_all` meets its contract: 12, 1, 2, and then line after line. Assumes nothing.
 use Rattle.paper.specs.Tree.{store}
 use Rattle.nearby_batch.proofs.Whole.{all-12, all-refused, all-answered}
 use borrow.Author.Needs.{needs}

@@ -1,4 +1,4 @@
--- `cut::cut` meets its contract: what is left to cut stays the same. Assumes nothing.
+-- `office_cut::cut` meets its contract: what is left to cut stays the same. Assumes nothing.
 use Prim.Native.Nat.{_-_}
 use mathlib.Core.Path.{_≡_, refl, sym, _∙_}
 use native.Mathlib.Omega.{arith}

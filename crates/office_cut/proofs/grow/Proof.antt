@@ -1,4 +1,4 @@
--- `cut::grow` meets its contract. Assumes nothing.
+-- `office_cut::grow` meets its contract. Assumes nothing.
 use Rattle.office_cut.proofs.Laws.{longer-more, longer-same}
 use borrow.Author.Needs.{needs}
 use Rattle.office_cut.proofs.grow.Statement.{statement}

@@ -1,4 +1,4 @@
--- `cut::keep` meets its contract. Assumes nothing.
+-- `office_cut::keep` meets its contract. Assumes nothing.
 use mathlib.Core.Path.{sym}
 use lib.Seq.{set-out}
 use borrow.Author.Needs.{needs}

@@ -1,4 +1,4 @@
--- `stream::emptied` meets its contract: what was handed over is all that was written. Assumes nothing.
+-- `office_stream::emptied` meets its contract: what was handed over is all that was written. Assumes nothing.
 use mathlib.Core.Path.{ap}
 use native.Mathlib.Omega.{arith}
 use lib.ListN.{length, length-take}

@@ -1,4 +1,4 @@
--- `stream::end_input` meets its contract: all that `finish` wrote is handed over. Assumes nothing.
+-- `office_stream::end_input` meets its contract: all that `finish` wrote is handed over. Assumes nothing.
 use borrow.Author.Needs.{needs}
 use Rattle.office_stream.proofs.ProgramLoops.{ready-anew, ended-says}
 use Rattle.office_stream.proofs.end_input.Statement.{statement}

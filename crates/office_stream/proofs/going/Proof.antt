@@ -1,4 +1,4 @@
--- `stream::going` meets its contract. Assumes nothing.
+-- `office_stream::going` meets its contract. Assumes nothing.
 use borrow.Author.Tests.{ltb-true}
 use Rattle.office_serve.proofs.Moves.{never}
 use Rattle.office_stream.proofs.going.Statement.{statement}

@@ -1,4 +1,4 @@
--- `stream::hand_over` meets its contract: the front of the room is handed over. Assumes nothing.
+-- `office_stream::hand_over` meets its contract: the front of the room is handed over. Assumes nothing.
 use Prim.Native.Nat.{ℕ, _-_}
 use mathlib.Core.Path.{_≡_, ap}
 use native.Mathlib.Omega.{arith}

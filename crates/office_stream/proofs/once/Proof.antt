@@ -1,4 +1,4 @@
--- `stream::once` meets its contract: what was read is a chunk that was taken. Assumes nothing.
+-- `office_stream::once` meets its contract: what was read is a chunk that was taken. Assumes nothing.
 use borrow.Author.Needs.{needs}
 use Rattle.office_stream.proofs.once.Statement.{statement}
 use Rattle.office_stream.proofs.once.Tie as tie

@@ -1,4 +1,4 @@
--- `stream::pump` meets its contract: the chunk is read to its end, or no line is left. Assumes nothing.
+-- `office_stream::pump` meets its contract: the chunk is read to its end, or no line is left. Assumes nothing.
 use Prim.Native.Nat.{_-_}
 use mathlib.Core.Path.{_≡_, ap}
 use native.Mathlib.Omega.{arith}

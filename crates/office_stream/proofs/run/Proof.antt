@@ -1,4 +1,4 @@
--- `stream::run` meets its contract: at every read a session from the first byte stands in the memory. Assumes nothing.
+-- `office_stream::run` meets its contract: at every read a session from the first byte stands in the memory. Assumes nothing.
 use mathlib.Core.Path.{_≡_, refl, _∙_}
 use native.Mathlib.Omega.{arith}
 use lib.ListN.{length}

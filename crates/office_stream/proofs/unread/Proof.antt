@@ -1,4 +1,4 @@
--- `stream::unread` meets its contract. Assumes nothing.
+-- `office_stream::unread` meets its contract. Assumes nothing.
 use mathlib.Core.Path.{sym}
 use mathlib.Core.Logic.{inl, inr}
 use native.Mathlib.Omega.{arith}

@@ -1,4 +1,4 @@
--- `keep::admits` meets its contract. Assumes nothing.
+-- `walk_keep::admits` meets its contract. Assumes nothing.
 use Rattle.walk_keep.proofs.Leaves.{late, away, marked, fine}
 use borrow.Author.Needs.{needs}
 use Rattle.walk_keep.proofs.admits.Statement.{statement}

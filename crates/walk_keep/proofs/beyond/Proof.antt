@@ -1,4 +1,4 @@
--- `keep::beyond` meets its contract. Assumes nothing.
+-- `walk_keep::beyond` meets its contract. Assumes nothing.
 use Rattle.walk_keep.proofs.Leaves.{beyond-near, beyond-half}
 use borrow.Author.Needs.{needs}
 use Rattle.walk_keep.proofs.beyond.Statement.{statement}

@@ -1,4 +1,4 @@
--- `keep::halfway` meets its contract. Assumes nothing.
+-- `walk_keep::halfway` meets its contract. Assumes nothing.
 use native.Mathlib.Omega.{arith}
 use Rattle.walk_keep.proofs.Leaves.{half-far, half-short, half-left, half-right}
 use borrow.Author.Needs.{needs}

@@ -1,4 +1,4 @@
--- `keep::held` meets its contract. Assumes nothing.
+-- `walk_keep::held` meets its contract. Assumes nothing.
 use borrow.Author.Tests.{lt-ltb, le-ltb}
 use Rattle.walk_keep.specs.Kept.{heldAt}
 use borrow.Author.Needs.{needs}

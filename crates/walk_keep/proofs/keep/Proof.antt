@@ -1,4 +1,4 @@
--- `keep::keep` meets its contract. Assumes nothing.
+-- `walk_keep::keep` meets its contract. Assumes nothing.
 use Rattle.walk_keep.proofs.Positions.{keep-full, keep-same, keep-more, keep-over}
 use borrow.Author.Needs.{needs}
 use Rattle.walk_keep.proofs.keep.Statement.{statement}

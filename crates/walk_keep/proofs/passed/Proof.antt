@@ -1,4 +1,4 @@
--- `keep::passed` meets its contract. Assumes nothing.
+-- `walk_keep::passed` meets its contract. Assumes nothing.
 use Rattle.walk_keep.proofs.Leaves.{passed-mark, passed-none}
 use borrow.Author.Needs.{needs}
 use Rattle.walk_keep.proofs.passed.Statement.{statement}

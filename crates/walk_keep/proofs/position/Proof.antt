@@ -1,4 +1,4 @@
--- `keep::position` meets its contract. The loop goes down from the last item: none from i on comes before the new one. Assumes nothing.
+-- `walk_keep::position` meets its contract. The loop goes down from the last item: none from i on comes before the new one. Assumes nothing.
 use native.Mathlib.Omega.{arith}
 use Rattle.walk_keep.proofs.ItemPosition.{NoneBefore, behind-start, behind-turn, position-found, position-none}
 use Rattle.walk_keep.proofs.position.Statement.{statement}

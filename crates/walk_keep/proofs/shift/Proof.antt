@@ -1,4 +1,4 @@
--- `keep::shift` meets its contract. What is left to move, moved, gives the whole. Assumes nothing.
+-- `walk_keep::shift` meets its contract. What is left to move, moved, gives the whole. Assumes nothing.
 use Prim.Native.Nat.{_-_}
 use native.Mathlib.Omega.{arith}
 use Rattle.walk_keep.proofs.Moving.{Shifting, shifting-start, shifting-turn, shifting-done}

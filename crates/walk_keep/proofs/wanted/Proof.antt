@@ -1,4 +1,4 @@
--- `keep::wanted` meets its contract. Assumes nothing.
+-- `walk_keep::wanted` meets its contract. Assumes nothing.
 use Rattle.walk_keep.proofs.Leaves.{wanted-near, wanted-far, wanted-last}
 use borrow.Author.Needs.{needs}
 use Rattle.walk_keep.proofs.wanted.Statement.{statement}

@@ -1,4 +1,4 @@
--- `tested::page_here` meets its contract: refused before anything is written, or the walk's page. Assumes nothing.
+-- `walk_tested::page_here` meets its contract: refused before anything is written, or the walk's page. Assumes nothing.
 use Rattle.paper.specs.Tree.{store}
 use Rattle.walk_tested.proofs.PageLaws.{page-refuses, page-answerable, page-pageable, page-filled}
 use borrow.Author.Needs.{needs}

@@ -1,4 +1,4 @@
--- `tested::place_refusal` meets its contract: 7, 8, 12. Assumes nothing.
+-- `walk_tested::place_refusal` meets its contract: 7, 8, 12. Assumes nothing.
 use Rattle.paper.specs.Tree.{store}
 use Rattle.walk_tested.proofs.PageLaws.{page-7, page-markable, page-8, page-12, page-0}
 use borrow.Author.Needs.{needs}

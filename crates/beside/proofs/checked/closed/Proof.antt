@@ -1,4 +1,4 @@
--- `scan_beside::checked::closed` meets its contract. Assumes nothing.
+-- `beside::checked::closed` meets its contract. Assumes nothing.
 use mathlib.Core.Path.{_≡_, sym, _∙_}
 use mathlib.Core.Bool.{Bool, false, not}
 use native.Mathlib.Omega.{arith}

@@ -1,4 +1,4 @@
--- `scan_beside::scan::agreed` is safe, and ends. Assumes nothing.
+-- `beside::scan::agreed` is safe, and ends. Assumes nothing.
 use Prim.Native.Nat.{_-_, _≤_}
 use Rattle.paper.specs.Limits.{mostPage}
 use borrow.Author.Needs.{needs}

@@ -1,4 +1,4 @@
--- `scan_beside::scan::untouched` is safe, and ends. Assumes nothing.
+-- `beside::scan::untouched` is safe, and ends. Assumes nothing.
 use Prim.Native.Nat.{_-_, _≤_}
 use Rattle.paper.specs.Limits.{itemRoom}
 use borrow.Author.Needs.{needs}

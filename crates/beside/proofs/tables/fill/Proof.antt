@@ -1,4 +1,4 @@
--- `scan_beside::tables::fill` is safe, and ends. Assumes nothing.
+-- `beside::tables::fill` is safe, and ends. Assumes nothing.
 use Prim.Native.Nat.{_-_, _≤_}
 use mathlib.Core.Path.{_≡_}
 use lib.ListN.{length}

@@ -1,4 +1,4 @@
--- `scan_beside::tables::pick` meets its contract. Assumes nothing.
+-- `beside::tables::pick` meets its contract. Assumes nothing.
 use native.Mathlib.Nat.{mod-lt}
 use borrow.Author.Needs.{needs}
 use Rattle.beside.proofs.tables.pick.Statement.{statement}

@@ -1,4 +1,4 @@
--- `desk::answers::answer_ask` meets its contract: 11, or the answer to an ask that is about this table. Assumes nothing.
+-- `end_office::answers::answer_ask` meets its contract: 11, or the answer to an ask that is about this table. Assumes nothing.
 use Rattle.paper.specs.Tree.{store}
 use Rattle.end_office.proofs.AnswerToAsk.{ask-11, ask-here, ask-ready}
 use borrow.Author.Needs.{needs}

@@ -1,4 +1,4 @@
--- `desk::answers::answer_here` meets its contract: 7, 8, or the page. Assumes nothing.
+-- `end_office::answers::answer_here` meets its contract: 7, 8, or the page. Assumes nothing.
 use Prim.Native.Nat.{_<_}
 use native.Mathlib.Omega.{arith}
 use mathlib.Core.Path.{sym}

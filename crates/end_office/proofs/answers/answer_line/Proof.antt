@@ -1,4 +1,4 @@
--- `desk::answers::answer_line` meets its contract: the reader's number, or the answer to its ask. Assumes nothing.
+-- `end_office::answers::answer_line` meets its contract: the reader's number, or the answer to its ask. Assumes nothing.
 use Rattle.paper.specs.Tree.{store}
 use Rattle.end_office.proofs.AnswerToAsk.{read-is, line-refused, line-answered}
 use borrow.Author.Needs.{needs}

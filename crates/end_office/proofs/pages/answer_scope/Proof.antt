@@ -1,4 +1,4 @@
--- `desk::pages::answer_scope` meets its contract. Assumes nothing.
+-- `end_office::pages::answer_scope` meets its contract. Assumes nothing.
 use Rattle.end_office.proofs.PageLines.{scope-start, scope-after}
 use Rattle.end_office.proofs.pages.answer_scope.Statement.{statement}
 use Rattle.end_office.proofs.pages.answer_scope.Tie as tie

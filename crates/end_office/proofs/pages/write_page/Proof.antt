@@ -1,4 +1,4 @@
--- `desk::pages::write_page` meets its contract: the page fits a line, and its line is written. Assumes nothing.
+-- `end_office::pages::write_page` meets its contract: the page fits a line, and its line is written. Assumes nothing.
 use Prim.Native.Nat.{_<_}
 use mathlib.Core.Path.{refl, sym}
 use native.Mathlib.Omega.{arith}

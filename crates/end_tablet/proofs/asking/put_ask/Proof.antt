@@ -1,4 +1,4 @@
--- `tablet::asking::put_ask` meets its contract: the line that the writer writes is that of the present ask. Assumes nothing.
+-- `end_tablet::asking::put_ask` meets its contract: the line that the writer writes is that of the present ask. Assumes nothing.
 use Prim.Native.Nat.{_<_}
 use lib.ListN.{length}
 use Rattle.end_tablet.proofs.EndLaws.{ask-written}

@@ -1,4 +1,4 @@
--- `tablet::asking::write_ask` meets its contract, a law for each way. Assumes nothing.
+-- `end_tablet::asking::write_ask` meets its contract, a law for each way. Assumes nothing.
 use Rattle.end_tablet.proofs.EndLaws.{ask-16, ask-6, ask-some, ask-12, ask-put}
 use Rattle.end_tablet.proofs.TakeLaws.{sound-asks}
 use borrow.Author.Needs.{needs}

@@ -1,4 +1,4 @@
--- `tablet::items::is_after` meets its contract: its two arms are the definition's. Assumes nothing.
+-- `end_tablet::items::is_after` meets its contract: its two arms are the definition's. Assumes nothing.
 use mathlib.Core.Path.{sym, ap, _∙_}
 use Rattle.paper.specs.declared.orders.Place.{Place}
 use Rattle.paper.specs.Orders.{follows}

@@ -1,4 +1,4 @@
--- `tablet::items::item_holds` meets its contract, a law for each way. Assumes nothing.
+-- `end_tablet::items::item_holds` meets its contract, a law for each way. Assumes nothing.
 use Rattle.end_tablet.proofs.ItemLaws.{way-reach, way-snapshot, way-mark, way-next, way-last}
 use borrow.Author.Needs.{needs}
 use Rattle.end_tablet.proofs.items.item_holds.Statement.{statement}

@@ -1,4 +1,4 @@
--- `tablet::items::items_hold` meets its contract: what was seen of the items from i on is what one pass over them gives. Assumes nothing.
+-- `end_tablet::items::items_hold` meets its contract: what was seen of the items from i on is what one pass over them gives. Assumes nothing.
 use Prim.Native.Nat.{_+_, _-_, _*_, _≤_}
 use mathlib.Core.Path.{_≡_}
 use native.Mathlib.Omega.{arith}

@@ -1,4 +1,4 @@
--- `tablet::lists::is_sound` meets its contract: fields and items together are the definition. Assumes nothing.
+-- `end_tablet::lists::is_sound` meets its contract: fields and items together are the definition. Assumes nothing.
 use Rattle.end_tablet.proofs.ListLaws.{unsound-fields, fields-few, sound-items}
 use borrow.Author.Needs.{needs}
 use Rattle.end_tablet.proofs.lists.is_sound.Statement.{statement}

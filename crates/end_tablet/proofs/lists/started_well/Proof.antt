@@ -1,4 +1,4 @@
--- `tablet::lists::started_well` meets its contract: its tests are the definition's. Assumes nothing.
+-- `end_tablet::lists::started_well` meets its contract: its tests are the definition's. Assumes nothing.
 use borrow.Author.Tests.{le-leb, lt-leb, eq-eqb, ne-eqb}
 use Rattle.end_tablet.specs.Holding.{startedBy}
 use Rattle.end_tablet.proofs.lists.started_well.Statement.{statement}

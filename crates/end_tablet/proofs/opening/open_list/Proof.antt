@@ -1,4 +1,4 @@
--- `tablet::opening::open_list` meets its contract, a law for each way. Assumes nothing.
+-- `end_tablet::opening::open_list` meets its contract, a law for each way. Assumes nothing.
 use Rattle.end_tablet.proofs.EndLaws.{open-1, open-5, open-list, open-narrow}
 use borrow.Author.Needs.{needs}
 use Rattle.end_tablet.proofs.opening.open_list.Statement.{statement}

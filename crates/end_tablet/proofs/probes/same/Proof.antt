@@ -1,4 +1,4 @@
--- `tablet::probes::same` meets its contract: no gap is between equal coordinates alone. Assumes nothing.
+-- `end_tablet::probes::same` meets its contract: no gap is between equal coordinates alone. Assumes nothing.
 use Prim.Native.Nat.{ℕ}
 use mathlib.Core.Path.{ap, _∙_}
 use lib.Dec.{eqb}

@@ -1,4 +1,4 @@
--- `tablet::probes::same_probe` meets its contract: after i turns it is known whether the first i coordinates are the same. Assumes nothing.
+-- `end_tablet::probes::same_probe` meets its contract: after i turns it is known whether the first i coordinates are the same. Assumes nothing.
 use Prim.Native.Nat.{_-_, _≤_}
 use mathlib.Core.Path.{_≡_, refl, _∙_}
 use native.Mathlib.Omega.{arith}

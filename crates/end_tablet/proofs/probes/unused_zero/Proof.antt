@@ -1,4 +1,4 @@
--- `tablet::probes::unused_zero` meets its contract: what was seen of the slots from i on is whether they hold 0. Assumes nothing.
+-- `end_tablet::probes::unused_zero` meets its contract: what was seen of the slots from i on is whether they hold 0. Assumes nothing.
 use Prim.Native.Nat.{_+_, _-_, _≤_}
 use mathlib.Core.Path.{_≡_, _∙_}
 use native.Mathlib.Omega.{arith}

@@ -1,4 +1,4 @@
--- `tablet::taking::join_page` meets its contract: the page has room for sixteen items. Assumes nothing.
+-- `end_tablet::taking::join_page` meets its contract: the page has room for sixteen items. Assumes nothing.
 use Prim.Native.Nat.{_-_, _<_}
 use native.Mathlib.Omega.{arith}
 use lib.ListN.{length}

@@ -1,4 +1,4 @@
--- `tablet::taking::page_holds` meets its contract: its items in one pass, and none only as the last. Assumes nothing.
+-- `end_tablet::taking::page_holds` meets its contract: its items in one pass, and none only as the last. Assumes nothing.
 use Prim.Native.Nat.{_-_, _<_}
 use native.Mathlib.Omega.{arith}
 use lib.ListN.{length}

@@ -1,4 +1,4 @@
--- `tablet::taking::probes_alike` meets its contract: both probes have eight slots. Assumes nothing.
+-- `end_tablet::taking::probes_alike` meets its contract: both probes have eight slots. Assumes nothing.
 use Prim.Native.Nat.{_<_}
 use native.Mathlib.Omega.{arith}
 use lib.ListN.{length}

@@ -1,4 +1,4 @@
--- `tablet::taking::same_place` meets its contract, a law for each way. Assumes nothing.
+-- `end_tablet::taking::same_place` meets its contract, a law for each way. Assumes nothing.
 use Rattle.end_tablet.proofs.PresentAsk.{place-start, place-from, place-snapshot, place-distance, place-number}
 use Rattle.end_tablet.proofs.taking.same_place.Statement.{statement}
 use Rattle.end_tablet.proofs.taking.same_place.Tie as tie

@@ -1,4 +1,4 @@
--- `tablet::taking::same_query` meets its contract, a law for each way. Assumes nothing.
+-- `end_tablet::taking::same_query` meets its contract, a law for each way. Assumes nothing.
 use Rattle.end_tablet.proofs.PresentAsk.{query-table, query-measure, query-d, query-probe, query-reach}
 use borrow.Author.Needs.{needs}
 use Rattle.end_tablet.proofs.taking.same_query.Statement.{statement}

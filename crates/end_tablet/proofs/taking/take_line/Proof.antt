@@ -1,4 +1,4 @@
--- `tablet::taking::take_line` meets its contract: a line that does not read, or an answer taken. Assumes nothing.
+-- `end_tablet::taking::take_line` meets its contract: a line that does not read, or an answer taken. Assumes nothing.
 use Rattle.end_tablet.proofs.EndLaws.{take-unread, take-read, read-few, taken-same}
 use Rattle.end_tablet.proofs.TakeLaws.{takes-refused}
 use borrow.Author.Needs.{needs}

@@ -1,4 +1,4 @@
--- `tablet::taking::to_present` meets its contract: the same query, and the same place. Assumes nothing.
+-- `end_tablet::taking::to_present` meets its contract: the same query, and the same place. Assumes nothing.
 use Rattle.paper.proofs.Ranges.{range-is}
 use Rattle.end_tablet.proofs.PresentAsk.{present-query, present-place}
 use borrow.Author.Needs.{needs}

@@ -1,4 +1,4 @@
--- `digits::hex::frame_of` meets its contract: a sound line has a byte at least, and its frame fits the buffer. Assumes nothing.
+-- `line_digits::hex::frame_of` meets its contract: a sound line has a byte at least, and its frame fits the buffer. Assumes nothing.
 use Prim.Native.Nat.{ℕ, _+_, _/_, _<_}
 use mathlib.Core.Path.{_≡_, sym, ap, _∙_}
 use mathlib.Core.Bool.{true, false, _&&_}

@@ -1,4 +1,4 @@
--- `fields::queries::padded` meets its contract: after i turns the first i coordinates stand in their slots. Assumes nothing.
+-- `line_fields::queries::padded` meets its contract: after i turns the first i coordinates stand in their slots. Assumes nothing.
 use Prim.Native.Nat.{_+_, _-_, _≤_}
 use mathlib.Core.Path.{_≡_, refl, ap, _∙_}
 use mathlib.Core.List.{List, _++_}

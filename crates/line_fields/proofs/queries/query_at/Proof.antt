@@ -1,4 +1,4 @@
--- `fields::queries::query_at` meets its contract: the fields stand where a frame has them. Assumes nothing.
+-- `line_fields::queries::query_at` meets its contract: the fields stand where a frame has them. Assumes nothing.
 use Rattle.paper.specs.Lines.{queryAt}
 use Rattle.line_fields.proofs.Round.{behind-eq}
 use borrow.Author.Needs.{needs}

@@ -1,4 +1,4 @@
--- `fields::queries::query_fits` meets its contract: eight slots are enough for any d in range. Assumes nothing.
+-- `line_fields::queries::query_fits` meets its contract: eight slots are enough for any d in range. Assumes nothing.
 use Prim.Native.Nat.{_≤_, _<_}
 use native.Mathlib.Omega.{arith}
 use mathlib.Core.Path.{_≡_, refl, sym}

@@ -1,4 +1,4 @@
--- `fields::queries::query_of` meets its contract. Assumes nothing.
+-- `line_fields::queries::query_of` meets its contract. Assumes nothing.
 use Rattle.paper.specs.Fields.{queryInSlots}
 use borrow.Author.Needs.{needs}
 use Rattle.line_fields.proofs.queries.query_of.Statement.{statement}

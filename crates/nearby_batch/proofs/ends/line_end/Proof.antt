@@ -1,4 +1,4 @@
--- `batch::ends::line_end` meets its contract: what is left of the line stays the same. Assumes nothing.
+-- `nearby_batch::ends::line_end` meets its contract: what is left of the line stays the same. Assumes nothing.
 use Prim.Native.Nat.{_+_, _-_, _≤_}
 use mathlib.Core.Path.{_≡_, refl}
 use native.Mathlib.Omega.{arith}

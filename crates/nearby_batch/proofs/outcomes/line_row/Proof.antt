@@ -1,4 +1,4 @@
--- `batch::outcomes::line_row` meets its contract, a case for each variant. Assumes nothing.
+-- `nearby_batch::outcomes::line_row` meets its contract, a case for each variant. Assumes nothing.
 use mathlib.Core.Path.{sym, ap}
 use Rattle.nearby_batch.specs.Batch.{rowShown}
 use borrow.Author.Needs.{needs}

@@ -1,4 +1,4 @@
--- `batch::outcomes::put_row` meets its contract. Assumes nothing.
+-- `nearby_batch::outcomes::put_row` meets its contract. Assumes nothing.
 use native.Mathlib.Omega.{arith}
 use lib.ListN.{length-set}
 use Rattle.nearby_batch.specs.Batch.{rowPut}

@@ -1,4 +1,4 @@
--- `batch::turns::answer_lines` meets its contract: steps add up, and the bytes bound them. Assumes nothing.
+-- `nearby_batch::turns::answer_lines` meets its contract: steps add up, and the bytes bound them. Assumes nothing.
 use Prim.Native.Nat.{_-_}
 use mathlib.Core.Path.{_≡_, refl}
 use lib.ListN.{length}

@@ -1,4 +1,4 @@
--- `batch::turns::answer_next` meets its contract: the line is cut, answered, and its row put. Assumes nothing.
+-- `nearby_batch::turns::answer_next` meets its contract: the line is cut, answered, and its row put. Assumes nothing.
 use Prim.Native.Nat.{_+_, _*_, _≤_}
 use mathlib.Core.Path.{refl}
 use native.Mathlib.Omega.{arith}

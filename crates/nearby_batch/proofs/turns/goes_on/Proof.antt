@@ -1,4 +1,4 @@
--- `batch::turns::goes_on` meets its contract: its tests are the definition's. Assumes nothing.
+-- `nearby_batch::turns::goes_on` meets its contract: its tests are the definition's. Assumes nothing.
 use Rattle.nearby_batch.proofs.Steps.{goes-used, goes-rows, goes-room, goes-last}
 use Rattle.nearby_batch.proofs.turns.goes_on.Statement.{statement}
 use Rattle.nearby_batch.proofs.turns.goes_on.Tie as tie

@@ -1,4 +1,4 @@
--- `many::counts::many_refusal` meets its contract: the table's refusal, then 5. Assumes nothing.
+-- `nearby_many::counts::many_refusal` meets its contract: the table's refusal, then 5. Assumes nothing.
 use Rattle.paper.specs.Tree.{store}
 use Rattle.nearby_many.proofs.FirstsOfMany.{many-table, many-wide, many-5, many-0}
 use borrow.Author.Needs.{needs}

@@ -1,4 +1,4 @@
--- `many::firsts::farthest_each` meets its contract: refused before anything is written, or answered question after question. Assumes nothing.
+-- `nearby_many::firsts::farthest_each` meets its contract: refused before anything is written, or answered question after question. Assumes nothing.
 use Rattle.paper.specs.Tree.{store}
 use Rattle.nearby_many.specs.Many.{farthestAt}
 use Rattle.nearby_many.proofs.FirstsOfMany.{firsts-refused, firsts-12, firsts-many, firsts-answered}

@@ -1,4 +1,4 @@
--- `many::firsts::nearest_each` meets its contract: refused before anything is written, or answered question after question. Assumes nothing.
+-- `nearby_many::firsts::nearest_each` meets its contract: refused before anything is written, or answered question after question. Assumes nothing.
 use lib.ListN.{length}
 use Rattle.paper.specs.Tree.{store}
 use Rattle.nearby_many.specs.Many.{nearestAt}

@@ -1,4 +1,4 @@
--- `many::pages::page_row` meets its contract. Assumes nothing.
+-- `nearby_many::pages::page_row` meets its contract. Assumes nothing.
 use Prim.Native.Nat.{ℕ, _*_}
 use mathlib.Core.List.{List}
 use lib.IntN.{ℤ}

@@ -1,4 +1,4 @@
--- `many::pages::page_rows` meets its contract: question after question. Assumes nothing.
+-- `nearby_many::pages::page_rows` meets its contract: question after question. Assumes nothing.
 use Prim.Native.Nat.{_-_, _*_}
 use native.Mathlib.Omega.{arith}
 use lib.ListN.{length}

@@ -1,4 +1,4 @@
--- `many::pages::pages_each` meets its contract: refused before anything is written, or answered question after question. Assumes nothing.
+-- `nearby_many::pages::pages_each` meets its contract: refused before anything is written, or answered question after question. Assumes nothing.
 use Rattle.paper.specs.Tree.{store}
 use Rattle.nearby_many.specs.Pages.{bothRooms}
 use Rattle.nearby_many.proofs.PagesOfMany.{pages-refused, pages-all, pages-done}

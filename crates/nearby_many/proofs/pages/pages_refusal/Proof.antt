@@ -1,4 +1,4 @@
--- `many::pages::pages_refusal` meets its contract: the table and the probes, then 5, 6, 12. Assumes nothing.
+-- `nearby_many::pages::pages_refusal` meets its contract: the table and the probes, then 5, 6, 12. Assumes nothing.
 use native.Mathlib.Omega.{arith}
 use Prim.Native.Nat.{_≤_}
 use Rattle.paper.specs.Tree.{store}

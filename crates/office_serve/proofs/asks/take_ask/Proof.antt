@@ -1,4 +1,4 @@
--- `serve::asks::take_ask` meets its contract: 11 before any claim, else the office's answer or its refusal. Assumes nothing.
+-- `office_serve::asks::take_ask` meets its contract: 11 before any claim, else the office's answer or its refusal. Assumes nothing.
 use Prim.Native.Nat.{_≤_}
 use mathlib.Core.Path.{refl}
 use native.Mathlib.Omega.{arith}

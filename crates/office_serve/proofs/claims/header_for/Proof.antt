@@ -1,4 +1,4 @@
--- `serve::claims::header_for` meets its contract. Assumes nothing.
+-- `office_serve::claims::header_for` meets its contract. Assumes nothing.
 use Rattle.office_serve.proofs.ClaimServed.{header-none, header-some}
 use borrow.Author.Needs.{needs}
 use Rattle.office_serve.proofs.claims.header_for.Statement.{statement}

@@ -1,4 +1,4 @@
--- `serve::claims::take_claim` meets its contract: 11, 3, or the claim is entered. Assumes nothing.
+-- `office_serve::claims::take_claim` meets its contract: 11, 3, or the claim is entered. Assumes nothing.
 use Prim.Native.Nat.{_<_}
 use native.Mathlib.Omega.{arith}
 use lib.ListN.{length}

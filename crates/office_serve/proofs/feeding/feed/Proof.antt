@@ -1,4 +1,4 @@
--- `serve::feeding::feed` meets its contract: turns add up. Assumes nothing.
+-- `office_serve::feeding::feed` meets its contract: turns add up. Assumes nothing.
 use Prim.Native.Nat.{_-_}
 use mathlib.Core.Path.{_∙_}
 use mathlib.Core.Logic.{inr}

@@ -1,4 +1,4 @@
--- `serve::feeding::finish` meets its contract: nothing is left to say, or the last line is served. Assumes nothing.
+-- `office_serve::feeding::finish` meets its contract: nothing is left to say, or the last line is served. Assumes nothing.
 use native.Mathlib.Omega.{arith}
 use Rattle.paper.specs.Tree.{store}
 use Rattle.office_serve.proofs.Moves.{ended-left, ended-size, ended-line}

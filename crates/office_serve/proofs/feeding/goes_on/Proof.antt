@@ -1,4 +1,4 @@
--- `serve::feeding::goes_on` meets its contract. Assumes nothing.
+-- `office_serve::feeding::goes_on` meets its contract. Assumes nothing.
 use Prim.Native.Nat.{_-_, _≤_}
 use native.Mathlib.Omega.{arith}
 use borrow.Author.Tests.{leb-true, le-leb}

@@ -1,4 +1,4 @@
--- `serve::feeding::turn` meets its contract: a line that goes on, or one that is served. Assumes nothing.
+-- `office_serve::feeding::turn` meets its contract: a line that goes on, or one that is served. Assumes nothing.
 use mathlib.Core.Path.{_≡_, _∙_}
 use native.Mathlib.Omega.{arith}
 use lib.ListN.{length}

@@ -1,4 +1,4 @@
--- `serve::one_line::serve_cut` meets its contract: a longer line is refused as its front would be. Assumes nothing.
+-- `office_serve::one_line::serve_cut` meets its contract: a longer line is refused as its front would be. Assumes nothing.
 use Prim.Native.Nat.{_-_}
 use native.Mathlib.Omega.{arith}
 use Rattle.paper.specs.Tree.{store}

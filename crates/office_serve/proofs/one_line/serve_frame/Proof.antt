@@ -1,4 +1,4 @@
--- `serve::one_line::serve_frame` meets its contract: a claim, an ask, or 10. Assumes nothing.
+-- `office_serve::one_line::serve_frame` meets its contract: a claim, an ask, or 10. Assumes nothing.
 use mathlib.Core.Path.{sym, _∙_}
 use Rattle.paper.specs.Tree.{store}
 use Rattle.line_digits.specs.FrameBytes.{frameIn}

@@ -1,4 +1,4 @@
--- `serve::one_line::serve_line` meets its contract: 9, or what its frame leads to. Assumes nothing.
+-- `office_serve::one_line::serve_line` meets its contract: 9, or what its frame leads to. Assumes nothing.
 use native.Mathlib.Omega.{arith}
 use Prim.Native.Nat.{_<_}
 use lib.ListN.{length-take}

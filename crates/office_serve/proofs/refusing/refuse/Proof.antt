@@ -1,4 +1,4 @@
--- `serve::refusing::refuse` meets its contract: one digit, or two. Assumes nothing.
+-- `office_serve::refusing::refuse` meets its contract: one digit, or two. Assumes nothing.
 use mathlib.Core.Path.{refl}
 use Rattle.office_serve.proofs.Written.{refuse-one, refuse-two}
 use borrow.Author.Needs.{needs}
