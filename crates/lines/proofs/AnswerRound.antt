@@ -11,7 +11,7 @@ use borrow.Author.Tests.{eq-eqb}
 use Rattle.paper.specs.Frames.{be, num, lineOf, frameOf, isLine}
 use Rattle.paper.specs.Orders.{Query, queryIn}
 use Rattle.paper.specs.Fields.{front, queryInSlots, scopeIn, itemBytes, itemNumbers, itemSlots}
-use Rattle.paper.specs.Lines.{answerKind, behind, queryAt, queryFits, answerFrame, answerFits, countIn, answerOk, answerAt, anAnswer, noAnswer, readAsAnswer}
+use Rattle.paper.specs.Lines.{answerKind, behind, queryAt, answerFrame, answerFits, countIn, answerOk, answerAt, anAnswer, noAnswer, readAsAnswer}
 use Rattle.paper.specs.declared.lines.Scope.{Scope}
 use Rattle.paper.specs.declared.lines.Answer.{Answer}
 use Rattle.paper.specs.declared.lines.AnswerRead.{AnswerRead}

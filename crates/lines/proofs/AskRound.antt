@@ -10,7 +10,7 @@ use borrow.Author.Tests.{leb-true, le-leb, eq-eqb}
 use Rattle.paper.specs.Frames.{be, num, lineOf, frameOf, isLine}
 use Rattle.paper.specs.Orders.{Query, queryIn}
 use Rattle.paper.specs.Fields.{front, queryInSlots, scopeIn}
-use Rattle.paper.specs.Lines.{askKind, askOrder, behind, queryAt, queryFits, askFrame, askFits, askOk, isAsk, askAt, anAsk, noAsk, readAsAsk}
+use Rattle.paper.specs.Lines.{askKind, askOrder, behind, queryAt, askFrame, askFits, askOk, isAsk, askAt, anAsk, noAsk, readAsAsk}
 use Rattle.paper.specs.declared.lines.Scope.{Scope}
 use Rattle.paper.specs.declared.lines.Ask.{Ask}
 use Rattle.paper.specs.declared.lines.AskRead.{AskRead}

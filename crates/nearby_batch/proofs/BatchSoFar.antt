@@ -139,10 +139,6 @@ module _ (s : Store) (asks outcomes out : List ℕ) (f : ℕ) where
   unfolding batchAt
   written-is = ap (λ (b : Batch). b .written) batch-is
 
-  pub used-is : Result .used ≡ startAt Count asks
-  unfolding batchAt
-  used-is = ap (λ (b : Batch). b .used) batch-is
-
   pub out-is : Result .out ≡ answersOf Count s asks ++ drop (length (answersOf Count s asks)) out
   unfolding batchAt
   out-is = ap (λ (b : Batch). b .out) batch-is

@@ -2,7 +2,7 @@
 use Prim.Native.Nat.{ℕ, zero, suc, _+_, _-_, _*_, _≤_}
 use mathlib.Core.Path.{_≡_, refl, sym, ap}
 use mathlib.Core.Bool.{true}
-use mathlib.Core.List.{List, [], _∷_, _++_, append-assoc}
+use mathlib.Core.List.{List, [], _∷_, _++_}
 use native.Mathlib.Omega.{arith}
 use lib.IntN.{pos}
 use lib.ListN.{length, take, drop, replicate, length-append, length-drop}
@@ -46,19 +46,6 @@ pub length-in : (k : ℕ) (r : List ℕ) → length (itemsIn k r) ≡ k
 unfolding itemsIn
 length-in zero r = refl
 length-in (suc k) r = ap suc (length-in k (drop 3 r))
-
-pub flat-append : (a b : List Item) → flat (a ++ b) ≡ flat a ++ flat b
-unfolding flat
-flat-append [] b = refl
-flat-append (x ∷ a) b = ap (λ (t : List ℕ). x .number ∷ x .reference ∷ x .distance ∷ t) (flat-append a b)
-
--- a page joined behind k items: the room's front stays, the page stands behind it, the rest stays
-pub room-joined : (k : ℕ) (r : List ℕ) (page : List Item) → 3 * k ≤ length r
-    → fronted (itemsIn k r ++ page) r ≡ take (3 * k) r ++ (flat page ++ drop (3 * (k + length page)) r)
-unfolding fronted
-room-joined k r page h =
-    rw (flat-append (itemsIn k r) page, flat-in k r h, length-append (itemsIn k r) page, length-in k r)
-    (append-assoc (take (3 * k) r) (flat page) _)
 
 pub fronted-length : (l : List Item) (r : List ℕ) → 3 * length l ≤ length r → length (fronted l r) ≡ length r
 unfolding fronted

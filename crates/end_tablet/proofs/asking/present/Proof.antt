@@ -1,5 +1,4 @@
 -- `end_tablet::asking::present` meets its contract: from the start, or after the last item. Assumes nothing.
-use Prim.Native.Nat.{_-_}
 use native.Mathlib.Omega.{arith}
 use Rattle.end_tablet.proofs.PresentAsk.{present-after, present-start}
 use borrow.Author.Needs.{needs}

@@ -1,7 +1,7 @@
 -- `lines::answers::answer_at` meets its contract: each part stands where the frame has it. Assumes nothing.
 use native.Mathlib.Omega.{arith}
 use mathlib.Core.Path.{_≡_, refl, sym, ap, _∙_}
-use Prim.Native.Nat.{ℕ, _+_, _*_}
+use Prim.Native.Nat.{_+_, _*_}
 use lib.ListN.{drop}
 use Rattle.paper.specs.declared.queries.Query as queries
 use Rattle.paper.specs.Frames.{num}

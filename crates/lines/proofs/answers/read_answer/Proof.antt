@@ -1,5 +1,5 @@
 -- `lines::answers::read_answer` meets its contract: 9, 10, or what the frame holds. Assumes nothing.
-use mathlib.Core.Path.{_≡_, sym, ap, _∙_}
+use mathlib.Core.Path.{sym, ap, _∙_}
 use native.Mathlib.Omega.{arith}
 use lib.ListN.{take, length-take}
 use Rattle.line_digits.specs.FrameBytes.{frameIn}

@@ -1,7 +1,6 @@
 -- `lines::asks::ask_at` meets its contract: each part stands where the frame has it. Assumes nothing.
 use native.Mathlib.Omega.{arith}
 use mathlib.Core.Path.{_≡_, refl, ap, _∙_}
-use Prim.Native.Nat.{ℕ}
 use lib.ListN.{drop}
 use Rattle.paper.specs.declared.queries.Query as queries
 use Rattle.paper.specs.Frames.{num}

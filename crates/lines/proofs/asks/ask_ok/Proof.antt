@@ -1,8 +1,7 @@
 -- `lines::asks::ask_ok` meets its contract: an empty frame is no ask, and any other has a kind. Assumes nothing.
 use native.Mathlib.Omega.{arith}
-use mathlib.Core.Path.{sym, ap, _∙_}
-use Rattle.paper.specs.declared.orders.Order.{Order}
-use Rattle.paper.specs.Lines.{askKind, askOrder, askOk, isAsk}
+use mathlib.Core.Path.{sym, _∙_}
+use Rattle.paper.specs.Lines.{isAsk}
 use Rattle.line_digits.specs.FrameBytes.{frameIn}
 use Rattle.paper.proofs.Tests.{refuted}
 use Rattle.lines.proofs.AskTests.{any-ask}

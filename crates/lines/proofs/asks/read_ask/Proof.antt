@@ -1,5 +1,5 @@
 -- `lines::asks::read_ask` meets its contract: 9, 10, or what the frame holds. Assumes nothing.
-use mathlib.Core.Path.{_≡_, sym, ap, _∙_}
+use mathlib.Core.Path.{sym, ap, _∙_}
 use native.Mathlib.Omega.{arith}
 use lib.ListN.{length-take}
 use Rattle.lines.proofs.WritersReaders.{way-9, way-10, way-read}
