@@ -1,6 +1,7 @@
 -- [9.19] Cases as numbers, for C: the refusal's number, 0 where nothing is refused, beside the values, 0 where there are none. Definitions
 -- only.
 use Prim.Native.Nat.{ℕ}
+use mathlib.Core.Path.{_≡_}
 use mathlib.Core.Bool.{cond}
 use mathlib.Core.List.{List}
 use lib.Dec.{eqb}
@@ -40,6 +41,10 @@ abbrev pub itemOut : Answers.Nearest → Item
 itemOut (Answers.the-variants.Refused n) = record { refusal = n; found = 0; number = 0; reference = 0; distance = 0 }
 itemOut (Answers.the-variants.Answer Nothing) = record { refusal = 0; found = 0; number = 0; reference = 0; distance = 0 }
 itemOut (Answers.the-variants.Answer (AnItem k y x)) = record { refusal = 0; found = 1; number = k; reference = y; distance = x }
+
+-- [4.2] what farthest's item says of the count of claims: where nothing is refused, it is found just where there is one
+abbrev pub NothingOut : ℕ → Item → Type 0
+NothingOut count i = (i .refusal ≡ 0 → i .found ≡ 0 → count ≡ 0) × (count ≡ 0 → i .found ≡ 0)
 
 abbrev pub placeOf : Start → Place
 placeOf s = cond (eqb (s .from) 0) Places.the-variants.Start (Places.the-variants.After (s .snapshot) (markAt (s .distance) (s .number)))

@@ -42,7 +42,8 @@ pub extern "C" fn nearby_write_ask_line(
     size: u8,
     out: &mut [u8],
 ) -> Written
-    ensures { λ r. ⌜ WritesOut (bareLine (askFits (nearQuery table measure d (now (probe .entry)) (p .reach)) (scopeFrom p) size) longestAsk (askFrame (nearQuery table measure d (now (probe .entry)) (p .reach)) (scopeFrom p) size) (length (now (out .entry)))) (now (out .entry)) r (now (out .exit)) ⌝ }
+    ensures { λ r. ⌜ WritesOut (bareLine (askFits (nearQuery table measure d (now (probe .entry)) (p .reach)) (scopeFrom p) size)
+        longestAsk (askFrame (nearQuery table measure d (now (probe .entry)) (p .reach)) (scopeFrom p) size) (length (now (out .entry)))) (now (out .entry)) r (now (out .exit)) ⌝ }
 {
     if !placeable(probe.len(), d as usize) {
         return line_of(Wrote::Refused(10));
@@ -67,7 +68,8 @@ pub extern "C" fn nearby_write_answer_line(
     items: &[u64],
     out: &mut [u8],
 ) -> Written
-    ensures { λ r. ⌜ WritesOut (bareLine (answerFits (nearQuery table measure d (now (probe .entry)) (p .reach)) (scopeFrom p) last count (now (items .entry))) longestAnswer (answerFrame (nearQuery table measure d (now (probe .entry)) (p .reach)) (scopeFrom p) last count (now (items .entry))) (length (now (out .entry)))) (now (out .entry)) r (now (out .exit)) ⌝ }
+    ensures { λ r. ⌜ WritesOut (bareLine (answerFits (nearQuery table measure d (now (probe .entry)) (p .reach)) (scopeFrom p) last count (now (items .entry)))
+        longestAnswer (answerFrame (nearQuery table measure d (now (probe .entry)) (p .reach)) (scopeFrom p) last count (now (items .entry))) (length (now (out .entry)))) (now (out .entry)) r (now (out .exit)) ⌝ }
 {
     if !placeable(probe.len(), d as usize) {
         return line_of(Wrote::Refused(10));

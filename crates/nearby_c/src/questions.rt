@@ -5,7 +5,7 @@ ghost use Rattle.paper.specs.declared.orders.Order.the-variants.{Near};
 ghost use Rattle.paper.specs.Tree.{lent};
 ghost use Rattle.paper.specs.Outcomes.{Promise};
 ghost use Rattle.paper.specs.Calls.{nearestCall, farthestCall, nearestShown, pageCall, pageShown, putPage};
-ghost use Rattle.c_values.specs.Values.{itemOut, filledOut, placeOf};
+ghost use Rattle.c_values.specs.Values.{itemOut, NothingOut, filledOut, placeOf};
 use c_values::Filled;
 use c_values::Item;
 use c_values::Start;
@@ -38,7 +38,8 @@ pub extern "C" fn nearby_farthest(
     nodes: &[u64],
     probe: &[i32],
 ) -> Item
-    ensures { λ r. ⌜ r ≡ itemOut (nearestShown (farthestCall (lent t (references .entry) (coordinates .entry) (nodes .entry)) (now (probe .entry)))) ⌝ }
+    ensures shown { λ r. ⌜ r ≡ itemOut (nearestShown (farthestCall (lent t (references .entry) (coordinates .entry) (nodes .entry)) (now (probe .entry)))) ⌝ }
+    ensures nothing { λ r. ⌜ NothingOut (t .count) r ⌝ }
 {
     item_of(nearby::farthest(t, references, coordinates, nodes, probe))
 }

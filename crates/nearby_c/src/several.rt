@@ -55,7 +55,8 @@ pub extern "C" fn nearby_many_pages(
     outcomes: &mut [u64],
     items: &mut [u64],
 ) -> u8
-    ensures { λ r. ⌜ Outcomes.Promise number instead (pagesEach (lent t (references .entry) (coordinates .entry) (nodes .entry)) (now (probes .entry)) (now (reaches .entry)) (now (places .entry)) size (bothRooms (now (outcomes .entry)) (now (items .entry)))) (bothRooms (now (outcomes .entry)) (now (items .entry))) r (bothRooms (now (outcomes .exit)) (now (items .exit))) ⌝ }
+    ensures { λ r. ⌜ Outcomes.Promise number instead (pagesEach (lent t (references .entry) (coordinates .entry) (nodes .entry)) (now (probes .entry)) (now (reaches .entry)) (now (places .entry)) size (bothRooms (now (outcomes .entry)) (now (items .entry))))
+        (bothRooms (now (outcomes .entry)) (now (items .entry))) r (bothRooms (now (outcomes .exit)) (now (items .exit))) ⌝ }
 {
     nearby_many::pages_each(
         t,

@@ -42,7 +42,8 @@ pub fn take_claim(
     at: usize,
 ) -> Step
     requires { ⌜ ClaimServing (lent t references coordinates nodes) c (length (now out)) at ⌝ }
-    ensures { λ r. ⌜ Served (claimTurn (booksOf (lent t (references .entry) (coordinates .entry) (nodes .entry))) (claimEntering (tableFor (booksOf (lent t (references .entry) (coordinates .entry) (nodes .entry))) c) c)) (lent (r .table) (references .exit) (coordinates .exit) (nodes .exit)) (now (out .entry)) at (now (out .exit)) (r .at) ⌝ }
+    ensures { λ r. ⌜ Served (claimTurn (booksOf (lent t (references .entry) (coordinates .entry) (nodes .entry))) (claimEntering (tableFor (booksOf (lent t (references .entry) (coordinates .entry) (nodes .entry))) c) c))
+        (lent (r .table) (references .exit) (coordinates .exit) (nodes .exit)) (now (out .entry)) at (now (out .exit)) (r .at) ⌝ }
 {
     let header = header_for(t, c);
     if !is_ours(header, c.table, c.measure, c.d as usize) {

@@ -32,7 +32,8 @@ fn turn(
     out: &mut [u8],
 ) -> Sitting
     requires { ⌜ Set (lent (sit .table) references coordinates nodes) (now line) × Turning sit (length (now chunk)) (length (now out)) ⌝ }
-    ensures moved { λ r. ⌜ ((o : OfficeState) → Stands (lent (sit .table) (references .entry) (coordinates .entry) (nodes .entry)) (now (line .entry)) sit o → Moved o (now (chunk .entry)) sit (now (out .entry)) (lent (r .table) (references .exit) (coordinates .exit) (nodes .exit)) (now (line .exit)) r (now (out .exit))) ⌝ }
+    ensures moved { λ r. ⌜ ((o : OfficeState) → Stands (lent (sit .table) (references .entry) (coordinates .entry) (nodes .entry)) (now (line .entry)) sit o
+        → Moved o (now (chunk .entry)) sit (now (out .entry)) (lent (r .table) (references .exit) (coordinates .exit) (nodes .exit)) (now (line .exit)) r (now (out .exit))) ⌝ }
     ensures ready { λ r. ⌜ Set (lent (r .table) (references .exit) (coordinates .exit) (nodes .exit)) (now (line .exit)) ⌝ }
     ensures on { λ r. ⌜ (sit .at < r .at) × (r .written ≤ length (now (out .entry))) ⌝ }
 {
@@ -88,7 +89,8 @@ pub fn feed(
     out: &mut [u8],
 ) -> Sitting
     requires { ⌜ Set (lent (sit .table) references coordinates nodes) (now line) × (sit .written ≤ length (now out)) ⌝ }
-    ensures moved { λ r. ⌜ ((o : OfficeState) → Stands (lent (sit .table) (references .entry) (coordinates .entry) (nodes .entry)) (now (line .entry)) sit o → Moved o (now (chunk .entry)) sit (now (out .entry)) (lent (r .table) (references .exit) (coordinates .exit) (nodes .exit)) (now (line .exit)) r (now (out .exit))) ⌝ }
+    ensures moved { λ r. ⌜ ((o : OfficeState) → Stands (lent (sit .table) (references .entry) (coordinates .entry) (nodes .entry)) (now (line .entry)) sit o
+        → Moved o (now (chunk .entry)) sit (now (out .entry)) (lent (r .table) (references .exit) (coordinates .exit) (nodes .exit)) (now (line .exit)) r (now (out .exit))) ⌝ }
     ensures ready { λ r. ⌜ Set (lent (r .table) (references .exit) (coordinates .exit) (nodes .exit)) (now (line .exit)) ⌝ }
     ensures on { λ r. ⌜ (Turning sit (length (now (chunk .entry))) (length (now (out .entry))) → sit .at < r .at) ⌝ }
     ensures short { λ r. ⌜ r .written ≤ length (now (out .entry)) ⌝ }

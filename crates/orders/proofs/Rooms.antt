@@ -47,6 +47,11 @@ unfolding itemsIn
 length-in zero r = refl
 length-in (suc k) r = ap suc (length-in k (drop 3 r))
 
+pub flat-append : (a b : List Item) → flat (a ++ b) ≡ flat a ++ flat b
+unfolding flat
+flat-append [] b = refl
+flat-append (x ∷ a) b = ap (λ (t : List ℕ). x .number ∷ x .reference ∷ x .distance ∷ t) (flat-append a b)
+
 pub fronted-length : (l : List Item) (r : List ℕ) → 3 * length l ≤ length r → length (fronted l r) ≡ length r
 unfolding fronted
 fronted-length l r h = omega (arith, length-append (flat l) (drop (3 * length l) r), length-drop (3 * length l) r, flat-length l)

@@ -50,9 +50,9 @@ abbrev pub nearestShown : Outcome Found → Answers.Nearest
 nearestShown (refused n) = Answers.the-variants.Refused n
 nearestShown (gives f) = Answers.the-variants.Answer (foundShown f)
 
--- [4.2] what farthest's result says of the count of claims: Nothing just where there is none
+-- [4.2] what farthest's result says of the count of claims: Nothing just where there is none; a refusal has its number
 abbrev pub NothingJust : ℕ → Answers.Nearest → Type 0
-NothingJust count (Answers.the-variants.Refused n) = Unit {0}
+NothingJust count (Answers.the-variants.Refused n) = n ≡ 0 → ⊥
 NothingJust count (Answers.the-variants.Answer Nothing) = count ≡ 0
 NothingJust count (Answers.the-variants.Answer (AnItem k y x)) = 0 < count
 

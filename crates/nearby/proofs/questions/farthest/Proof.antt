@@ -1,4 +1,5 @@
 -- `nearby::questions::farthest` meets its contract: 1, 2, 5, and then what the walk gives. Assumes nothing.
+use native.Mathlib.Omega.{arith}
 use Rattle.paper.specs.declared.orders.Order.the-variants.{Near}
 use Rattle.paper.specs.Orders.{farthestOf}
 use Rattle.paper.specs.Tree.{store, claimsIn}
@@ -17,14 +18,14 @@ returns : tie.Need-returns
 unfolding farthestCall
 returns c =
     let s = store (c .before .before .before .before .args .t) (c .before .before .before .before .args .references .now) (c .before .before .before .before .args .coordinates .now) (c .before .before .before .before .args .nodes .now) in
-    (ask-refused s (c .before .before .before .before .args .probe .now) _ (c .before .table-refusal .ensures) (farthestOf (tableQuery (s .table) Near (c .before .before .before .before .args .probe .now) 0) (claimsIn s)) (c .if1 .taken), tt)
+    (ask-refused s (c .before .before .before .before .args .probe .now) _ (c .before .table-refusal .ensures) (farthestOf (tableQuery (s .table) Near (c .before .before .before .before .args .probe .now) 0) (claimsIn s)) (c .if1 .taken), c .if1 .taken)
 
 returns-2 : tie.Need-returns-2
 unfolding farthestCall
 returns-2 c =
     let args = c .before .before .before .before .before .before .args in
     let s = store (args .t) (args .references .now) (args .coordinates .now) (args .nodes .now) in
-    (ask-5 s (args .probe .now) _ (c .before .before .before .table-refusal .ensures) (farthestOf (tableQuery (s .table) Near (args .probe .now) 0) (claimsIn s)) (c .before .before .if1 .left) (c .if2 .taken), tt)
+    (ask-5 s (args .probe .now) _ (c .before .before .before .table-refusal .ensures) (farthestOf (tableQuery (s .table) Near (args .probe .now) 0) (claimsIn s)) (c .before .before .if1 .left) (c .if2 .taken), λ e. omega arith)
 
 farthest-requires : tie.Need-farthest-requires
 farthest-requires c κs =
