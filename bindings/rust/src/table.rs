@@ -1,6 +1,6 @@
 use crate::items::{Item, Measure, Page, Place};
 use crate::refusal::{heeded, Refusal};
-use crate::{raw, ANSWER_LINE, ITEM, MOST_CLAIMS, MOST_PAGE, MOST_COORDINATES, NODE};
+use crate::{raw, ANSWER_LINE, ITEM, MOST_CLAIMS, MOST_COORDINATES, MOST_PAGE, NODE};
 
 /// Ask lines that are answered in one call of the library: enough that the table's test costs little beside them.
 const LINES_AT_ONCE: usize = 4096;
