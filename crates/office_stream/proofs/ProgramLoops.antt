@@ -13,9 +13,9 @@ use Rattle.tree.specs.BuiltNodes.{IsBuilt}
 use Rattle.office_serve.specs.declared.feeding.Sitting.{Sitting}
 use Rattle.office_serve.specs.Serving.{Ready}
 use Rattle.office_serve.specs.Feeding.{Set, Stands, Turning, Ended}
-use Rattle.office_stream.specs.Stream.{anewOf, emptiedOf, sittingStart, ProgramMemory}
-use Rattle.office_stream.specs.Session.{FeedPromise, handed, begun, next, feeds, InChunk, BetweenReads}
-use Rattle.office_stream.proofs.WholeInput.{whole}
+use Rattle.office_session.specs.Sittings.{anewOf, emptiedOf, sittingStart, ProgramMemory}
+use Rattle.office_session.specs.Session.{FeedPromise, handed, begun, next, feeds, InChunk, BetweenReads}
+use Rattle.office_session.proofs.WholeInput.{whole}
 use Rattle.paper.specs.Limits.{longestAnswer, officeClaims, officeCoordinates, officeNodes}
 
 -- ---- a chunk

@@ -19,8 +19,8 @@ ghost use lib.ListN.{length, take};
 ghost use Rattle.paper.specs.Tree.{lent};
 ghost use Rattle.paper.specs.Program.{program};
 ghost use Rattle.office_serve.specs.Feeding.{Set};
-ghost use Rattle.office_stream.specs.Stream.{anewOf, emptiedOf, sittingStart, ProgramMemory};
-ghost use Rattle.office_stream.specs.Session.{BetweenReads, RanWhole};
+ghost use Rattle.office_session.specs.Sittings.{anewOf, emptiedOf, sittingStart, ProgramMemory};
+ghost use Rattle.office_session.specs.Session.{BetweenReads, RanWhole};
 ghost use Rattle.paper.specs.Limits.{longestAnswer};
 
 // How a sitting stands at the start of a chunk.

@@ -3,7 +3,7 @@ use mathlib.Core.Path.{ap}
 use native.Mathlib.Omega.{arith}
 use lib.ListN.{length, length-take}
 use borrow.Author.Needs.{needs}
-use Rattle.office_stream.proofs.WholeInput.{emptied-is}
+use Rattle.office_session.proofs.WholeInput.{emptied-is}
 use Rattle.office_stream.proofs.emptied.Statement.{statement}
 use Rattle.office_stream.proofs.emptied.Tie as tie
 

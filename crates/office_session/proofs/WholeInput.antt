@@ -18,8 +18,8 @@ use Rattle.office_serve.specs.Serving.{outWith, booksOf}
 use Rattle.office_serve.specs.Feeding.{Stands, Moved, Ended}
 use Rattle.office_serve.proofs.Moves.{fed-more, fed-stop}
 use Rattle.office_serve.proofs.Written.{wrote-front}
-use Rattle.office_stream.specs.Stream.{anewOf, emptiedOf}
-use Rattle.office_stream.specs.Session.{Used, FeedPromise, handed, Session, begun, next, feeds, BetweenReads}
+use Rattle.office_session.specs.Sittings.{anewOf, emptiedOf}
+use Rattle.office_session.specs.Session.{Used, FeedPromise, handed, Session, begun, next, feeds, BetweenReads}
 use Rattle.paper.specs.Limits.{longestAnswer}
 
 -- what a session means: the memory stands for an office that has said ys, and reads of the chunk's rest what the whole input leads to

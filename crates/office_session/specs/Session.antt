@@ -9,7 +9,7 @@ use Rattle.paper.specs.Tree.{Store, store}
 use Rattle.paper.specs.Program.{OfficeState, program}
 use Rattle.office_serve.specs.declared.feeding.Sitting.{Sitting}
 use Rattle.office_serve.specs.Feeding.{Stands, Turning, Moved}
-use Rattle.office_stream.specs.Stream.{anewOf, emptiedOf, sittingStart}
+use Rattle.office_session.specs.Sittings.{anewOf, emptiedOf, sittingStart}
 use Rattle.paper.specs.Limits.{longestAnswer}
 
 -- [10.10] the chunk is read, or no line is left to read
