@@ -14,7 +14,7 @@ use Rattle.paper.specs.Tree.{Store, store}
 use Rattle.paper.specs.Program.{lineTurn, OfficeState, lineDone, holdingLine, byte, fed, atEnd, inputDone}
 use Rattle.office_cut.specs.Cut.{CutLine, cutWith, cutOf, lineIn, restIn, hasEnd, LineHeld}
 use Rattle.office_cut.specs.declared.Piece.{Piece}
-use Rattle.office_cut.proofs.Laws.{Meant, cut-means, kept-none, cut-on}
+use Rattle.office_cut.proofs.LinesCut.{Meant, cut-means, kept-none, cut-on}
 use Rattle.office_serve.specs.declared.feeding.Sitting.{Sitting}
 use Rattle.office_serve.specs.Serving.{booksOf, Served}
 use Rattle.office_serve.specs.Feeding.{Stands, Set, Turning, Moved, Ended}

@@ -12,7 +12,7 @@ use lib.ListN.{length, take, drop, drop-of-length-le}
 use borrow.Author.Tests.{leb-true, leb-false}
 use Rattle.paper.specs.Tree.{Store}
 use Rattle.paper.specs.Program.{OfficeState, fed, inputDone, officeStart, program}
-use Rattle.office_cut.proofs.Laws.{kept-none}
+use Rattle.office_cut.proofs.LinesCut.{kept-none}
 use Rattle.office_serve.specs.declared.feeding.Sitting.{Sitting}
 use Rattle.office_serve.specs.Serving.{outWith, booksOf}
 use Rattle.office_serve.specs.Feeding.{Stands, Moved, Ended}

@@ -4,7 +4,7 @@ use mathlib.Core.Path.{_≡_, refl, sym, _∙_}
 use native.Mathlib.Omega.{arith}
 use lib.ListN.{length, drop}
 use Rattle.office_cut.specs.Cut.{cutOf}
-use Rattle.office_cut.proofs.Laws.{cut-ends, cut-goes, cut-none}
+use Rattle.office_cut.proofs.LinesCut.{cut-ends, cut-goes, cut-none}
 use Rattle.office_cut.proofs.cut.Statement.{statement}
 use Rattle.office_cut.proofs.cut.Tie as tie
 

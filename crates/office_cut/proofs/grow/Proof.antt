@@ -1,5 +1,5 @@
 -- `office_cut::grow` meets its contract. Assumes nothing.
-use Rattle.office_cut.proofs.Laws.{longer-more, longer-same}
+use Rattle.office_cut.proofs.LinesCut.{longer-more, longer-same}
 use borrow.Author.Needs.{needs}
 use Rattle.office_cut.proofs.grow.Statement.{statement}
 use Rattle.office_cut.proofs.grow.Tie as tie
