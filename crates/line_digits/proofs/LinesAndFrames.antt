@@ -130,7 +130,7 @@ frame-at (a ∷ b ∷ l) (suc i) h =
 
 -- ---- when characters are a line
 
--- what `ended` says of a line with an even number of characters, of one with a character before the last that is no digit, and of one
+-- what `pairsEnded` says of a line with an even number of characters, of one with a character before the last that is no digit, and of one
 -- with digits up to the last
 
 pub and-false : (t : Bool) → t && false ≡ false
