@@ -38,6 +38,8 @@ extern "C" {
 #define NEARBY_NODE 6
 /* [2.6] Numbers in an item: its claim's number, its reference, its distance from the probe. */
 #define NEARBY_ITEM 3
+/* [4.18] Numbers in a row of nearby_many_pages: an order and a place. */
+#define NEARBY_PLACE 5
 /* [1.3] [3.1] [4.3] The largest d, capacity and page size. */
 #define NEARBY_MOST_COORDINATES 8
 #define NEARBY_MOST_CLAIMS 4096
@@ -49,6 +51,11 @@ extern "C" {
 #define NEARBY_CITY_BLOCK 1
 #define NEARBY_MAXIMUM 2
 #define NEARBY_HAMMING 3
+
+/* [2.1] [2.2] [2.3] The orders, as a flag: the nearest claim first, or the farthest; of claims as far the smaller number first. The
+ * reach bounds both from above. From the caller anything but 0 is far; to the caller an order is 0 or 1. */
+#define NEARBY_NEAR 0
+#define NEARBY_FAR 1
 
 /* ---- Tables ---- */
 
@@ -129,18 +136,18 @@ nearby_item nearby_farthest(nearby_table table,
                             const uint64_t *nodes, size_t nodes_length,
                             const int32_t *probe, size_t probe_length);
 
-/* [9.8] [4.6] The first `size` claims within reach from a start on, nearest first, as items at the front of a room of at least
+/* [9.8] [4.6] The first `size` claims within reach from a start on, in an order, as items at the front of a room of at least
  * `size * NEARBY_ITEM` numbers; what stands behind them is kept. Refusals 1, 2, 5, 6, 7, 8, 12. */
 nearby_filled nearby_page(nearby_table table,
                           const uint32_t *references, size_t references_length,
                           const int32_t *coordinates, size_t coordinates_length,
                           const uint64_t *nodes, size_t nodes_length,
-                          const int32_t *probe, size_t probe_length, uint64_t reach,
+                          uint8_t order, const int32_t *probe, size_t probe_length, uint64_t reach,
                           nearby_start start, size_t size,
                           uint64_t *room, size_t room_length);
 
-/* [9.10] The office: the answer line to an ask line, at the front of `out`, which has at least NEARBY_ANSWER_LINE characters.
- * Refusals 12, 1, 2, 9, 10, 11, 7, 8. */
+/* [9.10] The office: the answer line to an ask line, in the order that the ask's kind says, at the front of `out`, which has at
+ * least NEARBY_ANSWER_LINE characters. Refusals 12, 1, 2, 9, 10, 11, 7, 8. */
 nearby_written nearby_answer(nearby_table table,
                              const uint32_t *references, size_t references_length,
                              const int32_t *coordinates, size_t coordinates_length,
@@ -178,10 +185,11 @@ uint8_t nearby_many_farthest(nearby_table table,
                              const int32_t *probes, size_t probes_length, size_t n,
                              uint64_t *out, size_t out_length);
 
-/* [9.17] [4.18] [4.19] nearby_page for each reach, with d coordinates of `probes` and 4 numbers of `places` for each: from (0 is
- * the start), snapshot, distance, number. Row i of `outcomes` has 3 numbers: refusal (0, 7 or 8), count, last. Row i of `items`
- * has size * NEARBY_ITEM numbers, filled from the front; the rest of the row is kept. Refusals 1, 2; 5 where the probes are not d
- * or the places not 4 for each reach; 6; 12 where `outcomes` has under 3 numbers or `items` under size * NEARBY_ITEM for each. */
+/* [9.17] [4.18] [4.19] nearby_page for each reach, with d coordinates of `probes` and NEARBY_PLACE numbers of `places` for each:
+ * order (0 is near), from (0 is the start), snapshot, distance, number. Row i of `outcomes` has 3 numbers: refusal (0, 7 or 8),
+ * count, last. Row i of `items` has size * NEARBY_ITEM numbers, filled from the front; the rest of the row is kept. Refusals 1, 2;
+ * 5 where the probes are not d or the places not NEARBY_PLACE for each reach; 6; 12 where `outcomes` has under 3 numbers or `items`
+ * under size * NEARBY_ITEM for each. */
 uint8_t nearby_many_pages(nearby_table table,
                           const uint32_t *references, size_t references_length,
                           const int32_t *coordinates, size_t coordinates_length,
@@ -192,10 +200,11 @@ uint8_t nearby_many_pages(nearby_table table,
                           uint64_t *outcomes, size_t outcomes_length,
                           uint64_t *items, size_t items_length);
 
-/* [9.18] [6.5] nearby_answer for ask lines that stand one after another, each with its 0A; a last one without it is a line too,
- * refused with 9. It goes on while a character is left, `outcomes` has room for 2 numbers more and `out` has NEARBY_ANSWER_LINE
- * characters left. Row i of `outcomes` has 2 numbers: refusal, and length of the answer line; answer lines stand one after another
- * at the front of `out`. Call again with what was not used. Refusals 12 (under NEARBY_ANSWER_LINE characters), 1, 2. */
+/* [9.18] [6.5] nearby_answer for ask lines that stand one after another, of either order, each with its 0A; a last one without it
+ * is a line too, refused with 9. It goes on while a character is left, `outcomes` has room for 2 numbers more and `out` has
+ * NEARBY_ANSWER_LINE characters left. Row i of `outcomes` has 2 numbers: refusal, and length of the answer line; answer lines stand
+ * one after another at the front of `out`. Call again with what was not used. Refusals 12 (under NEARBY_ANSWER_LINE characters), 1,
+ * 2. */
 nearby_answered nearby_many_answers(nearby_table table,
                                     const uint32_t *references, size_t references_length,
                                     const int32_t *coordinates, size_t coordinates_length,
@@ -211,6 +220,7 @@ nearby_answered nearby_many_answers(nearby_table table,
  * on otherwise; a flag to the caller is 0 or 1. Unused slots of the probe are 0. */
 typedef struct {
     uint32_t table;
+    uint8_t order;
     uint8_t measure;
     uint8_t started;
     uint8_t complete;
@@ -228,22 +238,23 @@ typedef struct {
     nearby_list list;
 } nearby_listed;
 
-/* [9.11] Opens a list on a table for a probe of d coordinates and a reach. Refusals 1, 5. */
-nearby_listed nearby_open_list(uint32_t table, uint8_t measure, size_t d,
+/* [9.11] Opens a list on a table, in an order, for a probe of d coordinates and a reach. Refusals 1, 5. */
+nearby_listed nearby_open_list(uint8_t order, uint32_t table, uint8_t measure, size_t d,
                                const int32_t *probe, size_t probe_length, uint64_t reach);
 
-/* [9.12] Writes the list's present ask for a page of `size` claims to the front of `out`, which has at least NEARBY_ASK_LINE
- * characters. Refusals 2, 16, 6, 12. */
+/* [9.12] Writes the list's present ask, of its order's kind, for a page of `size` claims to the front of `out`, which has at least
+ * NEARBY_ASK_LINE characters. Refusals 2, 16, 6, 12. */
 nearby_written nearby_write_ask(nearby_list list, const uint64_t *room, size_t room_length, size_t size,
                                 uint8_t *out, size_t out_length);
 
 /* [9.13] [7.7] Takes an answer line: its items are put behind those in the room, and a last page completes the list. A line that
- * is late, repeated or another list's is refused with 13, and that is no fault. After 15, move the items to a longer room and take
- * the line again. Refusals 2, 9, 10, 16, 13, 14, 15. */
+ * is late, repeated or another list's is refused with 13, or with 10 where that list has the other order, and that is no fault.
+ * After 15, move the items to a longer room and take the line again. Refusals 2, 9, 10, 16, 13, 14, 15. */
 nearby_listed nearby_take(nearby_list list, uint64_t *room, size_t room_length,
                           const uint8_t *line, size_t line_length);
 
-/* ---- Bare lines ---- */
+/* ---- Bare lines ----
+ * [5.5] [5.6] An ask is a line of kind 01 in near order and of kind 04 in far order, an answer of kind 02 and of kind 05. */
 
 /* [5.8] [5.10] What an ask and an answer have behind the probe. `from` is 0 (at the start) or 1 (after the mark, which is distance
  * and number); with 0 the mark is 0, and so is the snapshot of an ask. */
@@ -258,6 +269,7 @@ typedef struct {
 /* [5.5] The fields of an ask line. Unused slots of a probe are 0, here as below. */
 typedef struct {
     uint32_t table;
+    uint8_t order;
     uint8_t measure;
     uint8_t d;
     int32_t probe[NEARBY_MOST_COORDINATES];
@@ -268,6 +280,7 @@ typedef struct {
 /* [5.6] The fields of an answer line: `count` items of NEARBY_ITEM numbers each; unused slots are 0. */
 typedef struct {
     uint32_t table;
+    uint8_t order;
     uint8_t measure;
     uint8_t d;
     int32_t probe[NEARBY_MOST_COORDINATES];
@@ -302,16 +315,16 @@ typedef struct {
     nearby_claim claim;
 } nearby_claim_read;
 
-/* [9.14] Writes an ask line to the front of `out`, which has at least NEARBY_ASK_LINE characters; the probe has d coordinates.
- * Refusals 10, 12. */
-nearby_written nearby_write_ask_line(uint32_t table, uint8_t measure, uint8_t d,
+/* [9.14] Writes an ask line of an order's kind to the front of `out`, which has at least NEARBY_ASK_LINE characters; the probe has
+ * d coordinates. Refusals 10, 12. */
+nearby_written nearby_write_ask_line(uint8_t order, uint32_t table, uint8_t measure, uint8_t d,
                                      const int32_t *probe, size_t probe_length,
                                      nearby_scope scope, uint8_t size,
                                      uint8_t *out, size_t out_length);
 
-/* [9.14] Writes an answer line to the front of `out`, which has at least NEARBY_ANSWER_LINE characters; the probe has d
- * coordinates, and `items` has NEARBY_ITEM numbers for each of `count`, references under 2^32. Refusals 10, 12. */
-nearby_written nearby_write_answer_line(uint32_t table, uint8_t measure, uint8_t d,
+/* [9.14] Writes an answer line of an order's kind to the front of `out`, which has at least NEARBY_ANSWER_LINE characters; the
+ * probe has d coordinates, and `items` has NEARBY_ITEM numbers for each of `count`, references under 2^32. Refusals 10, 12. */
+nearby_written nearby_write_answer_line(uint8_t order, uint32_t table, uint8_t measure, uint8_t d,
                                         const int32_t *probe, size_t probe_length,
                                         nearby_scope scope, uint8_t last, uint8_t count,
                                         const uint64_t *items, size_t items_length,
@@ -323,7 +336,8 @@ nearby_written nearby_write_claim_line(uint32_t table, uint8_t measure, uint8_t 
                                        const int32_t *coordinates, size_t coordinates_length,
                                        uint8_t *out, size_t out_length);
 
-/* [9.15] [5.13] Reads one line of a kind, with its 0A: just what the writer of that kind can write is accepted. Refusals 9, 10. */
+/* [9.15] [5.13] Reads one ask, answer or claim line, with its 0A: just what its writer can write is accepted. The fields of an ask
+ * and of an answer tell the order. Refusals 9, 10. */
 nearby_ask_read nearby_read_ask_line(const uint8_t *line, size_t line_length);
 nearby_answer_read nearby_read_answer_line(const uint8_t *line, size_t line_length);
 nearby_claim_read nearby_read_claim_line(const uint8_t *line, size_t line_length);
@@ -337,7 +351,7 @@ nearby_claim_read nearby_read_claim_line(const uint8_t *line, size_t line_length
     row(2, "the table is not sound, or the list is not") \
     row(3, "the run has more claims than the capacity leaves free") \
     row(4, "the run has more claims than there are nodes left") \
-    row(5, "not d coordinates in a probe or for each claim of a run, or not four numbers for each place") \
+    row(5, "not d coordinates in a probe or for each claim of a run, or not five numbers for each place") \
     row(6, "a page size that is not 1 to 16") \
     row(7, "a snapshot of more claims than there are") \
     row(8, "a mark that no claim of the snapshot has within the reach") \

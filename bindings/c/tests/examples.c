@@ -1,6 +1,6 @@
 /*
- * Examples that were worked by hand: distances, and examples a to j of crates/paper/specs/Examples.antt. These have claims at 2, 3, 9,
- * 6 and 5 of one coordinate, measure 1 and probe 4; the reach is 5 where none is named.
+ * Examples that were worked by hand: distances, and examples a to j of crates/paper/specs/Examples.antt, with those on pages in far order
+ * too. These have claims at 2, 3, 9, 6 and 5 of one coordinate, measure 1 and probe 4; the reach is 5 where none is named.
  */
 #include "stores.h"
 #include "tests.h"
@@ -38,12 +38,22 @@ static const struct {
     { 8, { 5, 5, 5, 5, 5, 5, 5, 5 }, { 5, 5, 5, 5, 5, 5, 5, 5 }, { 0, 0, 0 } },
 };
 
-/* The distance shows in a table of one claim: in its nearest, its farthest and its page, and in the reach that just includes it. */
+/* The one claim of a table is its whole page within a distance, in either order, and the page within one less has none. */
+static void check_page_of_one(const store *s, uint8_t order, points probe, uint64_t apart)
+{
+    uint64_t items[2 * NEARBY_ITEM];
+    room out = { items, LENGTH(items) };
+    nearby_filled page = try_page(s, order, probe, apart, (nearby_start){ 0 }, 2, out);
+    CHECK(page.count == 1 && page.last == 1 && items[0] == 0 && items[1] == 101 && items[2] == apart);
+    if (apart > 0)
+        CHECK(try_page(s, order, probe, apart - 1, (nearby_start){ 0 }, 2, out).count == 0);
+}
+
+/* The distance shows in a table of one claim: in its nearest, its farthest and its pages, and in the reach that just includes it. */
 static void check_distance(uint8_t measure, points claim, points probe, uint64_t apart)
 {
     seeded from = seed(81);
     const uint32_t given[] = { 101 };
-    uint64_t items[2 * NEARBY_ITEM];
     store s = lend_store(&from, claim.length, 1, 0);
     s.table = try_make(7, measure, claim.length, 1, &s).table;
     CHECK(try_enter(&s, given, 1, claim).refusal == 0);
@@ -52,8 +62,8 @@ static void check_distance(uint8_t measure, points claim, points probe, uint64_t
     CHECK(farthest.found == 1 && farthest.number == 0 && farthest.reference == 101 && farthest.distance == apart);
     if (apart > 0)
         CHECK(try_nearest(&s, probe, apart - 1).found == 0);
-    nearby_filled page = try_page(&s, probe, apart, (nearby_start){ 0 }, 2, (room){ items, LENGTH(items) });
-    CHECK(page.count == 1 && page.last == 1 && items[0] == 0 && items[1] == 101 && items[2] == apart);
+    check_page_of_one(&s, NEARBY_NEAR, probe, apart);
+    check_page_of_one(&s, NEARBY_FAR, probe, apart);
     free_store(&s);
 }
 
@@ -99,8 +109,8 @@ static void ties_go_left(void)
 static const int32_t four[] = { 4 };
 static const points probe = { four, 1 };
 
-/* How far the claims are from the probe, by their numbers; their references are 101 and on. */
-static const uint64_t from_probe[] = { 2, 1, 5, 2, 1 };
+/* How far the claims are from the probe, by their numbers; their references are 101 and on. The sixth, at 4, is entered by some. */
+static const uint64_t from_probe[] = { 2, 1, 5, 2, 1, 0 };
 
 static bool found(nearby_item item, uint64_t number)
 {
@@ -122,16 +132,25 @@ static void examples_c_and_d(void)
 /* A page: its claims by number, and whether it is the last. */
 typedef struct {
     size_t count;
-    uint64_t numbers[5];
+    uint64_t numbers[6];
     uint8_t last;
 } expected;
 
+/* What pages are asked for: the first from a start on, those behind it of the first five claims. */
+typedef struct {
+    uint8_t order;
+    uint64_t reach;
+    nearby_start start;
+    size_t size;
+} asked;
+
 /* Asks for pages, each from the last item of the one before, and compares each. */
-static void check_pages(const store *s, nearby_start start, size_t size, const expected *pages, size_t length)
+static void check_pages(const store *s, asked a, const expected *pages, size_t length)
 {
+    nearby_start start = a.start;
     for (size_t i = 0; i < length; i++) {
         uint64_t items[NEARBY_MOST_PAGE * NEARBY_ITEM];
-        nearby_filled page = try_page(s, probe, 5, start, size, (room){ items, LENGTH(items) });
+        nearby_filled page = try_page(s, a.order, probe, a.reach, start, a.size, (room){ items, LENGTH(items) });
         CHECK(page.refusal == 0 && page.count == pages[i].count && page.last == pages[i].last);
         for (size_t k = 0; k < page.count && k < pages[i].count; k++) {
             const uint64_t *item = items + k * NEARBY_ITEM;
@@ -146,38 +165,76 @@ static void examples_b_and_e(void)
 {
     seeded from = seed(85);
     store s = marked_store(&from, 8);
-    const nearby_start start = { 0 };
     const expected by_1[] = { { 1, { 1 }, 0 }, { 1, { 4 }, 0 }, { 1, { 0 }, 0 }, { 1, { 3 }, 0 }, { 1, { 2 }, 0 },
                               { 0, { 0 }, 1 } };
     const expected by_2[] = { { 2, { 1, 4 }, 0 }, { 2, { 0, 3 }, 0 }, { 1, { 2 }, 1 } };
     const expected by_3[] = { { 3, { 1, 4, 0 }, 0 }, { 2, { 3, 2 }, 1 } };
-    check_pages(&s, start, 1, by_1, LENGTH(by_1));
-    check_pages(&s, start, 2, by_2, LENGTH(by_2));
-    check_pages(&s, start, 3, by_3, LENGTH(by_3));
+    check_pages(&s, (asked){ NEARBY_NEAR, 5, { 0 }, 1 }, by_1, LENGTH(by_1));
+    check_pages(&s, (asked){ NEARBY_NEAR, 5, { 0 }, 2 }, by_2, LENGTH(by_2));
+    check_pages(&s, (asked){ NEARBY_NEAR, 5, { 0 }, 3 }, by_3, LENGTH(by_3));
     free_store(&s);
 }
 
-/* f: [4.5] what is entered after the first page is on none of the others. */
+/* b and e in far order: the farthest first, and of two as far the smaller number. */
+static void far_b_and_e(void)
+{
+    seeded from = seed(89);
+    store s = marked_store(&from, 8);
+    const expected by_1[] = { { 1, { 2 }, 0 }, { 1, { 0 }, 0 }, { 1, { 3 }, 0 }, { 1, { 1 }, 0 }, { 1, { 4 }, 0 },
+                              { 0, { 0 }, 1 } };
+    const expected by_2[] = { { 2, { 2, 0 }, 0 }, { 2, { 3, 1 }, 0 }, { 1, { 4 }, 1 } };
+    const expected by_3[] = { { 3, { 2, 0, 3 }, 0 }, { 2, { 1, 4 }, 1 } };
+    check_pages(&s, (asked){ NEARBY_FAR, 5, { 0 }, 1 }, by_1, LENGTH(by_1));
+    check_pages(&s, (asked){ NEARBY_FAR, 5, { 0 }, 2 }, by_2, LENGTH(by_2));
+    check_pages(&s, (asked){ NEARBY_FAR, 5, { 0 }, 3 }, by_3, LENGTH(by_3));
+    free_store(&s);
+}
+
+/* [2.4] The reach bounds far order from above, too: within 4 and within 2 the farthest claim is not seen, within 1 only a pair is,
+ * and within 0 none. */
+static void far_within_reach(void)
+{
+    seeded from = seed(80);
+    store s = marked_store(&from, 8);
+    const expected of_four[] = { { 2, { 0, 3 }, 0 }, { 2, { 1, 4 }, 0 }, { 0, { 0 }, 1 } };
+    const expected of_two[] = { { 2, { 1, 4 }, 0 }, { 0, { 0 }, 1 } };
+    const expected of_none[] = { { 0, { 0 }, 1 } };
+    check_pages(&s, (asked){ NEARBY_FAR, 4, { 0 }, 2 }, of_four, LENGTH(of_four));
+    check_pages(&s, (asked){ NEARBY_FAR, 2, { 0 }, 2 }, of_four, LENGTH(of_four));
+    check_pages(&s, (asked){ NEARBY_FAR, 1, { 0 }, 2 }, of_two, LENGTH(of_two));
+    check_pages(&s, (asked){ NEARBY_FAR, 0, { 0 }, 2 }, of_none, LENGTH(of_none));
+    free_store(&s);
+}
+
+/* f: [4.5] what is entered after the first page is on none of the others. In far order, too, where a claim at the probe itself would
+ * come behind all others. A new list has it: in near order first, in far order last. */
 static void example_f(void)
 {
     seeded from = seed(86);
     store s = marked_store(&from, 8);
     const uint32_t given[] = { 106 };
-    const expected rest[] = { { 2, { 0, 3 }, 0 }, { 1, { 2 }, 1 } };
+    const expected near_rest[] = { { 2, { 0, 3 }, 0 }, { 1, { 2 }, 1 } }, far_rest[] = { { 2, { 3, 1 }, 0 }, { 1, { 4 }, 1 } };
+    const expected near_anew[] = { { 6, { 5, 1, 4, 0, 3, 2 }, 0 } }, far_anew[] = { { 6, { 2, 0, 3, 1, 4, 5 }, 0 } };
     CHECK(try_enter(&s, given, 1, probe).refusal == 0);
-    check_pages(&s, (nearby_start){ 1, 5, 1, 4 }, 2, rest, LENGTH(rest));
+    check_pages(&s, (asked){ NEARBY_NEAR, 5, { 1, 5, 1, 4 }, 2 }, near_rest, LENGTH(near_rest));
+    check_pages(&s, (asked){ NEARBY_FAR, 5, { 1, 5, 2, 0 }, 2 }, far_rest, LENGTH(far_rest));
+    check_pages(&s, (asked){ NEARBY_NEAR, 5, { 0 }, 6 }, near_anew, LENGTH(near_anew));
+    check_pages(&s, (asked){ NEARBY_FAR, 5, { 0 }, 6 }, far_anew, LENGTH(far_anew));
     free_store(&s);
 }
 
-/* g: [8.8] claim 4 is not at distance 2. h: [8.7] the sixth claim is not there. */
+/* g: [8.8] claim 4 is not at distance 2. h: [8.7] the sixth claim is not there. Claim 2 is no mark within 4, in far order either. */
 static void examples_g_and_h(void)
 {
     seeded from = seed(87);
     store s = marked_store(&from, 8);
     uint64_t items[2 * NEARBY_ITEM] = { 0 };
     room out = { items, LENGTH(items) };
-    CHECK(try_page(&s, probe, 5, (nearby_start){ 1, 5, 2, 4 }, 2, out).refusal == 8);
-    CHECK(try_page(&s, probe, 5, (nearby_start){ 1, 6, 1, 1 }, 2, out).refusal == 7);
+    for (uint8_t order = NEARBY_NEAR; order <= NEARBY_FAR; order++) {
+        CHECK(try_page(&s, order, probe, 5, (nearby_start){ 1, 5, 2, 4 }, 2, out).refusal == 8);
+        CHECK(try_page(&s, order, probe, 5, (nearby_start){ 1, 6, 1, 1 }, 2, out).refusal == 7);
+        CHECK(try_page(&s, order, probe, 4, (nearby_start){ 1, 5, 5, 2 }, 2, out).refusal == 8);
+    }
     free_store(&s);
 }
 
@@ -186,8 +243,10 @@ static void example_j(void)
 {
     seeded from = seed(88);
     store s = marked_store(&from, 8);
-    const expected by_5[] = { { 5, { 1, 4, 0, 3, 2 }, 0 }, { 0, { 0 }, 1 } };
-    check_pages(&s, (nearby_start){ 0 }, 5, by_5, LENGTH(by_5));
+    const expected near_by_5[] = { { 5, { 1, 4, 0, 3, 2 }, 0 }, { 0, { 0 }, 1 } };
+    const expected far_by_5[] = { { 5, { 2, 0, 3, 1, 4 }, 0 }, { 0, { 0 }, 1 } };
+    check_pages(&s, (asked){ NEARBY_NEAR, 5, { 0 }, 5 }, near_by_5, LENGTH(near_by_5));
+    check_pages(&s, (asked){ NEARBY_FAR, 5, { 0 }, 5 }, far_by_5, LENGTH(far_by_5));
     free_store(&s);
 }
 
@@ -197,6 +256,8 @@ void example_tests(void)
     run_test("examples: a, the tree of five claims", example_a);
     run_test("examples: a claim as near to both goes left", ties_go_left);
     run_test("examples: b and e, pages of 1, 2 and 3", examples_b_and_e);
+    run_test("examples: b and e in far order", far_b_and_e);
+    run_test("examples: far order within a reach", far_within_reach);
     run_test("examples: c and d, nearest and farthest", examples_c_and_d);
     run_test("examples: f, a claim entered between pages", example_f);
     run_test("examples: g and h, places refused", examples_g_and_h);

@@ -4,14 +4,14 @@
 
 nearby_written write_ask_fields(nearby_ask ask, output out)
 {
-    return try_ask_line(ask.table, ask.measure, ask.d, (points){ ask.probe, ask.d }, ask.scope, ask.size, out);
+    return try_ask_line(ask.order, ask.table, ask.measure, ask.d, (points){ ask.probe, ask.d }, ask.scope, ask.size, out);
 }
 
 nearby_written write_answer_fields(nearby_answer_fields answer, output out)
 {
     room items = { answer.items, (size_t)answer.count * NEARBY_ITEM };
-    return try_answer_line(answer.table, answer.measure, answer.d, (points){ answer.probe, answer.d }, answer.scope, answer.last,
-                           answer.count, items, out);
+    return try_answer_line(answer.order, answer.table, answer.measure, answer.d, (points){ answer.probe, answer.d }, answer.scope,
+                           answer.last, answer.count, items, out);
 }
 
 nearby_written write_claim_fields(nearby_claim claim, output out)
@@ -28,15 +28,15 @@ static bool same_scope(nearby_scope a, nearby_scope b)
 
 bool same_ask(const nearby_ask *a, const nearby_ask *b)
 {
-    return a->table == b->table && a->measure == b->measure && a->d == b->d && memcmp(a->probe, b->probe, sizeof a->probe) == 0
-        && same_scope(a->scope, b->scope) && a->size == b->size;
+    return a->table == b->table && a->order == b->order && a->measure == b->measure && a->d == b->d
+        && memcmp(a->probe, b->probe, sizeof a->probe) == 0 && same_scope(a->scope, b->scope) && a->size == b->size;
 }
 
 bool same_answer(const nearby_answer_fields *a, const nearby_answer_fields *b)
 {
-    return a->table == b->table && a->measure == b->measure && a->d == b->d && memcmp(a->probe, b->probe, sizeof a->probe) == 0
-        && same_scope(a->scope, b->scope) && a->last == b->last && a->count == b->count
-        && memcmp(a->items, b->items, sizeof a->items) == 0;
+    return a->table == b->table && a->order == b->order && a->measure == b->measure && a->d == b->d
+        && memcmp(a->probe, b->probe, sizeof a->probe) == 0 && same_scope(a->scope, b->scope) && a->last == b->last
+        && a->count == b->count && memcmp(a->items, b->items, sizeof a->items) == 0;
 }
 
 bool same_claim(const nearby_claim *a, const nearby_claim *b)

@@ -43,24 +43,25 @@ uint64_t model_distance(uint8_t measure, size_t d, const int32_t *a, const int32
 /* The nodes that entering n claims one by one gives, six numbers each; gives how many. */
 size_t model_build(uint8_t measure, size_t d, const int32_t *coordinates, size_t n, uint64_t *nodes);
 
-/* The claims within reach among the first `snapshot`, in near order, as items; gives how many. */
-size_t model_near(const store *s, const int32_t *probe, uint64_t reach, size_t snapshot, uint64_t *items);
+/* The claims within reach among the first `snapshot`, in an order, as items; gives how many. */
+size_t model_listed(const store *s, uint8_t order, const int32_t *probe, uint64_t reach, size_t snapshot, uint64_t *items);
 
 nearby_tabled model_make(uint32_t number, uint8_t measure, size_t d, size_t capacity, const store *lent);
 uint8_t model_test(const store *s);
 nearby_tabled model_enter(store *s, const uint32_t *given, size_t given_length, points run);
 nearby_item model_nearest(const store *s, points probe, uint64_t reach);
 nearby_item model_farthest(const store *s, points probe);
-nearby_filled model_page(const store *s, points probe, uint64_t reach, nearby_start start, size_t size, room out);
+nearby_filled model_page(const store *s, uint8_t order, points probe, uint64_t reach, nearby_start start, size_t size, room out);
 nearby_written model_answer(const store *s, text line, output out);
 
-nearby_listed model_open(uint32_t table, uint8_t measure, size_t d, points probe, uint64_t reach);
+nearby_listed model_open(uint8_t order, uint32_t table, uint8_t measure, size_t d, points probe, uint64_t reach);
 nearby_written model_write_ask(nearby_list list, room items, size_t size, output out);
 nearby_listed model_take(nearby_list list, room items, text line);
 
-nearby_written model_ask_line(uint32_t table, uint8_t measure, uint8_t d, points probe, nearby_scope scope, uint8_t size, output out);
-nearby_written model_answer_line(uint32_t table, uint8_t measure, uint8_t d, points probe, nearby_scope scope, uint8_t last,
-                                 uint8_t count, room items, output out);
+nearby_written model_ask_line(uint8_t order, uint32_t table, uint8_t measure, uint8_t d, points probe, nearby_scope scope,
+                              uint8_t size, output out);
+nearby_written model_answer_line(uint8_t order, uint32_t table, uint8_t measure, uint8_t d, points probe, nearby_scope scope,
+                                 uint8_t last, uint8_t count, room items, output out);
 nearby_written model_claim_line(uint32_t table, uint8_t measure, uint8_t d, uint32_t reference, points coordinates, output out);
 nearby_ask_read model_read_ask(text line);
 nearby_answer_read model_read_answer(text line);

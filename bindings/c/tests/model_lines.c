@@ -1,10 +1,13 @@
-/* The three kinds of line, written field by field and read field by field. */
+/* The kinds of line, written field by field and read field by field. */
 #include "model.h"
 
 #include <stdio.h>
 #include <string.h>
 
 enum { MOST_BYTES = (NEARBY_ANSWER_LINE - 1) / 2 };
+
+/* The kinds by their numbers: asks and answers have one for each order. */
+enum { NEAR_ASK = 1, NEAR_ANSWER = 2, CLAIM = 3, FAR_ASK = 4, FAR_ANSWER = 5 };
 
 /* ---- Writing: fields as text, one after another ---- */
 
@@ -65,14 +68,15 @@ static bool ask_holds(nearby_scope p, uint8_t size)
     return scope_holds(p) && (p.from == 1 || p.snapshot == 0) && size >= 1 && size <= NEARBY_MOST_PAGE;
 }
 
-nearby_written model_ask_line(uint32_t table, uint8_t measure, uint8_t d, points probe, nearby_scope scope, uint8_t size, output out)
+nearby_written model_ask_line(uint8_t order, uint32_t table, uint8_t measure, uint8_t d, points probe, nearby_scope scope,
+                              uint8_t size, output out)
 {
     if (!head_holds(measure, d) || probe.length != d || !ask_holds(scope, size))
         return (nearby_written){ .refusal = 10 };
     if (out.length < NEARBY_ASK_LINE)
         return (nearby_written){ .refusal = 12 };
     sheet s = { .length = 0 };
-    head_fields(&s, 1, table, measure, d);
+    head_fields(&s, order == NEARBY_NEAR ? NEAR_ASK : FAR_ASK, table, measure, d);
     coordinate_fields(&s, probe);
     scope_fields(&s, scope);
     field(&s, 1, size);
@@ -89,15 +93,15 @@ static bool items_hold(uint8_t count, room items)
     return true;
 }
 
-nearby_written model_answer_line(uint32_t table, uint8_t measure, uint8_t d, points probe, nearby_scope scope, uint8_t last,
-                                 uint8_t count, room items, output out)
+nearby_written model_answer_line(uint8_t order, uint32_t table, uint8_t measure, uint8_t d, points probe, nearby_scope scope,
+                                 uint8_t last, uint8_t count, room items, output out)
 {
     if (!head_holds(measure, d) || probe.length != d || !scope_holds(scope) || last > 1 || !items_hold(count, items))
         return (nearby_written){ .refusal = 10 };
     if (out.length < NEARBY_ANSWER_LINE)
         return (nearby_written){ .refusal = 12 };
     sheet s = { .length = 0 };
-    head_fields(&s, 2, table, measure, d);
+    head_fields(&s, order == NEARBY_NEAR ? NEAR_ANSWER : FAR_ANSWER, table, measure, d);
     coordinate_fields(&s, probe);
     scope_fields(&s, scope);
     field(&s, 1, last);
@@ -117,7 +121,7 @@ nearby_written model_claim_line(uint32_t table, uint8_t measure, uint8_t d, uint
     if (out.length < NEARBY_CLAIM_LINE)
         return (nearby_written){ .refusal = 12 };
     sheet s = { .length = 0 };
-    head_fields(&s, 3, table, measure, d);
+    head_fields(&s, CLAIM, table, measure, d);
     field(&s, 4, reference);
     coordinate_fields(&s, coordinates);
     return hand_over(&s, out);
@@ -191,26 +195,33 @@ static bool ended(const frame *f)
     return !f->short_of && f->at == f->length;
 }
 
-/* The frame and its head, which the three kinds share: 0, or why the line is refused. */
-static uint8_t take_head(text line, uint8_t kind, frame *f, uint32_t *table, uint8_t *measure, uint8_t *d)
+typedef struct {
+    uint8_t kind;
+    uint32_t table;
+    uint8_t measure, d;
+} head;
+
+/* The frame and its head, which is of one of two kinds: 0, or why the line is refused. */
+static uint8_t take_head(text line, uint8_t one, uint8_t other, frame *f, head *h)
 {
     if (!to_frame(line, f))
         return 9;
-    bool right = take_field(f, 1) == kind;
-    *table = (uint32_t)take_field(f, 4);
-    *measure = (uint8_t)take_field(f, 1);
-    *d = (uint8_t)take_field(f, 1);
-    return right && head_holds(*measure, *d) ? 0 : 10;
+    h->kind = (uint8_t)take_field(f, 1);
+    h->table = (uint32_t)take_field(f, 4);
+    h->measure = (uint8_t)take_field(f, 1);
+    h->d = (uint8_t)take_field(f, 1);
+    return (h->kind == one || h->kind == other) && head_holds(h->measure, h->d) ? 0 : 10;
 }
 
 nearby_ask_read model_read_ask(text line)
 {
-    nearby_ask_read read = { 0 };
-    nearby_ask *a = &read.ask;
+    head h;
     frame f;
-    uint8_t refusal = take_head(line, 1, &f, &a->table, &a->measure, &a->d);
+    uint8_t refusal = take_head(line, NEAR_ASK, FAR_ASK, &f, &h);
     if (refusal != 0)
         return (nearby_ask_read){ .refusal = refusal };
+    nearby_ask_read read = { .ask = { .table = h.table, .order = h.kind == FAR_ASK, .measure = h.measure, .d = h.d } };
+    nearby_ask *a = &read.ask;
     take_coordinates(&f, a->d, a->probe);
     a->scope = take_scope(&f);
     a->size = (uint8_t)take_field(&f, 1);
@@ -219,13 +230,14 @@ nearby_ask_read model_read_ask(text line)
 
 nearby_answer_read model_read_answer(text line)
 {
-    nearby_answer_read read = { 0 };
     const nearby_answer_read not_one = { .refusal = 10 };
-    nearby_answer_fields *a = &read.answer;
+    head h;
     frame f;
-    uint8_t refusal = take_head(line, 2, &f, &a->table, &a->measure, &a->d);
+    uint8_t refusal = take_head(line, NEAR_ANSWER, FAR_ANSWER, &f, &h);
     if (refusal != 0)
         return (nearby_answer_read){ .refusal = refusal };
+    nearby_answer_read read = { .answer = { .table = h.table, .order = h.kind == FAR_ANSWER, .measure = h.measure, .d = h.d } };
+    nearby_answer_fields *a = &read.answer;
     take_coordinates(&f, a->d, a->probe);
     a->scope = take_scope(&f);
     a->last = (uint8_t)take_field(&f, 1);
@@ -242,12 +254,13 @@ nearby_answer_read model_read_answer(text line)
 
 nearby_claim_read model_read_claim(text line)
 {
-    nearby_claim_read read = { 0 };
-    nearby_claim *c = &read.claim;
+    head h;
     frame f;
-    uint8_t refusal = take_head(line, 3, &f, &c->table, &c->measure, &c->d);
+    uint8_t refusal = take_head(line, CLAIM, CLAIM, &f, &h);
     if (refusal != 0)
         return (nearby_claim_read){ .refusal = refusal };
+    nearby_claim_read read = { .claim = { .table = h.table, .measure = h.measure, .d = h.d } };
+    nearby_claim *c = &read.claim;
     c->reference = (uint32_t)take_field(&f, 4);
     take_coordinates(&f, c->d, c->coordinates);
     return ended(&f) ? read : (nearby_claim_read){ .refusal = 10 };

@@ -8,13 +8,14 @@ static bool opened_in_range(uint8_t measure, size_t d)
     return measure >= 1 && measure <= 3 && d >= 1 && d <= NEARBY_MOST_COORDINATES;
 }
 
-nearby_listed model_open(uint32_t table, uint8_t measure, size_t d, points probe, uint64_t reach)
+nearby_listed model_open(uint8_t order, uint32_t table, uint8_t measure, size_t d, points probe, uint64_t reach)
 {
     nearby_listed made = { 0 };
     made.refusal = !opened_in_range(measure, d) ? 1 : probe.length != d ? 5 : 0;
     if (made.refusal != 0)
         return made;
     made.list.table = table;
+    made.list.order = order != 0;
     made.list.measure = measure;
     made.list.d = d;
     memcpy(made.list.probe, probe.at, d * sizeof(int32_t));
@@ -22,20 +23,21 @@ nearby_listed model_open(uint32_t table, uint8_t measure, size_t d, points probe
     return made;
 }
 
-/* Whether item b comes after the mark (distance, number) in near order. */
-static bool later(uint64_t distance, uint64_t number, const uint64_t *b)
+/* Whether item b comes after the mark (distance, number) in an order. */
+static bool later(uint8_t order, uint64_t distance, uint64_t number, const uint64_t *b)
 {
-    return b[2] > distance || (b[2] == distance && b[0] > number);
+    bool nearer = b[2] < distance, farther = b[2] > distance, follows = b[2] == distance && b[0] > number;
+    return follows || (order == NEARBY_NEAR ? farther : nearer);
 }
 
-/* Items rise in near order, each within reach and numbered below the snapshot. */
-static bool items_rise(const uint64_t *items, size_t count, uint64_t reach, uint64_t snapshot)
+/* Items rise in an order, each within reach and numbered below the snapshot. */
+static bool items_rise(uint8_t order, const uint64_t *items, size_t count, uint64_t reach, uint64_t snapshot)
 {
     for (size_t i = 0; i < count; i++) {
         const uint64_t *item = items + i * NEARBY_ITEM;
         if (item[2] > reach || item[0] >= snapshot)
             return false;
-        if (i > 0 && !later(item[-1], item[-3], item))
+        if (i > 0 && !later(order, item[-1], item[-3], item))
             return false;
     }
     return true;
@@ -52,7 +54,7 @@ static bool list_sound(const nearby_list *l, room items)
         return false;
     if (l->started && l->count == 0 && !l->complete)
         return false;
-    return items_rise(items.at, l->count, l->reach, l->snapshot);
+    return items_rise(l->order, items.at, l->count, l->reach, l->snapshot);
 }
 
 /* What stands behind the probe in the list's present ask. A complete list without items has no ask. */
@@ -82,7 +84,8 @@ nearby_written model_write_ask(nearby_list l, room items, size_t size, output ou
         refusal = 12;
     if (refusal != 0)
         return (nearby_written){ .refusal = refusal };
-    return model_ask_line(l.table, l.measure, (uint8_t)l.d, (points){ l.probe, l.d }, present_scope(&l, items.at), (uint8_t)size, out);
+    return model_ask_line(l.order, l.table, l.measure, (uint8_t)l.d, (points){ l.probe, l.d }, present_scope(&l, items.at),
+                          (uint8_t)size, out);
 }
 
 static bool to_present_ask(const nearby_list *l, const nearby_answer_fields *a, nearby_scope present)
@@ -100,9 +103,9 @@ static bool page_holds(const nearby_answer_fields *a)
 {
     if (a->count == 0)
         return a->last == 1;
-    if (a->scope.from == 1 && !later(a->scope.distance, a->scope.number, a->items))
+    if (a->scope.from == 1 && !later(a->order, a->scope.distance, a->scope.number, a->items))
         return false;
-    return items_rise(a->items, a->count, a->scope.reach, a->scope.snapshot);
+    return items_rise(a->order, a->items, a->count, a->scope.reach, a->scope.snapshot);
 }
 
 static uint8_t take_refusal(const nearby_list *l, room items, const nearby_answer_read *read)
@@ -111,6 +114,8 @@ static uint8_t take_refusal(const nearby_list *l, room items, const nearby_answe
         return 2;
     if (read->refusal != 0)
         return read->refusal;
+    if (read->answer.order != (l->order != 0))
+        return 10;
     if (l->complete)
         return 16;
     if (!to_present_ask(l, &read->answer, present_scope(l, items.at)))
@@ -124,6 +129,7 @@ nearby_listed model_take(nearby_list l, room items, text line)
 {
     nearby_answer_read read = model_read_answer(line);
     nearby_listed taken = { take_refusal(&l, items, &read), l };
+    taken.list.order = l.order != 0;
     taken.list.started = l.started != 0;
     taken.list.complete = l.complete != 0;
     if (taken.refusal != 0)

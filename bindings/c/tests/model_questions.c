@@ -8,12 +8,25 @@ typedef struct {
     uint64_t number, reference, distance;
 } measured;
 
+static int by_number(const measured *x, const measured *y)
+{
+    return x->number < y->number ? -1 : x->number > y->number;
+}
+
 static int by_near_order(const void *a, const void *b)
 {
     const measured *x = a, *y = b;
     if (x->distance != y->distance)
         return x->distance < y->distance ? -1 : 1;
-    return x->number < y->number ? -1 : x->number > y->number;
+    return by_number(x, y);
+}
+
+static int by_far_order(const void *a, const void *b)
+{
+    const measured *x = a, *y = b;
+    if (x->distance != y->distance)
+        return x->distance > y->distance ? -1 : 1;
+    return by_number(x, y);
 }
 
 static measured measure_claim(const store *s, const int32_t *probe, size_t claim)
@@ -22,7 +35,7 @@ static measured measure_claim(const store *s, const int32_t *probe, size_t claim
     return (measured){ claim, s->references[claim], model_distance(t->measure, t->d, s->coordinates + claim * t->d, probe) };
 }
 
-static size_t sorted(const store *s, const int32_t *probe, uint64_t reach, size_t snapshot, measured *out)
+static size_t sorted(const store *s, uint8_t order, const int32_t *probe, uint64_t reach, size_t snapshot, measured *out)
 {
     size_t kept = 0;
     for (size_t claim = 0; claim < snapshot; claim++) {
@@ -30,7 +43,7 @@ static size_t sorted(const store *s, const int32_t *probe, uint64_t reach, size_
         if (m.distance <= reach)
             out[kept++] = m;
     }
-    qsort(out, kept, sizeof(measured), by_near_order);
+    qsort(out, kept, sizeof(measured), order == NEARBY_NEAR ? by_near_order : by_far_order);
     return kept;
 }
 
@@ -43,10 +56,10 @@ static void put_items(const measured *from, size_t count, uint64_t *items)
     }
 }
 
-size_t model_near(const store *s, const int32_t *probe, uint64_t reach, size_t snapshot, uint64_t *items)
+size_t model_listed(const store *s, uint8_t order, const int32_t *probe, uint64_t reach, size_t snapshot, uint64_t *items)
 {
     measured *all = malloc((snapshot + 1) * sizeof(measured));
-    size_t count = sorted(s, probe, reach, snapshot, all);
+    size_t count = sorted(s, order, probe, reach, snapshot, all);
     put_items(all, count, items);
     free(all);
     return count;
@@ -69,7 +82,7 @@ nearby_item model_nearest(const store *s, points probe, uint64_t reach)
     if (refusal != 0)
         return (nearby_item){ .refusal = refusal };
     measured *all = malloc((s->table.count + 1) * sizeof(measured));
-    size_t count = sorted(s, probe.at, reach, s->table.count, all);
+    size_t count = sorted(s, NEARBY_NEAR, probe.at, reach, s->table.count, all);
     nearby_item found = count == 0 ? (nearby_item){ 0 } : item_from(all[0]);
     free(all);
     return found;
@@ -102,19 +115,23 @@ static uint8_t place_refusal(const store *s, const int32_t *probe, uint64_t reac
     return start.snapshot > s->table.count ? 7 : !mark_holds(s, probe, reach, start) ? 8 : 0;
 }
 
-static bool after_mark(measured m, nearby_start start)
+static bool after_mark(uint8_t order, measured m, nearby_start start)
 {
-    return start.from == 0 || m.distance > start.distance
-        || (m.distance == start.distance && m.number > start.number);
+    if (start.from == 0)
+        return true;
+    if (m.distance == start.distance)
+        return m.number > start.number;
+    return order == NEARBY_NEAR ? m.distance > start.distance : m.distance < start.distance;
 }
 
 /* The page behind all refusals. */
-static nearby_filled fill_page(const store *s, const int32_t *probe, uint64_t reach, nearby_start start, size_t size, uint64_t *items)
+static nearby_filled fill_page(const store *s, uint8_t order, const int32_t *probe, uint64_t reach, nearby_start start, size_t size,
+                               uint64_t *items)
 {
     size_t snapshot = start.from == 0 ? s->table.count : start.snapshot, skipped = 0;
     measured *all = malloc((snapshot + 1) * sizeof(measured));
-    size_t count = sorted(s, probe, reach, snapshot, all);
-    while (skipped < count && !after_mark(all[skipped], start))
+    size_t count = sorted(s, order, probe, reach, snapshot, all);
+    while (skipped < count && !after_mark(order, all[skipped], start))
         skipped++;
     size_t left = count - skipped, given = left < size ? left : size;
     put_items(all + skipped, given, items);
@@ -122,7 +139,7 @@ static nearby_filled fill_page(const store *s, const int32_t *probe, uint64_t re
     return (nearby_filled){ 0, given < size, given };
 }
 
-nearby_filled model_page(const store *s, points probe, uint64_t reach, nearby_start start, size_t size, room out)
+nearby_filled model_page(const store *s, uint8_t order, points probe, uint64_t reach, nearby_start start, size_t size, room out)
 {
     uint8_t refusal = question_refusal(s, probe);
     if (refusal == 0 && (size < 1 || size > NEARBY_MOST_PAGE))
@@ -133,7 +150,7 @@ nearby_filled model_page(const store *s, points probe, uint64_t reach, nearby_st
         refusal = 12;
     if (refusal != 0)
         return (nearby_filled){ .refusal = refusal };
-    return fill_page(s, probe.at, reach, start, size, out.at);
+    return fill_page(s, order, probe.at, reach, start, size, out.at);
 }
 
 /* ---- The office ---- */
@@ -167,11 +184,11 @@ nearby_written model_answer(const store *s, text line, output out)
         return (nearby_written){ .refusal = refusal };
     const nearby_ask *ask = &read.ask;
     uint64_t items[NEARBY_MOST_PAGE * NEARBY_ITEM];
-    nearby_filled page = fill_page(s, ask->probe, ask->scope.reach, start_of(ask->scope), ask->size, items);
+    nearby_filled page = fill_page(s, ask->order, ask->probe, ask->scope.reach, start_of(ask->scope), ask->size, items);
     nearby_scope scope = ask->scope;
     if (scope.from == 0)
         scope.snapshot = (uint16_t)s->table.count;
-    return model_answer_line(ask->table, ask->measure, ask->d, (points){ ask->probe, ask->d }, scope, page.last,
+    return model_answer_line(ask->order, ask->table, ask->measure, ask->d, (points){ ask->probe, ask->d }, scope, page.last,
                              (uint8_t)page.count, (room){ items, page.count * NEARBY_ITEM }, out);
 }
 
@@ -225,7 +242,7 @@ static uint8_t pages_refusal(const store *s, points probes, size_t n, room start
     uint8_t refusal = model_test(s);
     if (refusal != 0)
         return refusal;
-    if (!each(probes.length, s->table.d, n) || !each(starts.length, 4, n))
+    if (!each(probes.length, s->table.d, n) || !each(starts.length, NEARBY_PLACE, n))
         return 5;
     if (size < 1 || size > NEARBY_MOST_PAGE)
         return 6;
@@ -236,9 +253,9 @@ uint8_t model_many_pages(const store *s, points probes, room reaches, room start
 {
     uint8_t refusal = pages_refusal(s, probes, reaches.length, starts, size, outcomes, items);
     for (size_t i = 0; refusal == 0 && i < reaches.length; i++) {
-        const uint64_t *p = starts.at + 4 * i;
-        nearby_start start = { p[0] != 0, p[1], p[2], p[3] };
-        nearby_filled page = model_page(s, (points){ probes.at + i * s->table.d, s->table.d }, reaches.at[i], start, size,
+        const uint64_t *p = starts.at + NEARBY_PLACE * i;
+        nearby_start start = { p[1] != 0, p[2], p[3], p[4] };
+        nearby_filled page = model_page(s, p[0] != 0, (points){ probes.at + i * s->table.d, s->table.d }, reaches.at[i], start, size,
                                         (room){ items.at + i * size * NEARBY_ITEM, size * NEARBY_ITEM });
         outcomes.at[3 * i] = page.refusal;
         outcomes.at[3 * i + 1] = page.count;

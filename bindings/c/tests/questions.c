@@ -59,16 +59,16 @@ static nearby_start after(uint64_t snapshot, const uint64_t *item)
     return (nearby_start){ 1, snapshot, item[2], item[0] };
 }
 
-/* All pages of one size from the start on; together they are the sorted claims, none twice. */
-static void page_through(const store *s, const int32_t *probe, uint64_t reach, size_t size)
+/* All pages of one order and size from the start on; together they are the sorted claims, none twice. */
+static void page_through(const store *s, uint8_t order, const int32_t *probe, uint64_t reach, size_t size)
 {
     size_t n = s->table.count, seen = 0;
     uint64_t *all = malloc((n + 1) * NEARBY_ITEM * sizeof(uint64_t)), *items = brink(size * NEARBY_ITEM * sizeof(uint64_t));
-    size_t within = model_near(s, probe, reach, n, all);
+    size_t within = model_listed(s, order, probe, reach, n, all);
     nearby_start at = { 0 };
     nearby_filled page = { 0 };
     for (size_t turns = 0; turns <= within && !page.last; turns++) {
-        page = try_page(s, (points){ probe, s->table.d }, reach, at, size, (room){ items, size * NEARBY_ITEM });
+        page = try_page(s, order, (points){ probe, s->table.d }, reach, at, size, (room){ items, size * NEARBY_ITEM });
         if (!CHECK(page.refusal == 0 && seen + page.count <= within))
             break;
         CHECK(memcmp(items, all + seen * NEARBY_ITEM, page.count * NEARBY_ITEM * sizeof(uint64_t)) == 0);
@@ -81,10 +81,12 @@ static void page_through(const store *s, const int32_t *probe, uint64_t reach, s
     brink_free(items, size * NEARBY_ITEM * sizeof(uint64_t));
 }
 
+/* In one order within a reach, and in the other without one. */
 static void ask_all_pages(seeded *from, const store *s, const int32_t *probe)
 {
-    page_through(s, probe, any_reach(from, s, probe), 1 + below(from, NEARBY_MOST_PAGE));
-    page_through(s, probe, UINT64_MAX, 1 + below(from, NEARBY_MOST_PAGE));
+    uint8_t order = any_order(from);
+    page_through(s, order, probe, any_reach(from, s, probe), 1 + below(from, NEARBY_MOST_PAGE));
+    page_through(s, order == NEARBY_NEAR, probe, UINT64_MAX, 1 + below(from, NEARBY_MOST_PAGE));
 }
 
 static void pages_to_the_end(void)
@@ -103,12 +105,13 @@ static void ask_after_marks(seeded *from, const store *s, const int32_t *probe)
     for (uint64_t claim = 0; claim < t->count + 1; claim++) {
         uint64_t apart = claim < t->count ? model_distance(t->measure, t->d, s->coordinates + claim * t->d, probe) : 0;
         nearby_start start = { (uint8_t)(1 + 254 * below(from, 2)), snapshot, apart, claim };
+        uint8_t order = any_order(from);
         size_t size = 1 + below(from, NEARBY_MOST_PAGE);
-        nearby_filled page = try_page(s, p, reach, start, size, (room){ items, size * NEARBY_ITEM });
+        nearby_filled page = try_page(s, order, p, reach, start, size, (room){ items, size * NEARBY_ITEM });
         bool holds = snapshot <= t->count && claim < snapshot && apart <= reach;
         CHECK(page.refusal == (snapshot > t->count ? 7 : holds ? 0 : 8));
         start.distance += one_in(from, 2) ? 1 : UINT64_MAX;
-        CHECK(try_page(s, p, reach, start, size, (room){ items, 48 }).refusal == (snapshot > t->count ? 7 : 8));
+        CHECK(try_page(s, order, p, reach, start, size, (room){ items, 48 }).refusal == (snapshot > t->count ? 7 : 8));
     }
 }
 
@@ -130,21 +133,21 @@ static void pages_in_every_snapshot(void)
             for (uint64_t claim = 0; claim < snapshot; claim++) {
                 uint64_t apart = model_distance(s.table.measure, 2, s.coordinates + claim * 2, probe);
                 nearby_start start = { 1, snapshot, apart, claim };
-                nearby_filled page = try_page(&s, (points){ probe, 2 }, UINT64_MAX, start, 16, (room){ items, 48 });
-                CHECK(page.refusal == 0);
+                for (uint8_t order = NEARBY_NEAR; order <= NEARBY_FAR; order++)
+                    CHECK(try_page(&s, order, (points){ probe, 2 }, UINT64_MAX, start, 16, (room){ items, 48 }).refusal == 0);
             }
         free_store(&s);
     }
 }
 
 /* The first pages of a table that is too large to page through. */
-static void first_pages(const store *s, const int32_t *probe)
+static void first_pages(const store *s, uint8_t order, const int32_t *probe)
 {
     uint64_t items[NEARBY_MOST_PAGE * NEARBY_ITEM];
     points p = { probe, s->table.d };
     nearby_start at = { 0 };
     for (int i = 0; i < 3; i++) {
-        nearby_filled page = try_page(s, p, UINT64_MAX, at, NEARBY_MOST_PAGE, (room){ items, LENGTH(items) });
+        nearby_filled page = try_page(s, order, p, UINT64_MAX, at, NEARBY_MOST_PAGE, (room){ items, LENGTH(items) });
         CHECK(page.count == NEARBY_MOST_PAGE && page.last == 0);
         at = after(s->table.count - (uint64_t)i, items + (NEARBY_MOST_PAGE - 1) * NEARBY_ITEM);
         if (at.number >= at.snapshot)
@@ -152,6 +155,7 @@ static void first_pages(const store *s, const int32_t *probe)
     }
 }
 
+/* Each measure and each style has tables of either order. */
 static void questions_on_large_tables(void)
 {
     seeded from = seed(15);
@@ -159,13 +163,16 @@ static void questions_on_large_tables(void)
     for (uint8_t measure = 1; measure <= 3; measure++)
         for (style how = 0; how < STYLES; how++) {
             size_t n = counts[(measure + how) % LENGTH(counts)];
+            uint8_t order = (measure + how) % 2 == 0 ? NEARBY_NEAR : NEARBY_FAR;
             store s = full_store(&from, measure, 1 + below(&from, 8), n, n, how);
             int32_t probe[8];
             any_probe(&from, &s, how, probe);
             ask_ends(&from, &s, probe);
-            first_pages(&s, probe);
-            if (n <= 500)
-                page_through(&s, probe, UINT64_MAX, NEARBY_MOST_PAGE);
+            first_pages(&s, order, probe);
+            if (n <= 500) {
+                page_through(&s, NEARBY_NEAR, probe, UINT64_MAX, NEARBY_MOST_PAGE);
+                page_through(&s, NEARBY_FAR, probe, UINT64_MAX, NEARBY_MOST_PAGE);
+            }
             free_store(&s);
         }
 }
@@ -175,10 +182,32 @@ static void start_is_no_mark(void)
 {
     seeded from = seed(17);
     store s = full_store(&from, 1, 3, 4, 4, ALIKE);
-    const int32_t here[] = { 4, 4, 4 };
+    const int32_t place[] = { 4, 4, 4 };
+    const points here = { place, 3 };
+    const nearby_start start = { 0, 9, 9, 9 }, mark = { 1, 4, 0, 0 };
     uint64_t items[12];
-    CHECK(try_page(&s, (points){ here, 3 }, 0, (nearby_start){ 0, 9, 9, 9 }, 4, (room){ items, 12 }).count == 4 && items[0] == 0);
-    CHECK(try_page(&s, (points){ here, 3 }, 0, (nearby_start){ 1, 4, 0, 0 }, 4, (room){ items, 12 }).count == 3 && items[0] == 1);
+    for (uint8_t order = NEARBY_NEAR; order <= NEARBY_FAR; order++) {
+        CHECK(try_page(&s, order, here, 0, start, 4, (room){ items, 12 }).count == 4 && items[0] == 0);
+        CHECK(try_page(&s, order, here, 0, mark, 4, (room){ items, 12 }).count == 3 && items[0] == 1);
+    }
+    free_store(&s);
+}
+
+/* Claim 0 lies at the probe, so its mark is 0 and 0 here, too: in far order nothing comes after it, in near order all others do. */
+static void mark_at_the_far_end(void)
+{
+    seeded from = seed(19);
+    store s = lend_store(&from, 1, 3, 0);
+    s.table = try_make(7, NEARBY_CITY_BLOCK, 1, 3, &s).table;
+    const uint32_t given[] = { 101, 102, 103 };
+    const int32_t run[] = { 4, 5, 2 };
+    const points here = { run, 1 };
+    const nearby_start start = { 0 }, mark = { 1, 3, 0, 0 };
+    uint64_t items[12];
+    CHECK(try_enter(&s, given, 3, (points){ run, 3 }).refusal == 0);
+    CHECK(try_page(&s, NEARBY_FAR, here, 9, start, 4, (room){ items, 12 }).count == 3 && items[0] == 2 && items[6] == 0);
+    CHECK(try_page(&s, NEARBY_FAR, here, 9, mark, 4, (room){ items, 12 }).count == 0);
+    CHECK(try_page(&s, NEARBY_NEAR, here, 9, mark, 4, (room){ items, 12 }).count == 2 && items[0] == 1 && items[3] == 2);
     free_store(&s);
 }
 
@@ -195,11 +224,11 @@ static void probes_and_sizes_amiss(void)
             CHECK((try_nearest(&s, p, 3).refusal == 5) == (length != d));
             CHECK((try_farthest(&s, p).refusal == 5) == (length != d));
             for (size_t i = 0; i < LENGTH(sizes); i++)
-                try_page(&s, p, 3, (nearby_start){ 0 }, sizes[i], (room){ items, 60 });
+                try_page(&s, any_order(&from), p, 3, (nearby_start){ 0 }, sizes[i], (room){ items, 60 });
         }
         for (size_t size = 1; size <= 16; size++)
             for (size_t length = 0; length <= 60; length++)
-                try_page(&s, (points){ probe, d }, UINT64_MAX, (nearby_start){ 0 }, size, (room){ items, length });
+                try_page(&s, any_order(&from), (points){ probe, d }, UINT64_MAX, (nearby_start){ 0 }, size, (room){ items, length });
         free_store(&s);
     }
 }
@@ -212,5 +241,6 @@ void question_tests(void)
     run_test("questions: pages in every snapshot", pages_in_every_snapshot);
     run_test("questions: large tables", questions_on_large_tables);
     run_test("questions: the start is no mark", start_is_no_mark);
+    run_test("questions: a mark at the far end", mark_at_the_far_end);
     run_test("questions: probes and page sizes amiss", probes_and_sizes_amiss);
 }

@@ -87,3 +87,8 @@ uint64_t any_reach(seeded *from, const store *s, const int32_t *probe)
     uint64_t apart = model_distance(t->measure, t->d, claim, probe);
     return apart + below(from, 3) - (apart > 0 ? 1 : 0);
 }
+
+uint8_t any_order(seeded *from)
+{
+    return one_in(from, 2) ? NEARBY_NEAR : one_in(from, 2) ? NEARBY_FAR : (uint8_t)(1 + below(from, UINT8_MAX));
+}

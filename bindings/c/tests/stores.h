@@ -25,4 +25,7 @@ store marked_store(seeded *from, size_t capacity);
 /* A reach that lets through none, some or all of a table's claims. */
 uint64_t any_reach(seeded *from, const store *s, const int32_t *probe);
 
+/* An order as a flag: near as often as far, and far as any number but 0. */
+uint8_t any_order(seeded *from);
+
 #endif

@@ -112,7 +112,8 @@ static const refusal_case answering[] = {
     { { NODE_NUMBER_CHANGED }, 2 },
     { { NO_LINE_END }, 9 },
     { { ODD_DIGITS }, 9 },
-    { { NOT_AN_ASK }, 10 },
+    { { A_CLAIM }, 10 },
+    { { AN_ANSWER }, 10 },
     { { SIZE_0 }, 10 },
     { { SIZE_17 }, 10 },
     { { TABLE_8 }, 11 },
@@ -127,7 +128,8 @@ static const refusal_case answering[] = {
     { { OUTPUT_SHORT, NODE_NUMBER_CHANGED }, 12 },
     { { MEASURE_0, NODE_NUMBER_CHANGED }, 1 },
     { { NODE_NUMBER_CHANGED, NO_LINE_END }, 2 },
-    { { NO_LINE_END, NOT_AN_ASK }, 9 },
+    { { NO_LINE_END, A_CLAIM }, 9 },
+    { { NO_LINE_END, AN_ANSWER }, 9 },
     { { SIZE_0, TABLE_8 }, 10 },
     { { TABLE_8, SNAPSHOT_6 }, 11 },
     { { SNAPSHOT_6, MARK_DISTANCE_WRONG }, 7 },
@@ -208,10 +210,10 @@ static void check_none_is_missing(call which, cases all)
         CHECK(has_case(all, order[i], 0) && (i + 1 == length || has_case(all, order[i], order[i + 1])));
 }
 
-static uint8_t call_with(call which, const fault *faults)
+static uint8_t call_with(call which, uint8_t order, const fault *faults)
 {
     seeded from = seed(72);
-    scene c = set_scene(&from);
+    scene c = set_scene(&from, order);
     put_fault(&c, faults[0]);
     put_fault(&c, faults[1]);
     uint8_t refusal = call_scene(which, &c);
@@ -219,27 +221,39 @@ static uint8_t call_with(call which, const fault *faults)
     return refusal;
 }
 
-static void check_cases(call which, cases all)
+static void check_cases_in(uint8_t order, call which, cases all)
 {
     const fault none[] = { NO_FAULT, NO_FAULT };
-    CHECK(call_with(which, none) == 0);
+    CHECK(call_with(which, order, none) == 0);
     for (size_t i = 0; i < all.length; i++)
-        if (!CHECK(call_with(which, all.at[i].faults) == all.at[i].number))
-            printf(" (call %d, case %zu)", (int)which, i);
+        if (!CHECK(call_with(which, order, all.at[i].faults) == all.at[i].number))
+            printf(" (call %d, order %d, case %zu)", (int)which, order, i);
+}
+
+/* A call that knows no order is called in near order alone. */
+static void check_cases(call which, cases all)
+{
+    check_cases_in(NEARBY_NEAR, which, all);
     check_none_is_missing(which, all);
+}
+
+static void check_cases_of_both_orders(call which, cases all)
+{
+    check_cases(which, all);
+    check_cases_in(NEARBY_FAR, which, all);
 }
 
 static void refused_to_test(void) { check_cases(TEST, CASES(testing)); }
 static void refused_to_enter(void) { check_cases(ENTER, CASES(entering)); }
 static void refused_nearest(void) { check_cases(NEAREST, CASES(nearest_or_farthest)); }
 static void refused_farthest(void) { check_cases(FARTHEST, CASES(nearest_or_farthest)); }
-static void refused_pages(void) { check_cases(PAGE, CASES(paging)); }
-static void refused_asks(void) { check_cases(ANSWER, CASES(answering)); }
+static void refused_pages(void) { check_cases_of_both_orders(PAGE, CASES(paging)); }
+static void refused_asks(void) { check_cases_of_both_orders(ANSWER, CASES(answering)); }
 static void refused_many_nearest(void) { check_cases(MANY_NEAREST, CASES(many_nearest_or_farthest)); }
 static void refused_many_farthest(void) { check_cases(MANY_FARTHEST, CASES(many_nearest_or_farthest)); }
-static void refused_many_pages(void) { check_cases(MANY_PAGES, CASES(many_paging)); }
+static void refused_many_pages(void) { check_cases_of_both_orders(MANY_PAGES, CASES(many_paging)); }
 /* A buffer of asks is refused as a single ask is, but for the numbers of the line, which its row has. */
-static void refused_many_asks(void) { check_cases(MANY_ANSWERS, CASES(answering)); }
+static void refused_many_asks(void) { check_cases_of_both_orders(MANY_ANSWERS, CASES(answering)); }
 
 void table_refusal_tests(void)
 {

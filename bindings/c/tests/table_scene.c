@@ -9,12 +9,12 @@ enum { HELD = 0xa5 };
 static const uint32_t given[] = { 106, 107, 108, 109 };
 static const int32_t fours[] = { 4, 4, 4, 4 };
 
-scene set_scene(seeded *from)
+scene set_scene(seeded *from, uint8_t order)
 {
     return (scene){
         .s = marked_store(from, 8),
-        .given_length = 1, .run_length = 1, .probe_length = 1, .probes_length = ASKED, .starts_length = 4 * ASKED,
-        .start = { 1, 5, 1, 4 }, .reach = 5,
+        .given_length = 1, .run_length = 1, .probe_length = 1, .probes_length = ASKED, .starts_length = NEARBY_PLACE * ASKED,
+        .order = order, .start = { 1, 5, 1, 4 }, .reach = 5,
         .size = 2, .room_length = LARGE_SIZE * NEARBY_ITEM,
         .rows_length = 4 * ASKED, .outcomes_length = 3 * ASKED, .items_length = ASKED * LARGE_SIZE * NEARBY_ITEM,
         .asked_table = 7, .asked_measure = 1, .asked_d = 1, .line_end = "\n",
@@ -47,7 +47,8 @@ void put_fault(scene *c, fault f)
     case OUTPUT_SHORT: c->out_length = c->answers_length = NEARBY_ANSWER_LINE - 1; break;
     case NO_LINE_END: c->line_end = ""; break;
     case ODD_DIGITS: c->line_end = "0\n"; break;
-    case NOT_AN_ASK: c->is_claim_line = true; break;
+    case A_CLAIM: c->kind = A_CLAIM_LINE; break;
+    case AN_ANSWER: c->kind = AN_ANSWER_LINE; break;
     case TABLE_8: c->asked_table = 8; break;
     case MEASURE_2: c->asked_measure = 2; break;
     case D_2: c->asked_d = 2; break;
@@ -58,15 +59,19 @@ static uint8_t call_page(scene *c, points probe)
 {
     uint64_t items[LARGE_SIZE * NEARBY_ITEM];
     memset(items, HELD, sizeof items);
-    return try_page(&c->s, probe, c->reach, c->start, c->size, (room){ items, c->room_length }).refusal;
+    return try_page(&c->s, c->order, probe, c->reach, c->start, c->size, (room){ items, c->room_length }).refusal;
 }
 
 /* The scene's line, digit by digit, since no writer writes what is refused. */
 static size_t put_line(const scene *c, char *out)
 {
-    if (c->is_claim_line)
+    bool near = c->order == NEARBY_NEAR;
+    if (c->kind == A_CLAIM_LINE)
         return (size_t)sprintf(out, "030000000701010000006a00000004%s", c->line_end);
-    size_t length = (size_t)sprintf(out, "01%08x%02x%02x", c->asked_table, c->asked_measure, c->asked_d);
+    if (c->kind == AN_ANSWER_LINE)
+        return (size_t)sprintf(out, "%s000000070101000000040000000000000005000005000000000000000000000100%s", near ? "02" : "05",
+                               c->line_end);
+    size_t length = (size_t)sprintf(out, "%s%08x%02x%02x", near ? "01" : "04", c->asked_table, c->asked_measure, c->asked_d);
     for (int i = 0; i < c->asked_d; i++)
         length += (size_t)sprintf(out + length, "%08x", (unsigned)fours[i]);
     length += (size_t)sprintf(out + length, "%016llx", (unsigned long long)c->reach);
@@ -98,12 +103,13 @@ static uint8_t call_many_farthest(scene *c, points probes)
     return try_many_farthest(&c->s, probes, ASKED, (room){ rows, c->rows_length });
 }
 
-/* The places before and behind the scene's are in order, and so are their rows. */
+/* The places before and behind the scene's, near and far, have nothing wrong, and neither have their rows. */
 static uint8_t call_many_pages(scene *c, points probes)
 {
     const nearby_start *p = &c->start;
     uint64_t reaches[ASKED] = { 5, c->reach, 5 };
-    uint64_t starts[4 * ASKED] = { 0, 0, 0, 0, p->from, p->snapshot, p->distance, p->number, 1, 5, 2, 0 };
+    uint64_t starts[NEARBY_PLACE * ASKED] = { NEARBY_NEAR, 0, 0, 0, 0, c->order, p->from, p->snapshot, p->distance, p->number,
+                                              NEARBY_FAR, 1, 5, 2, 0 };
     uint64_t outcomes[3 * ASKED], items[ASKED * LARGE_SIZE * NEARBY_ITEM];
     memset(outcomes, HELD, sizeof outcomes);
     memset(items, HELD, sizeof items);
@@ -115,7 +121,7 @@ static uint8_t call_many_pages(scene *c, points probes)
     return (uint8_t)outcomes[3];
 }
 
-/* Two asks in order stand before the scene's, which is the last, as one without its 0A has to be. */
+/* Two asks with nothing wrong stand before the scene's, near and far; it is the last, as one without its 0A has to be. */
 static uint8_t call_many_answers(scene *c)
 {
     char asks[ASKED * (NEARBY_ASK_LINE + 2)];
@@ -123,8 +129,9 @@ static uint8_t call_many_answers(scene *c)
     uint64_t outcomes[2 * ASKED];
     memset(out, HELD, sizeof out);
     memset(outcomes, HELD, sizeof outcomes);
-    const char *good = "010000000701010000000400000000000000050000000000000000000000000002\n";
-    size_t length = (size_t)sprintf(asks, "%s%s", good, good);
+    const char *near = "010000000701010000000400000000000000050000000000000000000000000002\n";
+    const char *far = "040000000701010000000400000000000000050000000000000000000000000002\n";
+    size_t length = (size_t)sprintf(asks, "%s%s", near, far);
     length += put_line(c, asks + length);
     nearby_answered done = try_many_answers(&c->s, (text){ (uint8_t *)asks, length }, (room){ outcomes, 2 * ASKED },
                                             (output){ out, c->answers_length });

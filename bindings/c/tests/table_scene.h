@@ -7,22 +7,26 @@
 /* The calls for many ask so many questions. Rooms are long enough for a page size that is one too large. */
 enum { ASKED = 3, LARGE_SIZE = NEARBY_MOST_PAGE + 1 };
 
-/* `start` is the place of the page, of the second of many pages, and of the ask line; that line is also the last of many. */
+/* What an ask line may be in place of an ask. */
+typedef enum { AN_ASK_LINE, A_CLAIM_LINE, AN_ANSWER_LINE } line_kind;
+
+/* `order` and `start` are those of the page, of the second of many pages, and of the ask line; that line is also the last of many. */
 typedef struct {
     store s;
     size_t given_length, run_length, probe_length, probes_length, starts_length;
+    uint8_t order;
     nearby_start start;
     uint64_t reach;
     size_t size, room_length, rows_length, outcomes_length, items_length;
     uint32_t asked_table;
     uint8_t asked_measure, asked_d;
-    bool is_claim_line;
+    line_kind kind;
     const char *line_end;
     size_t out_length, answers_length;
 } scene;
 
-/* Table 7 with five claims, and the page of 2 after claim 4. */
-scene set_scene(seeded *from);
+/* Table 7 with five claims, and the page of 2 after claim 4 in an order. */
+scene set_scene(seeded *from, uint8_t order);
 
 typedef enum {
     NO_FAULT,
@@ -35,7 +39,7 @@ typedef enum {
     /* the rooms that are written */
     ROOM_SHORT, OUTCOMES_SHORT, OUTPUT_SHORT,
     /* the ask line */
-    NO_LINE_END, ODD_DIGITS, NOT_AN_ASK, TABLE_8, MEASURE_2, D_2,
+    NO_LINE_END, ODD_DIGITS, A_CLAIM, AN_ANSWER, TABLE_8, MEASURE_2, D_2,
 } fault;
 
 void put_fault(scene *c, fault f);

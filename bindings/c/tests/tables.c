@@ -37,7 +37,7 @@ static void runs_with_coordinates_amiss(void)
 static void all_calls(const store *s)
 {
     int32_t probe[8] = { 1, -1, 2, -2, 0, 3, 1, 1 };
-    uint64_t items[48] = { 0 }, reach[1] = { UINT64_MAX }, start[4] = { 0 }, outcomes[3] = { 0 };
+    uint64_t items[48] = { 0 }, reach[1] = { UINT64_MAX }, start[NEARBY_PLACE] = { NEARBY_FAR }, outcomes[3] = { 0 };
     uint8_t out[NEARBY_ANSWER_LINE] = { 0 };
     const uint8_t line[] = "00\n";
     const text asked = { line, 3 };
@@ -46,11 +46,12 @@ static void all_calls(const store *s)
     try_test(s);
     try_nearest(s, p, UINT64_MAX);
     try_farthest(s, p);
-    try_page(s, p, UINT64_MAX, (nearby_start){ 0 }, 16, (room){ items, 48 });
+    try_page(s, NEARBY_NEAR, p, UINT64_MAX, (nearby_start){ 0 }, 16, (room){ items, 48 });
+    try_page(s, NEARBY_FAR, p, UINT64_MAX, (nearby_start){ 0 }, 16, (room){ items, 48 });
     try_answer(s, asked, (output){ out, sizeof out });
     try_many_nearest(s, p, (room){ reach, 1 }, (room){ items, 48 });
     try_many_farthest(s, p, 1, (room){ items, 48 });
-    try_many_pages(s, p, (room){ reach, 1 }, (room){ start, 4 }, 16, (room){ outcomes, 3 }, (room){ items, 48 });
+    try_many_pages(s, p, (room){ reach, 1 }, (room){ start, NEARBY_PLACE }, 16, (room){ outcomes, 3 }, (room){ items, 48 });
     try_many_answers(s, asked, (room){ outcomes, 3 }, (output){ out, sizeof out });
     try_enter(&entered, NULL, 0, (points){ NULL, 0 });
 }

@@ -12,9 +12,9 @@ void free_room(room r)
     brink_free(r.at, r.length * sizeof(uint64_t));
 }
 
-tablet open_tablet(uint32_t table, uint8_t measure, points probe, uint64_t reach, size_t length)
+tablet open_tablet(uint8_t order, uint32_t table, uint8_t measure, points probe, uint64_t reach, size_t length)
 {
-    nearby_listed opened = try_open(table, measure, probe.length, probe, reach);
+    nearby_listed opened = try_open(order, table, measure, probe.length, probe, reach);
     CHECK(opened.refusal == 0);
     return (tablet){ opened.list, make_room(length) };
 }

@@ -12,8 +12,8 @@ typedef struct {
 room make_room(size_t length);
 void free_room(room r);
 
-/* A list on a table, opened with a probe of d coordinates, and a room of `length` numbers. */
-tablet open_tablet(uint32_t table, uint8_t measure, points probe, uint64_t reach, size_t length);
+/* A list on a table, opened in an order with a probe of d coordinates, and a room of `length` numbers. */
+tablet open_tablet(uint8_t order, uint32_t table, uint8_t measure, points probe, uint64_t reach, size_t length);
 
 /* Moves the items to a room for so many items more. */
 void lengthen_room(tablet *t, size_t more);

@@ -28,8 +28,9 @@ static void *ask_away(void *given)
         int32_t probe[8];
         put_coordinates(&from, TIED, probe, d);
         uint64_t reach = any_reach(&from, w->s, probe), is[48] = { 0 }, must[48] = { 0 };
-        nearby_filled page = nearby_page(LENT(w->s), probe, d, reach, (nearby_start){ 0 }, 16, is, 48);
-        nearby_filled told = model_page(w->s, (points){ probe, d }, reach, (nearby_start){ 0 }, 16, (room){ must, 48 });
+        uint8_t order = any_order(&from);
+        nearby_filled page = nearby_page(LENT(w->s), order, probe, d, reach, (nearby_start){ 0 }, 16, is, 48);
+        nearby_filled told = model_page(w->s, order, (points){ probe, d }, reach, (nearby_start){ 0 }, 16, (room){ must, 48 });
         w->wrong += page.count != told.count || page.last != told.last || memcmp(is, must, sizeof is) != 0;
     }
     return NULL;
@@ -52,24 +53,34 @@ static void threads_share_a_table(void)
     free_store(&s);
 }
 
-/* Every question at the deepest tree that there is. */
-static void *ask_the_deepest(void *given)
+static const int32_t five[] = { 5 };
+
+/* Pages and asks of an order at the deepest tree that there is. */
+static void ask_the_deepest_in(work *w, uint8_t order)
 {
-    work *w = given;
-    const int32_t probe[] = { 5 };
-    const uint64_t reach[] = { UINT64_MAX }, start[4] = { 0 };
+    const uint64_t reach[] = { UINT64_MAX }, start[NEARBY_PLACE] = { order };
     uint64_t items[48], outcomes[3];
     uint8_t ask[NEARBY_ASK_LINE], out[NEARBY_ANSWER_LINE];
     nearby_scope scope = { .reach = UINT64_MAX };
-    size_t length = nearby_write_ask_line(w->s->table.number, 1, 1, probe, 1, scope, 16, ask, sizeof ask).length;
-    w->wrong += nearby_nearest(LENT(w->s), probe, 1, UINT64_MAX).distance != 1;
-    w->wrong += nearby_farthest(LENT(w->s), probe, 1).distance != 1;
-    w->wrong += nearby_page(LENT(w->s), probe, 1, UINT64_MAX, (nearby_start){ 0 }, 16, items, 48).count != 16;
+    size_t length = nearby_write_ask_line(order, w->s->table.number, 1, 1, five, 1, scope, 16, ask, sizeof ask).length;
+    w->wrong += nearby_page(LENT(w->s), order, five, 1, UINT64_MAX, (nearby_start){ 0 }, 16, items, 48).count != 16;
     w->wrong += nearby_answer(LENT(w->s), ask, length, out, sizeof out).refusal != 0;
-    w->wrong += nearby_many_nearest(LENT(w->s), probe, 1, reach, 1, items, 48) != 0;
-    w->wrong += nearby_many_farthest(LENT(w->s), probe, 1, 1, items, 48) != 0;
-    w->wrong += nearby_many_pages(LENT(w->s), probe, 1, reach, 1, start, 4, 16, outcomes, 3, items, 48) != 0;
+    w->wrong += nearby_many_pages(LENT(w->s), five, 1, reach, 1, start, NEARBY_PLACE, 16, outcomes, 3, items, 48) != 0;
     w->wrong += nearby_many_answers(LENT(w->s), ask, length, outcomes, 3, out, sizeof out).lines != 1;
+}
+
+/* Every question there. */
+static void *ask_the_deepest(void *given)
+{
+    work *w = given;
+    const uint64_t reach[] = { UINT64_MAX };
+    uint64_t row[4];
+    w->wrong += nearby_nearest(LENT(w->s), five, 1, UINT64_MAX).distance != 1;
+    w->wrong += nearby_farthest(LENT(w->s), five, 1).distance != 1;
+    w->wrong += nearby_many_nearest(LENT(w->s), five, 1, reach, 1, row, 4) != 0;
+    w->wrong += nearby_many_farthest(LENT(w->s), five, 1, 1, row, 4) != 0;
+    ask_the_deepest_in(w, NEARBY_NEAR);
+    ask_the_deepest_in(w, NEARBY_FAR);
     return NULL;
 }
 

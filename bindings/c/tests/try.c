@@ -97,8 +97,8 @@ static bool same_item(nearby_item a, nearby_item b)
 
 static bool same_list(const nearby_list *a, const nearby_list *b)
 {
-    return a->table == b->table && a->measure == b->measure && a->started == b->started && a->complete == b->complete
-        && a->d == b->d && memcmp(a->probe, b->probe, sizeof a->probe) == 0 && a->reach == b->reach
+    return a->table == b->table && a->order == b->order && a->measure == b->measure && a->started == b->started
+        && a->complete == b->complete && a->d == b->d && memcmp(a->probe, b->probe, sizeof a->probe) == 0 && a->reach == b->reach
         && a->snapshot == b->snapshot && a->count == b->count;
 }
 
@@ -177,12 +177,12 @@ nearby_item try_farthest(const store *s, points probe)
     return is;
 }
 
-nearby_filled try_page(const store *s, points probe, uint64_t reach, nearby_start start, size_t size, room out)
+nearby_filled try_page(const store *s, uint8_t order, points probe, uint64_t reach, nearby_start start, size_t size, room out)
 {
     kept_store k = keep_store(s);
     kept k_probe = keep_points(probe), k_out = keep_room(out);
-    nearby_filled is = nearby_page(LENT(s), probe.at, probe.length, reach, start, size, out.at, out.length);
-    nearby_filled must = model_page(s, probe, reach, start, size, room_of(&k_out));
+    nearby_filled is = nearby_page(LENT(s), order, probe.at, probe.length, reach, start, size, out.at, out.length);
+    nearby_filled must = model_page(s, order, probe, reach, start, size, room_of(&k_out));
     CHECK(is.refusal == must.refusal && is.count == must.count && is.last == must.last);
     check_store(k);
     check_kept(k_probe);
@@ -206,11 +206,11 @@ nearby_written try_answer(const store *s, text line, output out)
 
 /* ---- Lists ---- */
 
-nearby_listed try_open(uint32_t table, uint8_t measure, size_t d, points probe, uint64_t reach)
+nearby_listed try_open(uint8_t order, uint32_t table, uint8_t measure, size_t d, points probe, uint64_t reach)
 {
     kept k = keep_points(probe);
-    nearby_listed is = nearby_open_list(table, measure, d, probe.at, probe.length, reach);
-    nearby_listed must = model_open(table, measure, d, probe, reach);
+    nearby_listed is = nearby_open_list(order, table, measure, d, probe.at, probe.length, reach);
+    nearby_listed must = model_open(order, table, measure, d, probe, reach);
     CHECK(is.refusal == must.refusal && same_list(&is.list, &must.list));
     check_kept(k);
     note(OPEN, is.refusal);
@@ -242,24 +242,25 @@ nearby_listed try_take(nearby_list list, room items, text line)
 
 /* ---- Bare lines ---- */
 
-nearby_written try_ask_line(uint32_t table, uint8_t measure, uint8_t d, points probe, nearby_scope scope, uint8_t size, output out)
+nearby_written try_ask_line(uint8_t order, uint32_t table, uint8_t measure, uint8_t d, points probe, nearby_scope scope,
+                            uint8_t size, output out)
 {
     kept k_probe = keep_points(probe), k_out = keep_output(out);
-    nearby_written is = nearby_write_ask_line(table, measure, d, probe.at, probe.length, scope, size, out.at, out.length);
-    CHECK(same_written(is, model_ask_line(table, measure, d, probe, scope, size, output_of(&k_out))));
+    nearby_written is = nearby_write_ask_line(order, table, measure, d, probe.at, probe.length, scope, size, out.at, out.length);
+    CHECK(same_written(is, model_ask_line(order, table, measure, d, probe, scope, size, output_of(&k_out))));
     check_kept(k_probe);
     check_kept(k_out);
     note(ASK_LINE, is.refusal);
     return is;
 }
 
-nearby_written try_answer_line(uint32_t table, uint8_t measure, uint8_t d, points probe, nearby_scope scope, uint8_t last,
-                               uint8_t count, room items, output out)
+nearby_written try_answer_line(uint8_t order, uint32_t table, uint8_t measure, uint8_t d, points probe, nearby_scope scope,
+                               uint8_t last, uint8_t count, room items, output out)
 {
     kept k_probe = keep_points(probe), k_items = keep_room(items), k_out = keep_output(out);
-    nearby_written is = nearby_write_answer_line(table, measure, d, probe.at, probe.length, scope, last, count, items.at, items.length,
-                                                 out.at, out.length);
-    CHECK(same_written(is, model_answer_line(table, measure, d, probe, scope, last, count, items, output_of(&k_out))));
+    nearby_written is = nearby_write_answer_line(order, table, measure, d, probe.at, probe.length, scope, last, count, items.at,
+                                                 items.length, out.at, out.length);
+    CHECK(same_written(is, model_answer_line(order, table, measure, d, probe, scope, last, count, items, output_of(&k_out))));
     check_kept(k_probe);
     check_kept(k_items);
     check_kept(k_out);
@@ -283,8 +284,8 @@ nearby_ask_read try_read_ask(text line)
     kept k = keep_text(line);
     nearby_ask_read is = nearby_read_ask_line(line.at, line.length), must = model_read_ask(line);
     const nearby_ask *a = &is.ask, *b = &must.ask;
-    CHECK(is.refusal == must.refusal && a->table == b->table && a->measure == b->measure && a->d == b->d && a->size == b->size);
-    CHECK(memcmp(a->probe, b->probe, sizeof a->probe) == 0 && same_scope(a->scope, b->scope));
+    CHECK(is.refusal == must.refusal && a->table == b->table && a->order == b->order && a->measure == b->measure && a->d == b->d);
+    CHECK(memcmp(a->probe, b->probe, sizeof a->probe) == 0 && same_scope(a->scope, b->scope) && a->size == b->size);
     check_kept(k);
     note(READ_ASK, is.refusal);
     return is;
@@ -295,7 +296,7 @@ nearby_answer_read try_read_answer(text line)
     kept k = keep_text(line);
     nearby_answer_read is = nearby_read_answer_line(line.at, line.length), must = model_read_answer(line);
     const nearby_answer_fields *a = &is.answer, *b = &must.answer;
-    CHECK(is.refusal == must.refusal && a->table == b->table && a->measure == b->measure && a->d == b->d);
+    CHECK(is.refusal == must.refusal && a->table == b->table && a->order == b->order && a->measure == b->measure && a->d == b->d);
     CHECK(memcmp(a->probe, b->probe, sizeof a->probe) == 0 && same_scope(a->scope, b->scope));
     CHECK(a->last == b->last && a->count == b->count && memcmp(a->items, b->items, sizeof a->items) == 0);
     check_kept(k);

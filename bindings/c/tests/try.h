@@ -19,16 +19,17 @@ uint8_t try_test(const store *s);
 nearby_tabled try_enter(store *s, const uint32_t *given, size_t given_length, points run);
 nearby_item try_nearest(const store *s, points probe, uint64_t reach);
 nearby_item try_farthest(const store *s, points probe);
-nearby_filled try_page(const store *s, points probe, uint64_t reach, nearby_start start, size_t size, room out);
+nearby_filled try_page(const store *s, uint8_t order, points probe, uint64_t reach, nearby_start start, size_t size, room out);
 nearby_written try_answer(const store *s, text line, output out);
 
-nearby_listed try_open(uint32_t table, uint8_t measure, size_t d, points probe, uint64_t reach);
+nearby_listed try_open(uint8_t order, uint32_t table, uint8_t measure, size_t d, points probe, uint64_t reach);
 nearby_written try_write_ask(nearby_list list, room items, size_t size, output out);
 nearby_listed try_take(nearby_list list, room items, text line);
 
-nearby_written try_ask_line(uint32_t table, uint8_t measure, uint8_t d, points probe, nearby_scope scope, uint8_t size, output out);
-nearby_written try_answer_line(uint32_t table, uint8_t measure, uint8_t d, points probe, nearby_scope scope, uint8_t last,
-                               uint8_t count, room items, output out);
+nearby_written try_ask_line(uint8_t order, uint32_t table, uint8_t measure, uint8_t d, points probe, nearby_scope scope,
+                            uint8_t size, output out);
+nearby_written try_answer_line(uint8_t order, uint32_t table, uint8_t measure, uint8_t d, points probe, nearby_scope scope,
+                               uint8_t last, uint8_t count, room items, output out);
 nearby_written try_claim_line(uint32_t table, uint8_t measure, uint8_t d, uint32_t reference, points coordinates, output out);
 nearby_ask_read try_read_ask(text line);
 nearby_answer_read try_read_answer(text line);

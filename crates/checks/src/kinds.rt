@@ -1,15 +1,42 @@
-// Which kind of line an order has, and which order a kind.
+// Orders as flags, which kinds of line an order has, and which order a kind.
 ghost use mathlib.Core.Path.{_≡_};
-ghost use Rattle.paper.specs.Lines.{askKind, answerKind, spoken, askOrder};
+ghost use Rattle.paper.specs.Lines.{askKind, answerKind, askOrder, answerOrder};
+ghost use Rattle.paper.specs.Orders.{isFar, orderBy, sameOrder};
 use paper::orders::Order;
 
-// [5.5] The kind of an ask in an order; 0 is none, and lists in far order have no lines yet.
+// [9.19] An order as a flag, and a flag as an order.
+pub fn is_far(order: Order) -> bool
+    ensures { λ r. ⌜ r ≡ isFar order ⌝ }
+{
+    match order {
+        Order::Near => false,
+        Order::Far => true,
+    }
+}
+
+pub fn order_by(far: bool) -> Order
+    ensures { λ r. ⌜ r ≡ orderBy far ⌝ }
+{
+    if far { Order::Far } else { Order::Near }
+}
+
+// Whether two orders are the same.
+pub fn same_order(a: Order, b: Order) -> bool
+    ensures { λ r. ⌜ r ≡ sameOrder a b ⌝ }
+{
+    match a {
+        Order::Near => !is_far(b),
+        Order::Far => is_far(b),
+    }
+}
+
+// [5.5] The kind of an ask in an order.
 pub fn ask_kind(order: Order) -> u8
     ensures { λ r. ⌜ r ≡ askKind order ⌝ }
 {
     match order {
         Order::Near => 1,
-        Order::Far => 0,
+        Order::Far => 4,
     }
 }
 
@@ -19,23 +46,19 @@ pub fn answer_kind(order: Order) -> u8
 {
     match order {
         Order::Near => 2,
-        Order::Far => 0,
+        Order::Far => 5,
     }
 }
 
-// [2.1] Whether an order has kinds of line.
-pub fn has_lines(order: Order) -> bool
-    ensures { λ r. ⌜ r ≡ spoken order ⌝ }
-{
-    1 <= ask_kind(order)
-}
-
-// The order whose asks are of a kind, near where there is none.
+// The order whose asks are of a kind, and the one whose answers are; near where there is none.
 pub fn ask_order(kind: u64) -> Order
     ensures { λ r. ⌜ r ≡ askOrder kind ⌝ }
 {
-    if kind == ask_kind(Order::Far) as u64 {
-        return Order::Far;
-    }
-    Order::Near
+    order_by(kind == ask_kind(Order::Far) as u64)
+}
+
+pub fn answer_order(kind: u64) -> Order
+    ensures { λ r. ⌜ r ≡ answerOrder kind ⌝ }
+{
+    order_by(kind == answer_kind(Order::Far) as u64)
 }

@@ -21,12 +21,11 @@ module _ (c : Codec) (law : Lawful c) (Elsewhere : List ℕ → Type 0) (w : Wor
     kept : ListTrue (w .table) L
     kept = all-mem _ L (w .lists) (always c law Elsewhere r .lists) m .kept alone
 
-    pub truthful : Truthful c (w .table) L
+    pub truthful : Truthful (w .table) L
     truthful =
         let ok = always c law Elsewhere r .table in
         let few : count (w .table) ≤ mostClaims = omega (arith, ok .fits, ok .small) in
         record {
-          spoken = all-mem _ L (w .lists) (always c law Elsewhere r .lists) m .spoken;
           sound = λ room h. kept-sound (w .table) L room kept few h;
           held = kept .held;
           front = kept .front;
@@ -38,7 +37,7 @@ module _ (c : Codec) (law : Lawful c) (Elsewhere : List ℕ → Type 0) (w : Wor
 
   -- a list that may ask in w is ready wherever its ask arrives later
   ready : (v : World) (i size : ℕ) → Later c Elsewhere w v → Unshared c Elsewhere (theList w i .query .table) → i < length (w .lists)
-      → MayAsk (w .table) (theList w i) size → MayAnswer c (v .table) (theList w i) size
+      → MayAsk (w .table) (theList w i) size → MayAnswer (v .table) (theList w i) size
   ready v i size l alone here may =
       let good : Good c law Elsewhere (w .table) (theList w i) =
       all-getD _ (w .lists) i noListing (always c law Elsewhere r .lists) here in
@@ -46,7 +45,6 @@ module _ (c : Codec) (law : Lawful c) (Elsewhere : List ℕ → Type 0) (w : Wor
       record {
         table = always c law Elsewhere (later-reachable c law Elsewhere w r l) .table;
         kept = kept-grown _ _ g (theList w i) (good .kept alone);
-        spoken = good .spoken;
         ours = grown-matches _ _ g (theList w i .query) ∙ may .ours;
         unfinished = may .unfinished;
         one = may .one;

@@ -8,10 +8,11 @@ use lib.ListN.{length, take, drop, length-append}
 use lib.Seq.{getD-set-same}
 use borrow.Author.Tests.{le-leb}
 use Rattle.paper.specs.Orders.{Item, listed, snapshotOf, following, pageOf, lastOf}
-use Rattle.paper.specs.Outcomes.{Outcome, gives, onto}
-use Rattle.paper.specs.Ends.{Ask, Answer, Codec, Table, count, matches, answerOf, answerTo, lineAnswered, office, Listing, presentPlace, presentAsk, asking, joinedTo, taken, taking}
+use Rattle.paper.specs.Outcomes.{Outcome, gives, must, onto}
+use Rattle.paper.specs.Ends.{Ask, Answer, Codec, Table, count, matches, answerOf, answerTo, lineAnswered, office, Listing, presentPlace, presentAsk, asking, joinedTo, taken, ownKind, taking}
 use Rattle.paper.proofs.Tests.{and-both, false-not}
 use Rattle.paper.proofs.Outcomes.{must-go}
+use Rattle.orders.proofs.Taking.{order-same}
 use Rattle.orders.specs.LawfulLines.{AskInRange, AnswerInRange, Lawful}
 use Rattle.journey.specs.World.{World, noListing, theList, sent, listChanged, TableOk, next}
 use Rattle.journey.specs.Promise.{askLineOf, replyLineOf, Answered, Grows}
@@ -22,16 +23,15 @@ use Rattle.paper.specs.Limits.{longestAnswer, longestAsk, mostClaims, mostPage}
 -- ---- a list asks, is answered and grows
 
 -- a list that may ask this table for a page
-pub record MayAnswer (c : Codec) (t : Table) (L : Listing) (size : ℕ) : Type 0 where
+pub record MayAnswer (t : Table) (L : Listing) (size : ℕ) : Type 0 where
   pub table : TableOk t
   pub kept : ListTrue t L
-  pub spoken : c .speaks (L .query .order) ≡ true
   pub ours : matches t (L .query) ≡ true
   pub unfinished : L .complete ≡ false
   pub one : 1 ≤ size
   pub most : size ≤ mostPage
 
-module _ (c : Codec) (law : Lawful c) (t : Table) (L : Listing) (size : ℕ) (r : MayAnswer c t L size) where
+module _ (c : Codec) (law : Lawful c) (t : Table) (L : Listing) (size : ℕ) (r : MayAnswer t L size) where
   few : count t ≤ mostClaims
   few = omega (arith, r .table .fits, r .table .small)
 
@@ -58,14 +58,15 @@ module _ (c : Codec) (law : Lawful c) (t : Table) (L : Listing) (size : ℕ) (r 
   unfolding office lineAnswered
   office-line out h =
       must-go _ _ _ (le-leb longestAnswer out h)
-      ∙ ap (λ (x : Outcome Ask). onto x (λ a. onto (answerTo t a) (λ y. gives (c .answerLine y)))) (law .ask-back (presentAsk L size) ask-ok (r .spoken))
+      ∙ ap (λ (x : Outcome Ask). onto x (λ a. onto (answerTo t a) (λ y. gives (c .answerLine y)))) (law .ask-back (presentAsk L size) ask-ok)
       ∙ ap (λ (x : Outcome Answer). onto x (λ y. gives (c .answerLine y))) (present-answered t L (r .kept) (r .unfinished) size (r .ours))
 
   pub takes-line : (room : ℕ) → length (joinedTo L reply .items) ≤ room → taking c room L (replyLineOf c t L size) ≡ gives (joinedTo L reply)
   unfolding taking joinedTo answerOf
   takes-line room h =
       must-go _ _ _ (kept-sound t L room (r .kept) few (omega (arith, length-append (L .items) (reply .items))))
-      ∙ ap (λ (x : Outcome Answer). onto x (λ y. taken room L y)) (law .answer-back reply reply-ok (r .spoken))
+      ∙ ap (λ (x : Outcome Answer). onto x (λ y. must (ownKind L y) 10 (taken room L y))) (law .answer-back reply reply-ok)
+      ∙ must-go _ _ _ (order-same (L .query .order))
       ∙ reply-taken t L size room (r .unfinished) (r .one) h
 
   -- the snapshot that the answer carries, and what the list then lacks
@@ -99,7 +100,7 @@ moved-is : (w : World) (i : ℕ) (x : Outcome Listing) (L : Listing) → x ≡ g
 moved-is w i x L e here = rw e (getD-set-same (w .lists) i L noListing here)
 
 module _ (c : Codec) (law : Lawful c) where
-  pub is-answered : (w v : World) (i size : ℕ) → MayAnswer c (w .table) (theList w i) size → MayAnswer c (v .table) (theList w i) size → Answered c w v i size
+  pub is-answered : (w v : World) (i size : ℕ) → MayAnswer (w .table) (theList w i) size → MayAnswer (v .table) (theList w i) size → Answered c w v i size
   unfolding next
   is-answered w v i size before after =
       record {
@@ -107,7 +108,7 @@ module _ (c : Codec) (law : Lawful c) where
         answered = λ out h. sent-is v _ _ (office-line c law (v .table) (theList w i) size after out h);
       }
 
-  pub has-grown : (w v u : World) (i size : ℕ) → MayAnswer c (v .table) (theList w i) size → TableGrown (v .table) (u .table) → theList u i ≡ theList w i
+  pub has-grown : (w v u : World) (i size : ℕ) → MayAnswer (v .table) (theList w i) size → TableGrown (v .table) (u .table) → theList u i ≡ theList w i
       → i < length (u .lists) → Grows c w v u i size
   unfolding next joinedTo answerOf pageOf
   has-grown w v u i size r g stands here =

@@ -8,7 +8,6 @@ use native.Mathlib.Omega.{arith}
 use lib.ListN.{length, length-append, length-set}
 use lib.Dec.{leb, eqb}
 use borrow.Author.Tests.{leb-true, eqb-true, not-true}
-use Rattle.paper.specs.declared.orders.Order.{Order}
 use Rattle.paper.specs.Points.{Claim}
 use Rattle.paper.specs.Orders.{Query}
 use Rattle.paper.specs.Points.{inRange}
@@ -17,12 +16,11 @@ use Rattle.paper.specs.Ends.{Ask, Answer, Codec, Table, count, answerOf, answer
 use Rattle.paper.proofs.Tests.{and-first, and-second}
 use Rattle.paper.proofs.Outcomes.{must-test, must-rest, through, same-given}
 use Rattle.orders.proofs.Lists.{All, all-map, all-append, all-set, all-getD, all-mem}
-use Rattle.orders.proofs.Taking.{took, fits-present}
+use Rattle.orders.proofs.Taking.{took-line, took-line-query, fits-present}
 use Rattle.orders.specs.LawfulLines.{Typed, QueryInRange, AskInRange, AnswerInRange, Lawful}
 use Rattle.journey.specs.World.{World, Event, enters, opens, asks, receives, takes, strays, noListing, theList, runEntering, tableChanged, sent, listAdded, listChanged, next, Allowed, TableOk, Reachable, begins, goes, Later, still, onwards, Unshared}
 use Rattle.journey.proofs.Kept.{ListTrue, Vouched, kept-fresh, TableGrown, grown-same, grown-trans, kept-grown, vouched-grown, kept-joined}
 use Rattle.journey.proofs.Answers.{asked-ok, answer-ok, replied, answer-vouched}
-use Rattle.journey.proofs.Queries.{same-query}
 
 -- ---- a run is entered
 
@@ -63,11 +61,10 @@ record Onward (w v : World) : Type 0 where
 module _ (c : Codec) (law : Lawful c) (Elsewhere : List ℕ → Type 0) where
   -- a line of the air, read as an answer, is one that the office gave, or comes from elsewhere
   abbrev pub Honest : Table → List ℕ → Type 0
-  Honest t s = (o : Order) (y : Answer) → c .readAnswer o s ≡ gives y → Vouched t y ⊎ Elsewhere s
+  Honest t s = (y : Answer) → c .readAnswer s ≡ gives y → Vouched t y ⊎ Elsewhere s
 
   pub record Good (t : Table) (L : Listing) : Type 0 where
     pub query : QueryInRange (L .query)
-    pub spoken : c .speaks (L .query .order) ≡ true
     pub kept : Unshared c Elsewhere (L .query .table) → ListTrue t L
 
   pub record Inv (w : World) : Type 0 where
@@ -83,14 +80,14 @@ module _ (c : Codec) (law : Lawful c) (Elsewhere : List ℕ → Type 0) where
       let g = entered-grown (w .table) run u ent in
       record {
         table = entered-ok (w .table) run u ent (i .table) typed;
-        air = all-map _ _ (λ s h o y e. ⊎-elim (λ v. inl (vouched-grown _ _ g y v)) (λ f. inr f) (h o y e)) (w .air) (i .air);
-        lists = all-map _ _ (λ L h. record { query = h .query; spoken = h .spoken; kept = λ a. kept-grown _ _ g L (h .kept a) }) (w .lists) (i .lists);
+        air = all-map _ _ (λ s h y e. ⊎-elim (λ v. inl (vouched-grown _ _ g y v)) (λ f. inr f) (h y e)) (w .air) (i .air);
+        lists = all-map _ _ (λ L h. record { query = h .query; kept = λ a. kept-grown _ _ g L (h .kept a) }) (w .lists) (i .lists);
       }
 
-  opens-inv : (w : World) (q : Query) → Inv w → Typed q → c .speaks (q .order) ≡ true → (r : Outcome Listing) → opening q ≡ r → Inv (listAdded w r)
+  opens-inv : (w : World) (q : Query) → Inv w → Typed q → (r : Outcome Listing) → opening q ≡ r → Inv (listAdded w r)
   unfolding opening
-  opens-inv w q i typed spoken (refused n) e = i
-  opens-inv w q i typed spoken (gives L) e =
+  opens-inv w q i typed (refused n) e = i
+  opens-inv w q i typed (gives L) e =
       let e1 = must-rest (inRange (q .measure) (q .d)) 1 _ _ e in
       let ok : QueryInRange q =
       record {
@@ -103,7 +100,7 @@ module _ (c : Codec) (law : Lawful c) (Elsewhere : List ℕ → Type 0) where
         table = i .table;
         air = i .air;
         lists = all-append _ (w .lists) (L ∷ []) (i .lists)
-            (rw (← is) (record { query = ok; spoken = spoken; kept = λ a. kept-fresh (w .table) q ok }), tt);
+            (rw (← is) (record { query = ok; kept = λ a. kept-fresh (w .table) q ok }), tt);
       }
 
   -- a line that joins the air
@@ -124,14 +121,11 @@ module _ (c : Codec) (law : Lawful c) (Elsewhere : List ℕ → Type 0) where
       let is : c .askLine (presentAsk L size) ≡ s = same-given _ _ (must-rest (askRoom out) 12 _ _ e3) in
       let ask : AskInRange (presentAsk L size) =
       asked-ok room size L ok sound unfinished (leb-true _ _ (and-first _ _ ranged)) (leb-true _ _ (and-second (leb 1 size) _ ranged)) in
-      sent-inv w s i (λ o y r. absurd (law .ask-kind o (presentAsk L size) y ask (rw is r)))
+      sent-inv w s i (λ y r. absurd (law .ask-kind (presentAsk L size) y ask (rw is r)))
 
   -- a line that the office wrote reads as what it wrote
-  reads-back : (t : Table) (y : Answer) → AnswerInRange y → c .speaks (y .query .order) ≡ true → Vouched t y → Honest t (c .answerLine y)
-  reads-back t y ok spoken v o x r =
-      let p : o ≡ y .query .order = law .answer-kind o y x ok spoken r in
-      let q : x ≡ y = same-given _ _ (sym (rw p at r) ∙ law .answer-back y ok spoken) in
-      inl (rw q v)
+  reads-back : (t : Table) (y : Answer) → AnswerInRange y → Vouched t y → Honest t (c .answerLine y)
+  reads-back t y ok v x r = let q : x ≡ y = same-given _ _ (sym r ∙ law .answer-back y ok) in inl (rw q v)
 
   receives-inv : (w : World) (s : List ℕ) (out : ℕ) → Inv w → (r : Outcome (List ℕ)) → office c (w .table) out s ≡ r → Inv (sent w r)
   unfolding office lineAnswered
@@ -143,33 +137,31 @@ module _ (c : Codec) (law : Lawful c) (Elsewhere : List ℕ → Type 0) where
       let y : Answer = a2 .value in
       let ok = law .ask-ok s a (a1 .first) in
       let rep = replied (w .table) a y (a2 .first) in
-      let yok : AnswerInRange y = rw (rep .is) (answer-ok (w .table) a (i .table) (ok .0) (rep .held)) in
-      let v : Vouched (w .table) y = rw (rep .is) (answer-vouched (w .table) a (rep .ours) (rep .held) (ok .0 .one)) in
-      let spoken : c .speaks (y .query .order) ≡ true = unfold answerOf in rw (rep .is) (ok .1) in
+      let yok : AnswerInRange y = rw (rep .is) (answer-ok (w .table) a (i .table) ok (rep .held)) in
+      let v : Vouched (w .table) y = rw (rep .is) (answer-vouched (w .table) a (rep .ours) (rep .held) (ok .one)) in
       let is : c .answerLine y ≡ z = same-given _ _ (a2 .second) in
-      sent-inv w z i (rw (← is) (reads-back (w .table) y yok spoken v))
+      sent-inv w z i (rw (← is) (reads-back (w .table) y yok v))
 
   -- whatever line comes, from the air or a file: a list that takes it stays what it promised
   pub line-keeps : (t : Table) (room : ℕ) (L K : Listing) (s : List ℕ) → Honest t s → Unshared c Elsewhere (L .query .table) → ListTrue t L
       → taking c room L s ≡ gives K → ListTrue t K
-  unfolding taking Unshared
+  unfolding Unshared
   line-keeps t room L K s honest alone k e =
-      let a1 = through (c .readAnswer (L .query .order) s) _ _ (must-rest (soundIn room L) 2 _ _ e) in
-      let y : Answer = a1 .value in
-      let ok = law .answer-ok (L .query .order) s y (a1 .first) in
-      let tk = took room L y K (a1 .second) in
-      let fits = fits-present L y (k .query .long) (ok .0) (ok .1) (tk .present) in
+      let tl = took-line c room L s K e in
+      let y : Answer = tl .answer in
+      let tk = tl .joins in
+      let fits = fits-present L y (k .query .long) (law .answer-ok s y (tl .read)) (tl .own) (tk .present) in
       ⊎-elim
       (λ v. rw (tk .is) (kept-joined t L y k v (tk .unfinished) fits))
-      (λ f. absurd (alone s f (L .query .order) y (a1 .first) (ap (λ (q : Query). q .table) (sym (fits .query)))))
-      (honest (L .query .order) y (a1 .first))
+      (λ f. absurd (alone s f y (tl .read) (ap (λ (q : Query). q .table) (sym (fits .query)))))
+      (honest y (tl .read))
 
   takes-inv : (w : World) (j at room : ℕ) (s : List ℕ) → Inv w → j < length (w .lists) → List·Memᴰ s (w .air) → (r : Outcome Listing)
       → taking c room (theList w j) s ≡ r → Inv (listChanged w at r)
   takes-inv w j at room s i hj m (refused k) e = i
   takes-inv w j at room s i hj m (gives K) e =
       let L : Listing = theList w j in
-      let q : K .query ≡ L .query = same-query c room L K s e in
+      let q : K .query ≡ L .query = took-line-query c room L s K e in
       let good : Good (w .table) L = all-getD _ (w .lists) j noListing (i .lists) hj in
       let keeps : Unshared c Elsewhere (K .query .table) → ListTrue (w .table) K =
       λ u. let v : Unshared c Elsewhere (L .query .table) = rw q at u in
@@ -177,7 +169,7 @@ module _ (c : Codec) (law : Lawful c) (Elsewhere : List ℕ → Type 0) where
       record {
         table = i .table;
         air = i .air;
-        lists = all-set _ (w .lists) at K (i .lists) (record { query = rw q (good .query); spoken = rw q (good .spoken); kept = keeps });
+        lists = all-set _ (w .lists) at K (i .lists) (record { query = rw q (good .query); kept = keeps });
       }
 
   -- This holds whatever room the two ends are given, whichever line the office reads and wherever a list is put that took one: what shuts out
@@ -185,11 +177,11 @@ module _ (c : Codec) (law : Lawful c) (Elsewhere : List ℕ → Type 0) where
   step-inv : (w : World) (e : Event) → Inv w → Allowed c Elsewhere w e → Inv (next c w e)
   unfolding next Allowed
   step-inv w (enters run) i a = enters-inv w run i a _ refl
-  step-inv w (opens q) i a = opens-inv w q i (a .0) (a .1) _ refl
+  step-inv w (opens q) i a = opens-inv w q i a _ refl
   step-inv w (asks j size room out) i a = asks-inv w (theList w j) room size out i (all-getD _ (w .lists) j noListing (i .lists) a .query) _ refl
   step-inv w (receives s out) i a = receives-inv w _ _ i _ refl
   step-inv w (takes j room s) i a = takes-inv w j _ _ s i (a .0) (a .1) _ refl
-  step-inv w (strays s) i a = sent-inv w s i (λ o y r. inr a)
+  step-inv w (strays s) i a = sent-inv w s i (λ y r. inr a)
 
   pub always : {w : World} → Reachable c Elsewhere w → Inv w
   always (begins t ok) = record { table = ok; air = tt; lists = tt }

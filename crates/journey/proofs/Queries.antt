@@ -10,9 +10,9 @@ use borrow.Author.Tests.{eqb-true, eqb-false}
 use Rattle.paper.specs.Orders.{Query}
 use Rattle.paper.specs.Points.{inRange}
 use Rattle.paper.specs.Outcomes.{Outcome, refused, gives}
-use Rattle.paper.specs.Ends.{Codec, Table, Listing, fresh, opening, soundIn, asking, office, taking}
-use Rattle.paper.proofs.Outcomes.{must-rest, through, same-given}
-use Rattle.orders.proofs.Taking.{took, took-query}
+use Rattle.paper.specs.Ends.{Codec, Table, Listing, fresh, opening, asking, office, taking}
+use Rattle.paper.proofs.Outcomes.{must-rest, same-given}
+use Rattle.orders.proofs.Taking.{took-line-query}
 use Rattle.journey.specs.World.{World, Event, enters, opens, asks, receives, takes, strays, noListing, theList, tableChanged, sent, listAdded, listChanged, runEntering, next}
 
 -- each list of w still has its query in v
@@ -32,13 +32,6 @@ added-keeps w (refused n) i h = refl
 added-keeps w (gives L) i h = ap (λ (K : Listing). K .query) (List·getD-append (w .lists) _ noListing i h)
 
 module _ (c : Codec) where
-  -- a list that takes a line keeps its query
-  pub same-query : (room : ℕ) (L K : Listing) (s : List ℕ) → taking c room L s ≡ gives K → K .query ≡ L .query
-  unfolding taking
-  same-query room L K s e =
-      let a1 = through (c .readAnswer (L .query .order) s) _ _ (must-rest (soundIn room L) 2 _ _ e) in
-      took-query room L (a1 .value) K (took room L (a1 .value) K (a1 .second))
-
   moved-keeps : (w : World) (j room : ℕ) (s : List ℕ) (x : Outcome Listing) → taking c room (theList w j) s ≡ x → QueryKept w (listChanged w j x)
   moved-keeps w j room s (refused n) e i h = refl
   moved-keeps w j room s (gives K) e i h = go (eqb i j) refl
@@ -46,7 +39,7 @@ module _ (c : Codec) where
       go : (b : Bool) → eqb i j ≡ b → theList (listChanged w j (gives K)) i .query ≡ theList w i .query
       go true p =
           let q : i ≡ j = eqb-true i j p in
-          rw (← q) (ap (λ (L : Listing). L .query) (getD-set-same (w .lists) i K noListing h) ∙ rw q (same-query room (theList w j) K s e))
+          rw (← q) (ap (λ (L : Listing). L .query) (getD-set-same (w .lists) i K noListing h) ∙ rw q (took-line-query c room (theList w j) s K e))
       go false p = ap (λ (L : Listing). L .query) (getD-set-other (w .lists) j i K noListing (eqb-false i j p))
 
   pub next-keeps : (w : World) (e : Event) → QueryKept w (next c w e)

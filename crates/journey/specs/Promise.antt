@@ -14,9 +14,7 @@ abbrev pub allOf : Table → Listing → List Item
 allOf t L = listed (L .query) (t .claims) (L .snapshot)
 
 -- [7.12] a list is sound, and the first so many of what is listed at its snapshot
-pub record Truthful (c : Codec) (t : Table) (L : Listing) : Type 0 where
-  -- [2.1] its order is one that has lines
-  pub spoken : c .speaks (L .query .order) ≡ true
+pub record Truthful (t : Table) (L : Listing) : Type 0 where
   pub sound : (room : ℕ) → length (L .items) ≤ room → soundIn room L ≡ true
   pub held : L .snapshot ≤ count t
   pub front : L .items ≡ take (length (L .items)) (allOf t L)

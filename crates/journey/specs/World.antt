@@ -2,11 +2,9 @@
 -- the office to read, at any time, any number of times, or never. That is loss, repetition, delay and reordering at once. Definitions only.
 use Prim.Native.Nat.{ℕ, _+_, _≤_, _<_, _^_}
 use mathlib.Core.Path.{_≡_}
-use mathlib.Core.Bool.{true}
 use mathlib.Core.List.{List, [], _∷_, _++_, List·Memᴰ}
 use lib.Dec.{leb, eqb}
 use lib.ListN.{length, getD, set}
-use Rattle.paper.specs.declared.orders.Order.{Order}
 use Rattle.paper.specs.Points.{Claim}
 use Rattle.paper.specs.Orders.{Query, queryIn}
 use Rattle.paper.specs.Lines.{noQuery}
@@ -73,11 +71,11 @@ next c w (receives s out) = sent w (office c (w .table) out s)
 next c w (takes i room s) = listChanged w i (taking c room (theList w i) s)
 next c w (strays s) = sent w (gives s)
 
--- [7.14] the premises: arguments are of their types, an order that is opened has its kinds of line, and what a list takes was written by
--- one of the two ends or comes from elsewhere; the office may get any line
+-- [7.14] the premises: arguments are of their types, and what a list takes was written by one of the two ends or comes from elsewhere; the
+-- office may get any line
 unfoldable pub Allowed : Codec → (List ℕ → Type 0) → World → Event → Type 0
 Allowed c Elsewhere w (enters run) = (k : Claim) → List·Memᴰ k run → k .reference < 2 ^ 32
-Allowed c Elsewhere w (opens q) = Typed q × (c .speaks (q .order) ≡ true)
+Allowed c Elsewhere w (opens q) = Typed q
 Allowed c Elsewhere w (asks i size room out) = i < length (w .lists)
 Allowed c Elsewhere w (receives s out) = Unit {0}
 Allowed c Elsewhere w (takes i room s) = (i < length (w .lists)) × List·Memᴰ s (w .air)
@@ -101,4 +99,4 @@ pub data Later (c : Codec) (Elsewhere : List ℕ → Type 0) (w : World) : World
 -- [7.14] no line from elsewhere reads as an answer under this table number
 unfoldable pub Unshared : Codec → (List ℕ → Type 0) → ℕ → Type 0
 Unshared c Elsewhere number =
-    (s : List ℕ) → Elsewhere s → (o : Order) (y : Answer) → c .readAnswer o s ≡ gives y → y .query .table ≡ number → ⊥
+    (s : List ℕ) → Elsewhere s → (y : Answer) → c .readAnswer s ≡ gives y → y .query .table ≡ number → ⊥

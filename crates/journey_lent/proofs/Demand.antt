@@ -1,5 +1,5 @@
 -- The promise over a link, in its order, for every reachable world in lent memory: with the lines of other tables and of any lists in the
--- air, and of every list that was opened for the world's table. Assumes nothing.
+-- air, and of every list, in either order, that was opened for the world's table. Assumes nothing.
 use Prim.Native.Nat.{ℕ, _<_, _≤_}
 use mathlib.Core.Path.{_≡_, ap}
 use mathlib.Core.Bool.{true}
@@ -10,7 +10,6 @@ use Rattle.paper.specs.Orders.{Query, itemOf, queryIn}
 use Rattle.paper.specs.Outcomes.{gives}
 use Rattle.paper.specs.Tree.{claimsIn}
 use Rattle.paper.specs.Ends.{tableOf}
-use Rattle.paper.specs.Lines.{spoken}
 use Rattle.paper.specs.Lists.{Held, listing, openingHeld}
 use Rattle.paper.specs.Codec.{lines}
 use Rattle.orders.specs.LawfulLines.{Typed}
@@ -73,6 +72,6 @@ module _ (w : LentWorld) (r : LentReachable w) where
   that-answer-makes-the-list-grow v u l k i size here may stands = grows-held w r i size here may v l u k stands
 
   -- [7.1] a list that is opened is for what it was opened for, at every later moment
-  pub a-list-keeps-what-it-was-opened-for : (q : Query) (room : List ℕ) → Typed q → spoken (q .order) ≡ true → (l : lists.List)
+  pub a-list-keeps-what-it-was-opened-for : (q : Query) (room : List ℕ) → Typed q → (l : lists.List)
       → openingHeld q ≡ gives l → (v : LentWorld) → LentLater (nextLent w (opens q room)) v → theListing v (length (w .lists)) .query ≡ q
-  a-list-keeps-what-it-was-opened-for q room typed spoke l given v k = query-kept w r q room typed spoke l given v k
+  a-list-keeps-what-it-was-opened-for q room typed l given v k = query-kept w r q room typed l given v k

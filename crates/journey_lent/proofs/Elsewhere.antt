@@ -5,7 +5,6 @@ use mathlib.Core.Bool.{true, not}
 use mathlib.Core.List.{List}
 use lib.Dec.{leb}
 use borrow.Author.Tests.{leb-true, eqb-true, not-true}
-use Rattle.paper.specs.declared.orders.Order.{Order}
 use Rattle.paper.specs.Orders.{Query, queryIn}
 use Rattle.paper.specs.Outcomes.{gives}
 use Rattle.paper.specs.Tree.{Store, fits, sound}
@@ -25,9 +24,9 @@ use Rattle.journey_lent.proofs.Seen.{table-ok}
 
 -- what an office answers reads as an answer under its own table's number
 office-number : (s : Store) → References (s .references) → (out : ℕ) (line given : List ℕ) → officeCall s out line ≡ gives given
-    → (o : Order) (z : Answer) → readAnswer o given ≡ gives z → z .query .table ≡ s .table .number
+    → (z : Answer) → readAnswer given ≡ gives z → z .query .table ≡ s .table .number
 unfolding officeCall lineAnswered
-office-number s typed out line given e o z r =
+office-number s typed out line given e z r =
     let e1 = must-rest (answerRoom out) 12 _ _ e in
     let e2 = must-rest (fits s) 1 _ _ e1 in
     let e3 = must-rest (sound s) 2 _ _ e2 in
@@ -38,21 +37,19 @@ office-number s typed out line given e o z r =
     let y : Answer = a2 .value in
     let ok = lawful .ask-ok line a (a1 .first) in
     let rep = replied (tableOf s) a y (a2 .first) in
-    let yok : AnswerInRange y = rw (rep .is) (answer-ok (tableOf s) a t (ok .0) (rep .held)) in
+    let yok : AnswerInRange y = rw (rep .is) (answer-ok (tableOf s) a t ok (rep .held)) in
     let q : y .query ≡ a .query = unfold answerOf in ap (λ (x : Answer). x .query) (rep .is) in
-    let spoken : lines .speaks (y .query .order) ≡ true = rw q (ok .1) in
     let is : answerLine y ≡ given = same-given _ _ (a2 .second) in
-    let r2 : readAnswer o (answerLine y) ≡ gives z = rw is r in
-    let p : o ≡ y .query .order = lawful .answer-kind o y z yok spoken r2 in
-    let same : z ≡ y = same-given _ _ (sym (rw p at r2) ∙ lawful .answer-back y yok spoken) in
+    let read : readAnswer (answerLine y) ≡ gives z = rw is r in
+    let same : z ≡ y = same-given _ _ (sym read ∙ lawful .answer-back y yok) in
     let ours : a .query .table ≡ s .table .number = unfold matches in eqb-true (a .query .table) (s .table .number) (and-first _ _ (rep .ours)) in
     ap (λ (x : Answer). x .query .table) same ∙ ap (λ (x : Query). x .table) q ∙ ours
 
 -- what a list asks reads as no answer
 ask-unread : (h : Held) → Typed (queryIn (h .list .query)) → (size out : ℕ) (given : List ℕ) → askingHeld lines h size out ≡ gives given
-    → (o : Order) (z : Answer) → readAnswer o given ≡ gives z → ⊥
+    → (z : Answer) → readAnswer given ≡ gives z → ⊥
 unfolding askingHeld asking listing
-ask-unread h typed size out given e o z r =
+ask-unread h typed size out given e z r =
     let L : Listing = listing h in
     let e0 = must-rest (heldWell (h .list .query)) 2 _ _ e in
     let e1 = must-rest (soundIn (roomFor h) L) 2 _ _ e0 in
@@ -66,13 +63,13 @@ ask-unread h typed size out given e o z r =
     let is : lines .askLine (presentAsk L size) ≡ given = same-given _ _ (must-rest (askRoom out) 12 _ _ e3) in
     let ask : AskInRange (presentAsk L size) =
     asked-ok (roomFor h) size L ok well unfinished (leb-true _ _ (and-first _ _ ranged)) (leb-true _ _ (and-second (leb 1 size) _ ranged)) in
-    lawful .ask-kind o (presentAsk L size) z ask (rw is r)
+    lawful .ask-kind (presentAsk L size) z ask (rw is r)
 
 pub unshared : (number : ℕ) → Unshared lines (Foreign number) number
 unfolding Unshared
 unshared number = go
   where
-    go : (s : List ℕ) → Foreign number s → (o : Order) (y : Answer) → readAnswer o s ≡ gives y → y .query .table ≡ number → ⊥
-    go s (answered t typed other out line given e) o y r q = other (sym (office-number t typed out line s e o y r) ∙ q)
-    go s (asked h typed size out given e) o y r q = ask-unread h typed size out s e o y r
-    go s (unread given f) o y r q = f o y r
+    go : (s : List ℕ) → Foreign number s → (y : Answer) → readAnswer s ≡ gives y → y .query .table ≡ number → ⊥
+    go s (answered t typed other out line given e) y r q = other (sym (office-number t typed out line s e y r) ∙ q)
+    go s (asked h typed size out given e) y r q = ask-unread h typed size out s e y r
+    go s (unread given f) y r q = f y r

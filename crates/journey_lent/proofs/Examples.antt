@@ -6,6 +6,7 @@ use native.Mathlib.Omega.{arith}
 use lib.IntN.{ℤ, pos}
 use lib.ListN.{length, take, replicate}
 use lib.Signed.{mag}
+use Rattle.paper.specs.declared.orders.Order.{Order}
 use Rattle.paper.specs.Points.{measureOf, weigh, joined, distance, point, inRange}
 use Rattle.paper.specs.Orders.{Item, Query, insert, itemOf, listed}
 use Rattle.paper.specs.Tree.{newNode, enteredFrom, entered, built, claimsFrom, claimsIn, fits, sameFront, afresh, sound}
@@ -29,40 +30,41 @@ small-typed r m = all-mem (λ (k : ℕ). k < 2 ^ 32) r (replicate 2 0) (omega ar
 run-typed : References (5 ∷ [])
 run-typed r m = all-mem (λ (k : ℕ). k < 2 ^ 32) r (5 ∷ []) (omega arith, tt) m
 
-around-typed : Typed around
-around-typed =
-    record { table = omega arith; reach = omega arith; probe = λ x m. all-mem (λ (k : ℤ). mag k < 2 ^ 31) x (pos 4 ∷ []) (omega arith, tt) m }
+module _ (order : Order) where
+  around-typed : Typed (around order)
+  around-typed =
+      record { table = omega arith; reach = omega arith; probe = λ x m. all-mem (λ (k : ℤ). mag k < 2 ^ 31) x (pos 4 ∷ []) (omega arith, tt) m }
 
-reached : LentReachable opened
-unfolding LentAllowed
-reached =
-    goes (goes (begins small (unfold tableRefusal sound afresh built sameFront fits inRange in refl) small-typed)
-    (happens (enters (5 ∷ []) (pos 3 ∷ [])) run-typed)) (happens (opens around (replicate 3 9)) (around-typed, refl))
+  reached : LentReachable (opened order)
+  unfolding LentAllowed
+  reached =
+      goes (goes (begins small (unfold tableRefusal sound afresh built sameFront fits inRange in refl) small-typed)
+      (happens (enters (5 ∷ []) (pos 3 ∷ [])) run-typed)) (happens (opens (around order) (replicate 3 9)) around-typed)
 
-may : MayAsk (tableOf (opened .store)) (theListing opened 0) 1
-unfolding nextLent enterCall fits inRange sound afresh built sameFront addedRun added openingHeld opening openedAs matches entered newNode enteredFrom listing
-    queryInSlots inSlots
-may = record { ours = refl; unfinished = refl; one = omega arith; most = omega arith }
+  may : MayAsk (tableOf (opened order .store)) (theListing (opened order) 0) 1
+  unfolding nextLent enterCall fits inRange sound afresh built sameFront addedRun added openingHeld opening openedAs matches entered newNode enteredFrom listing
+      queryInSlots inSlots
+  may = record { ours = refl; unfinished = refl; one = omega arith; most = omega arith }
 
-here : 0 < length (opened .lists)
-unfolding nextLent enterCall fits inRange sound afresh built sameFront addedRun added openingHeld opening
-here = omega arith
+  here : 0 < length (opened order .lists)
+  unfolding nextLent enterCall fits inRange sound afresh built sameFront addedRun added openingHeld opening
+  here = omega arith
 
-grows : GrowsHeld opened opened opened 0 1
-grows = that-answer-makes-the-list-grow opened reached opened opened LentLater.still LentLater.still 0 1 here may refl
+  grows : GrowsHeld (opened order) (opened order) (opened order) 0 1
+  grows = that-answer-makes-the-list-grow (opened order) reached (opened order) (opened order) LentLater.still LentLater.still 0 1 here may refl
 
-abbrev found : Query → ℕ → List Item
-found q n = take (length (theListing opened 0 .items) + 1) (listed q (claimsIn (opened .store)) n)
+  abbrev found : Query → ℕ → List Item
+  found q n = take (length (theListing (opened order) 0 .items) + 1) (listed q (claimsIn (opened order .store)) n)
 
-pub lives : Lives
-unfolding nextLent enterCall fits inRange sound afresh built sameFront addedRun added openingHeld opening openedAs entered newNode enteredFrom listing itemsIn
-    queryInSlots inSlots listed itemOf insert measureOf weigh joined distance claimsFrom point
-lives =
-    record {
-      reached = reached;
-      asks = may;
-      grows = grows;
-      items = grows .extended .front
-          ∙ ap (λ (q : Query). found q (grows .grown .snapshot)) (grows .extended .query)
-          ∙ ap (found (theListing opened 0 .query)) (grows .extended .snapshot);
-    }
+  pub lives : Lives order
+  unfolding nextLent enterCall fits inRange sound afresh built sameFront addedRun added openingHeld opening openedAs entered newNode enteredFrom listing itemsIn
+      queryInSlots inSlots listed itemOf insert measureOf weigh joined distance claimsFrom point
+  lives =
+      record {
+        reached = reached;
+        asks = may;
+        grows = grows;
+        items = grows .extended .front
+            ∙ ap (λ (q : Query). found q (grows .grown .snapshot)) (grows .extended .query)
+            ∙ ap (found (theListing (opened order) 0 .query)) (grows .extended .snapshot);
+      }

@@ -1,29 +1,29 @@
--- What reads is in range, and an answer begins with the kind of the order it is read in. Assumes nothing.
+-- What reads is in range, and what reads as an answer begins with an answer's kind. Assumes nothing.
 use Prim.Native.Nat.{ℕ, _+_, _-_, _*_, _^_, _<_}
-use mathlib.Core.Path.{_≡_, refl, ap, _∙_, subst}
+use mathlib.Core.Path.{_≡_, ap, _∙_, subst}
 use mathlib.Core.Bool.{true, _||_}
 use mathlib.Core.List.{List, List·Memᴰ}
 use native.Mathlib.Omega.{arith}
 use lib.Dec.{leb, eqb}
 use lib.IntN.{ℤ}
 use lib.ListN.{length, take, drop, replicate}
-use borrow.Author.Tests.{leb-true, le-leb}
+use borrow.Author.Tests.{leb-true}
 use Rattle.paper.specs.declared.orders.Order.{Order}
 use Rattle.paper.specs.Frames.{num, frameOf, isLine}
 use Rattle.paper.specs.Points.{inRange}
 use Rattle.paper.specs.Orders.{queryIn}
 use Rattle.paper.specs.Fields.{coordsIn, inSlots, scopeIn, scopeOk, itemSlots}
 use Rattle.paper.specs.Fields as fields
-use Rattle.paper.specs.Lines.{askKind, answerKind, spoken, askOrder, behind, queryAt, askRanges, isAsk, askAt, answerRanges, countIn, answerOk, answerAt}
+use Rattle.paper.specs.Lines.{answerKind, askOrder, answerOrder, behind, queryAt, askRanges, isAsk, askAt, answerRanges, countIn, isAnswer, answerAt}
 use Rattle.paper.specs.Outcomes.{gives}
 use Rattle.paper.specs.Ends.{Ask, Answer}
 use Rattle.paper.specs.Codec.{askMeant, answerMeant, readAsk, readAnswer}
 use Rattle.line_digits.proofs.NumbersAndFrames.{Bytes, bytes-drop, num-lt}
 use Rattle.line_digits.proofs.LinesAndFrames.{bytes-frame}
-use Rattle.line_fields.proofs.PartLaws.{HeadOk, length-coordsIn}
+use Rattle.line_fields.proofs.PartLaws.{length-coordsIn}
 use Rattle.line_fields.proofs.Round.{take-slots}
 use Rattle.lines.proofs.AskTests.{any-ask}
-use Rattle.lines.proofs.AnswerTests.{is-answer}
+use Rattle.lines.proofs.AnswerTests.{any-answer}
 use Rattle.orders.specs.LawfulLines.{QueryInRange, AskInRange, AnswerInRange}
 use Rattle.paper.proofs.Tests.{and-first, and-second}
 use Rattle.paper.proofs.Outcomes.{must-test, must-rest, same-given}
@@ -59,62 +59,57 @@ module _ (f : List ℕ) (b : Bytes f) where
   unfolding scopeIn
   far = num-lt 8 (drop 11 (behind f)) (bytes-drop 11 (behind f) (bytes-behind f b))
 
-  frame-ask : isAsk f ≡ true → AskInRange (askMeant (askAt f)) × (spoken (askMeant (askAt f) .query .order) ≡ true)
+  frame-ask : isAsk f ≡ true → AskInRange (askMeant (askAt f))
   unfolding askMeant askAt askRanges queryAt
   frame-ask e =
       let q = any-ask f e in
       let r = q .rest in
       let r1 = and-second (scopeOk (scopeIn (behind f))) _ r in
-      let r2 = and-second (eqb (scopeIn (behind f) .from) 1 || eqb (scopeIn (behind f) .snapshot) 0) _ r1 in (
-        record {
-          query = query-ok (askOrder (num 1 f)) (q .headed .test);
-          place = place-ok (scopeIn (behind f)) (and-first (scopeOk (scopeIn (behind f))) _ r) far;
-          one = leb-true _ _ (and-first _ _ r2);
-          most = leb-true _ _ (and-second (leb 1 (num 1 (drop 21 (behind f)))) _ r2);
-        },
-        le-leb 1 (askKind (askOrder (num 1 f))) (q .headed .some),
-      )
+      let r2 = and-second (eqb (scopeIn (behind f) .from) 1 || eqb (scopeIn (behind f) .snapshot) 0) _ r1 in
+      record {
+        query = query-ok (askOrder (num 1 f)) (q .headed .test);
+        place = place-ok (scopeIn (behind f)) (and-first (scopeOk (scopeIn (behind f))) _ r) far;
+        one = leb-true _ _ (and-first _ _ r2);
+        most = leb-true _ _ (and-second (leb 1 (num 1 (drop 21 (behind f)))) _ r2);
+      }
 
-  frame-answer : (o : Order) → answerOk (answerKind o) f ≡ true → AnswerInRange (answerMeant (answerAt o f)) × (answerMeant (answerAt o f) .query .order ≡ o)
+  frame-answer : isAnswer f ≡ true → AnswerInRange (answerMeant (answerAt f))
   unfolding answerMeant answerAt answerRanges itemSlots queryAt
-  frame-answer o e =
-      let q = is-answer (answerKind o) f e in
+  frame-answer e =
+      let q = any-answer f e in
       let s = and-first (scopeOk (scopeIn (behind f))) _ (q .rest) in
       let n = countIn f in
-      let room = itemSlots n (fields.itemNumbers n (drop 23 (behind f))) in (
-        record {
-          query = query-ok o (q .headed .test);
-          place = place-ok (scopeIn (behind f)) s far;
-          snapshot = scope-small (scopeIn (behind f)) s;
-          used = place-used (scopeIn (behind f));
-          few = omega (arith, q .few, length-in n room);
-          items = λ x m. all-mem _ x _ (items-ok n (drop 23 (behind f)) (replicate (itemRoom - 3 * n) 0) (bytes-drop 23 (behind f) (bytes-behind f b)) (q .numbers)) m;
-        },
-        refl,
-      )
+      let room = itemSlots n (fields.itemNumbers n (drop 23 (behind f))) in
+      record {
+        query = query-ok (answerOrder (num 1 f)) (q .headed .test);
+        place = place-ok (scopeIn (behind f)) s far;
+        snapshot = scope-small (scopeIn (behind f)) s;
+        used = place-used (scopeIn (behind f));
+        few = omega (arith, q .few, length-in n room);
+        items = λ x m. all-mem _ x _ (items-ok n (drop 23 (behind f)) (replicate (itemRoom - 3 * n) 0) (bytes-drop 23 (behind f) (bytes-behind f b)) (q .numbers)) m;
+      }
 
 -- ---- handed on
 
--- a line that reads is in range; an ask is of an order that has lines, an answer of the order it is read in
-pub ask-ok : (l : List ℕ) (a : Ask) → readAsk l ≡ gives a → AskInRange a × (spoken (a .query .order) ≡ true)
+-- a line that reads is in range
+pub ask-ok : (l : List ℕ) (a : Ask) → readAsk l ≡ gives a → AskInRange a
 unfolding readAsk
 ask-ok l a e₀ =
     let e = must-rest (isLine l) 9 _ _ e₀ in
     let is : askMeant (askAt (frameOf l)) ≡ a = same-given _ _ (must-rest (isAsk (frameOf l)) 10 _ _ e) in
-    subst (λ (x : Ask). AskInRange x × (spoken (x .query .order) ≡ true)) is (frame-ask (frameOf l) (bytes-frame l) (must-test (isAsk (frameOf l)) 10 _ _ e))
+    subst AskInRange is (frame-ask (frameOf l) (bytes-frame l) (must-test (isAsk (frameOf l)) 10 _ _ e))
 
-module _ (o : Order) (l : List ℕ) (y : Answer) (e : readAnswer o l ≡ gives y) where
-  test : answerOk (answerKind o) (frameOf l) ≡ true
+module _ (l : List ℕ) (y : Answer) (e : readAnswer l ≡ gives y) where
+  test : isAnswer (frameOf l) ≡ true
   unfolding readAnswer
-  test = must-test (answerOk (answerKind o) (frameOf l)) 10 _ _ (must-rest (isLine l) 9 _ _ e)
+  test = must-test (isAnswer (frameOf l)) 10 _ _ (must-rest (isLine l) 9 _ _ e)
 
-  pub answer-ok : AnswerInRange y × (y .query .order ≡ o)
+  pub answer-ok : AnswerInRange y
   unfolding readAnswer
   answer-ok =
-      let is : answerMeant (answerAt o (frameOf l)) ≡ y =
-      same-given _ _ (must-rest (answerOk (answerKind o) (frameOf l)) 10 _ _ (must-rest (isLine l) 9 _ _ e)) in
-      subst (λ (x : Answer). AnswerInRange x × (x .query .order ≡ o)) is (frame-answer (frameOf l) (bytes-frame l) o test)
+      let is : answerMeant (answerAt (frameOf l)) ≡ y = same-given _ _ (must-rest (isAnswer (frameOf l)) 10 _ _ (must-rest (isLine l) 9 _ _ e)) in
+      subst AnswerInRange is (frame-answer (frameOf l) (bytes-frame l) test)
 
-  -- and begins with the kind of that order's answers
-  pub answer-headed : HeadOk (answerKind o) (frameOf l)
-  answer-headed = is-answer (answerKind o) (frameOf l) test .headed
+  -- and begins with an answer's kind
+  pub answer-begins : num 1 (frameOf l) ≡ answerKind (answerOrder (num 1 (frameOf l)))
+  answer-begins = any-answer (frameOf l) test .headed .kind

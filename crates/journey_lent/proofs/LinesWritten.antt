@@ -1,4 +1,4 @@
--- [5.13] What is written reads back, and begins with its order's kind. Assumes nothing.
+-- [5.13] What is written reads back, and an ask begins with its order's kind. Assumes nothing.
 use Prim.Native.Nat.{ℕ, _-_, _*_, _≤_}
 use mathlib.Core.Path.{_≡_, refl, ap, _∙_}
 use mathlib.Core.Bool.{Bool, true, false}
@@ -9,7 +9,7 @@ use borrow.Author.Tests.{eq-eqb, le-leb}
 use Rattle.paper.specs.declared.lines.Scope.{Scope}
 use Rattle.paper.specs.Frames.{num, frameOf}
 use Rattle.paper.specs.Fields.{queryInSlots, flagOf, itemSlots}
-use Rattle.paper.specs.Lines.{askKind, answerKind, spoken, queryFits, askFrame, askRanges, askFits, anAsk, answerFrame, answerRanges, answerFits, anAnswer}
+use Rattle.paper.specs.Lines.{askKind, queryFits, askFrame, askRanges, askFits, anAsk, answerRanges, answerFits, anAnswer}
 use Rattle.paper.specs.Orders.{Query, snapshotOf, flat}
 use Rattle.paper.specs.Outcomes.{gives}
 use Rattle.paper.specs.Ends.{Ask, Answer}
@@ -17,9 +17,8 @@ use Rattle.paper.specs.Codec.{scopeOf, askLine, answerLine, askMeant, answerMea
 use Rattle.paper.proofs.Reading.{ask-by-refusal, answer-by-refusal}
 use Rattle.line_digits.proofs.LinesAndFrames.{frame-line}
 use Rattle.line_fields.proofs.Round.{ScopeFit, front-read}
-use Rattle.paper.proofs.LineKinds.{ask-small, answer-small}
+use Rattle.paper.proofs.LineKinds.{ask-small}
 use Rattle.lines.proofs.AskTests.{bytes-ask}
-use Rattle.lines.proofs.AnswerTests.{bytes-answer}
 use Rattle.lines.proofs.AskRound.{ask-reads-back}
 use Rattle.lines.proofs.AnswerRound.{answer-reads-back}
 use Rattle.orders.specs.LawfulLines.{QueryInRange, AskInRange, ItemInRange, AnswerInRange}
@@ -39,10 +38,10 @@ flag-small : (b : Bool) → flagOf b ≤ 1
 flag-small true = omega arith
 flag-small false = omega arith
 
--- a query in range fits where its order has lines
-query-fits : (q : Query) → QueryInRange q → spoken (q .order) ≡ true → queryFits q ≡ true
+-- a query in range fits
+query-fits : (q : Query) → QueryInRange q → queryFits q ≡ true
 unfolding queryFits
-query-fits q ok o = and-both _ _ o (and-both _ _ (ok .range) (eq-eqb _ _ (ok .long)))
+query-fits q ok = and-both _ _ (ok .range) (eq-eqb _ _ (ok .long))
 
 -- ---- an ask
 
@@ -58,10 +57,10 @@ module _ (a : Ask) (ok : AskInRange a) where
   scope-fits : ScopeFit scope
   scope-fits = scope-fit (a .place) carried (ok .place) (asked-small (a .place) (ok .place))
 
-  ask-fits : spoken (a .query .order) ≡ true → askFits (a .query) scope (a .size) ≡ true
+  ask-fits : askFits (a .query) scope (a .size) ≡ true
   unfolding askFits askRanges
-  ask-fits o =
-      and-both _ _ (query-fits (a .query) (ok .query) o)
+  ask-fits =
+      and-both _ _ (query-fits (a .query) (ok .query))
       (and-both _ _ (scope-ok (a .place) carried (ok .place) (asked-small (a .place) (ok .place)))
       (and-both _ _ (scope-asks (a .place)) (and-both _ _ (le-leb 1 (a .size) (ok .one)) (le-leb (a .size) mostPage (ok .most)))))
 
@@ -72,13 +71,12 @@ module _ (a : Ask) (ok : AskInRange a) where
       let p = scope-place (a .place) carried (asked-used (a .place)) in
       λ i. record { query = q i; place = p i; size = a .size }
 
-  pub ask-back : spoken (a .query .order) ≡ true → readAsk (askLine a) ≡ gives a
+  pub ask-back : readAsk (askLine a) ≡ gives a
   unfolding askLine anAsk
-  ask-back o =
+  ask-back =
       ask-by-refusal (askLine a)
-      ∙ rw (ask-reads-back (a .query) scope (a .size) (ask-fits o) (query-fit (a .query) (ok .query)) scope-fits) (ap gives ask-same)
+      ∙ rw (ask-reads-back (a .query) scope (a .size) ask-fits (query-fit (a .query) (ok .query)) scope-fits) (ap gives ask-same)
 
-  -- also where its order has no lines
   pub ask-begins : num 1 (frameOf (askLine a)) ≡ askKind (a .query .order)
   unfolding askLine askFrame
   ask-begins =
@@ -101,10 +99,10 @@ module _ (y : Answer) (ok : AnswerInRange y) where
   all-ok : All ItemInRange (y .items)
   all-ok = all-of-mem _ (y .items) (ok .items)
 
-  answer-fits : spoken (y .query .order) ≡ true → answerFits (y .query) around (flagOf (y .last)) pages (flat (y .items)) ≡ true
+  answer-fits : answerFits (y .query) around (flagOf (y .last)) pages (flat (y .items)) ≡ true
   unfolding answerFits answerRanges
-  answer-fits o =
-      and-both _ _ (query-fits (y .query) (ok .query) o)
+  answer-fits =
+      and-both _ _ (query-fits (y .query) (ok .query))
       (and-both _ _ (and-both _ _ (scope-ok (y .place) (y .snapshot) (ok .place) (ok .snapshot))
       (and-both _ _ (le-leb (flagOf (y .last)) 1 (flag-small (y .last))) (le-leb pages mostPage (ok .few))))
       (and-both _ _ (eq-eqb _ _ (flat-length (y .items))) (and-both _ _ (flat-references (y .items) all-ok) (flat-numbers (y .items) all-ok))))
@@ -119,14 +117,8 @@ module _ (y : Answer) (ok : AnswerInRange y) where
       let m = read-flat (y .items) (replicate (itemRoom - 3 * pages) 0) in
       λ i. record { query = q i; place = p i; snapshot = s i; last = l i; items = m i }
 
-  pub answer-back : spoken (y .query .order) ≡ true → readAnswer (y .query .order) (answerLine y) ≡ gives y
+  pub answer-back : readAnswer (answerLine y) ≡ gives y
   unfolding answerLine anAnswer
-  answer-back o =
-      answer-by-refusal (y .query .order) (answerLine y)
-      ∙ rw (answer-reads-back (y .query) around (flagOf (y .last)) pages (flat (y .items)) (answer-fits o) (query-fit (y .query) (ok .query)) around-fits (flat-distances (y .items) all-ok)) (ap gives answer-same)
-
-  pub answer-begins : num 1 (frameOf (answerLine y)) ≡ answerKind (y .query .order)
-  unfolding answerLine answerFrame
-  answer-begins =
-      ap (num 1) (frame-line _ (bytes-answer (y .query) around (flagOf (y .last)) pages (flat (y .items))))
-      ∙ front-read _ _ (y .query) around _ refl (answer-small (y .query .order)) (query-fit (y .query) (ok .query)) around-fits .kind
+  answer-back =
+      answer-by-refusal (answerLine y)
+      ∙ rw (answer-reads-back (y .query) around (flagOf (y .last)) pages (flat (y .items)) answer-fits (query-fit (y .query) (ok .query)) around-fits (flat-distances (y .items) all-ok)) (ap gives answer-same)

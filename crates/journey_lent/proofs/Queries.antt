@@ -1,7 +1,6 @@
 -- [7.1] A list that is opened in lent memory stands behind the others, and keeps what it was opened for. Assumes nothing.
 use Prim.Native.Nat.{ℕ, _<_}
 use mathlib.Core.Path.{_≡_, refl, sym, ap, _∙_, subst}
-use mathlib.Core.Bool.{true}
 use mathlib.Core.List.{List, [], _∷_}
 use native.Mathlib.Omega.{arith}
 use lib.ListN.{length, length-map, length-append}
@@ -9,7 +8,6 @@ use Rattle.paper.specs.declared.lists.List as lists
 use Rattle.paper.specs.Orders.{Query}
 use Rattle.paper.specs.Outcomes.{gives}
 use Rattle.paper.specs.Ends.{Listing, opening}
-use Rattle.paper.specs.Lines.{spoken}
 use Rattle.paper.specs.Lists.{held, listing, openedAs, openingHeld}
 use Rattle.paper.specs.Codec.{lines}
 use Rattle.paper.proofs.Outcomes.{through}
@@ -23,14 +21,14 @@ use Rattle.journey_lent.specs.Seen.{seen}
 use Rattle.journey_lent.proofs.SoundMemory.{sound-memory}
 use Rattle.journey_lent.proofs.Seen.{list-seen, opens-seen, later-seen}
 
-module _ (w : LentWorld) (r : LentReachable w) (q : Query) (room : List ℕ) (typed : Typed q) (spoke : spoken (q .order) ≡ true) (l : lists.List)
+module _ (w : LentWorld) (r : LentReachable w) (q : Query) (room : List ℕ) (typed : Typed q) (l : lists.List)
     (given : openingHeld q ≡ gives l) where
   abbrev n : ℕ
   n = length (w .lists)
 
   opened-reachable : LentReachable (nextLent w (opens q room))
   unfolding LentAllowed
-  opened-reachable = goes r (happens (opens q room) (typed, spoke))
+  opened-reachable = goes r (happens (opens q room) typed)
 
   opened-here : n < length (nextLent w (opens q room) .lists)
   unfolding nextLent

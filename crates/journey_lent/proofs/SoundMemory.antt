@@ -10,7 +10,6 @@ use lib.ListN.{length, take}
 use borrow.Author.Tests.{eqb-true, eq-eqb, le-leb}
 use Rattle.paper.specs.declared.lists.List as lists
 use Rattle.paper.specs.Limits.{mostClaims}
-use Rattle.paper.specs.Lines.{spoken}
 use Rattle.paper.specs.Orders.{Query, flat}
 use Rattle.paper.specs.Outcomes.{Outcome, refused, gives, leaves}
 use Rattle.paper.specs.Points.{inRange}
@@ -50,15 +49,15 @@ unfolding soundIn rising every startedWell
 fresh-sound q room a b = rw (a, eq-eqb (length (q .probe)) (q .d) b, le-leb 0 mostClaims (omega arith), le-leb 0 room (omega arith))
 
 -- a list that was opened
-opened-sound : (q : Query) (room : List ℕ) (l : lists.List) → spoken (q .order) ≡ true → openingHeld q ≡ gives l → IsSound (held l room)
+opened-sound : (q : Query) (room : List ℕ) (l : lists.List) → openingHeld q ≡ gives l → IsSound (held l room)
 unfolding openingHeld opening soundHeld
-opened-sound q room l spoken e =
+opened-sound q room l e =
     let t = through (opening q) (λ L. gives (openedAs q)) l e in
     let r : inRange (q .measure) (q .d) ≡ true = must-test (inRange (q .measure) (q .d)) 1 _ _ (t .first) in
     let n : length (q .probe) ≡ q .d =
     eqb-true _ _ (must-test (eqb (length (q .probe)) (q .d)) 5 _ _ (must-rest (inRange (q .measure) (q .d)) 1 _ _ (t .first))) in
     subst (λ (k : lists.List). IsSound (held k room)) (same-given _ _ (t .second))
-    (and-both _ _ (opened-well q spoken n) (rw (listing-opened q room n) (fresh-sound q _ r n)))
+    (and-both _ _ (opened-well q n) (rw (listing-opened q room n) (fresh-sound q _ r n)))
 
 -- one that took a line, or refused it
 after-sound : (h : Held) (line : List ℕ) (o : Outcome Listing) → takingHeld lines h line ≡ o → IsSound h → IsSound (heldAfter h o)
@@ -121,11 +120,11 @@ table-sound w given points (gives s) e m =
     let g : Good s = entered-good (w .store) given points s e .0 in
     record { fit = fit-fits s (g .fit); table = good-sound s g; lists = m .lists }
 
-list-sound : (w : LentWorld) (q : Query) (room : List ℕ) (o : Outcome lists.List) → spoken (q .order) ≡ true → openingHeld q ≡ o → SoundMemory w
+list-sound : (w : LentWorld) (q : Query) (room : List ℕ) (o : Outcome lists.List) → openingHeld q ≡ o → SoundMemory w
     → SoundMemory (leaves (putList room) o w)
-list-sound w q room (refused n) p e m = m
-list-sound w q room (gives l) p e m =
-    record { fit = m .fit; table = m .table; lists = all-append IsSound (w .lists) _ (m .lists) (opened-sound q room l p e, tt) }
+list-sound w q room (refused n) e m = m
+list-sound w q room (gives l) e m =
+    record { fit = m .fit; table = m .table; lists = all-append IsSound (w .lists) _ (m .lists) (opened-sound q room l e, tt) }
 
 air-sound : (w : LentWorld) (o : Outcome (List ℕ)) → SoundMemory w → SoundMemory (leaves putInAir o w)
 air-sound w (refused n) m = m
@@ -137,7 +136,7 @@ held-at-sound w i h s m = record { fit = m .fit; table = m .table; lists = all-s
 event-sound : (w : LentWorld) (e : LentEvent) → LentAllowed w e → SoundMemory w → SoundMemory (nextLent w e)
 unfolding nextLent LentAllowed
 event-sound w (enters given points) a m = table-sound w given points _ refl m
-event-sound w (opens q room) a m = list-sound w q room _ (a .1) refl m
+event-sound w (opens q room) a m = list-sound w q room _ refl m
 event-sound w (asks i size out) a m = air-sound w (askingHeld lines (theHeld w i) size out) m
 event-sound w (receives line out) a m = air-sound w (officeCall (w .store) out line) m
 event-sound w (takes i line) a m = held-at-sound w i _ (after-sound (theHeld w i) line _ refl (the-sound w i (a .0) m)) m

@@ -2,7 +2,6 @@
 use Prim.Native.Nat.{ℕ, _<_, _^_}
 use mathlib.Core.Path.{_≡_}
 use mathlib.Core.List.{List, List·Memᴰ}
-use Rattle.paper.specs.declared.orders.Order.{Order}
 use Rattle.paper.specs.Orders.{queryIn}
 use Rattle.paper.specs.Outcomes.{gives}
 use Rattle.paper.specs.Tree.{Store}
@@ -25,4 +24,4 @@ pub data Foreign (number : ℕ) : List ℕ → Type 0 where
   asked : (h : Held) → Typed (queryIn (h .list .query)) → (size out : ℕ) (given : List ℕ) → askingHeld lines h size out ≡ gives given
       → Foreign number given
   -- what reads as no answer: a claim's line, or one that the link broke
-  unread : (given : List ℕ) → ((o : Order) (y : Answer) → readAnswer o given ≡ gives y → ⊥) → Foreign number given
+  unread : (given : List ℕ) → ((y : Answer) → readAnswer given ≡ gives y → ⊥) → Foreign number given

@@ -15,7 +15,7 @@ use Rattle.journey_lent.specs.World.{LentWorld, asks, receives, takes, t
 -- [7.12] a list in its room is sound, and the first so many of what is listed at its snapshot
 pub record TruthfulHeld (s : Store) (h : Held) : Type 0 where
   pub sound : soundHeld h ≡ true
-  pub truthful : Truthful lines (tableOf s) (listing h)
+  pub truthful : Truthful (tableOf s) (listing h)
 
 -- [7.4] [6.3] the line of list i's present ask in w, and the line that the table in v answers it with
 abbrev pub askIn : LentWorld → ℕ → ℕ → List ℕ

@@ -3,7 +3,6 @@
 -- `write_ask`, `answer` or `take`. Definitions only.
 use Prim.Native.Nat.{ℕ, _*_, _≤_, _<_}
 use mathlib.Core.Path.{_≡_}
-use mathlib.Core.Bool.{true}
 use mathlib.Core.List.{List, [], _∷_, _++_, List·Memᴰ}
 use lib.IntN.{ℤ}
 use lib.ListN.{length, getD, set, take}
@@ -14,7 +13,6 @@ use Rattle.paper.specs.Tree.{Store}
 use Rattle.paper.specs.Runs.{enterCall}
 use Rattle.paper.specs.Ends.{Listing}
 use Rattle.paper.specs.Lists.{Held, held, listing, noList, openingHeld, askingHeld, takingHeld, heldAfter}
-use Rattle.paper.specs.Lines.{spoken}
 use Rattle.paper.specs.Calls.{tableRefusal, officeCall}
 use Rattle.paper.specs.Codec.{lines}
 use Rattle.orders.specs.LawfulLines.{Typed}
@@ -69,11 +67,11 @@ nextLent w (receives line out) = leaves putInAir (officeCall (w .store) out line
 nextLent w (takes i line) = putHeld i (heldAfter (theHeld w i) (takingHeld lines (theHeld w i) line)) w
 nextLent w (strays line) = putInAir line w
 
--- [7.14] the premises: arguments are of their types, an order that is opened has lines, and what a list takes was written by one of the
--- two ends, or comes from elsewhere and not from another table of this number; the office may get any line
+-- [7.14] the premises: arguments are of their types, and what a list takes was written by one of the two ends, or comes from elsewhere and
+-- not from another table of this number; the office may get any line
 unfoldable pub LentAllowed : LentWorld → LentEvent → Type 0
 LentAllowed w (enters given points) = References given
-LentAllowed w (opens q room) = Typed q × (spoken (q .order) ≡ true)
+LentAllowed w (opens q room) = Typed q
 LentAllowed w (asks i size out) = i < length (w .lists)
 LentAllowed w (receives line out) = Unit {0}
 LentAllowed w (takes i line) = (i < length (w .lists)) × List·Memᴰ line (w .air)

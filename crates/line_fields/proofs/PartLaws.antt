@@ -123,7 +123,6 @@ scope-rule p a b c = rw (le-leb (p .from) 1 a, le-leb (p .snapshot) mostClaims b
 
 -- what a head of kind k is known for
 pub record HeadOk (k : ℕ) (f : List ℕ) : Type 0 where
-  pub some : 1 ≤ k
   pub kind : num 1 f ≡ k
   pub test : inRange (num 1 (drop 5 f)) (num 1 (drop 6 f)) ≡ true
   pub range : InRange (num 1 (drop 5 f)) (num 1 (drop 6 f))
@@ -131,15 +130,13 @@ pub record HeadOk (k : ℕ) (f : List ℕ) : Type 0 where
 pub is-head : (k : ℕ) (f : List ℕ) → headOk k f ≡ true → HeadOk k f
 unfolding headOk
 is-head k f e =
-    let o = and-both (leb 1 k) (eqb (num 1 f) k && inRange (num 1 (drop 5 f)) (num 1 (drop 6 f))) e in
-    let p = and-both (eqb (num 1 f) k) (inRange (num 1 (drop 5 f)) (num 1 (drop 6 f))) (o .1) in
+    let p = and-both (eqb (num 1 f) k) (inRange (num 1 (drop 5 f)) (num 1 (drop 6 f))) e in
     record {
-      some = leb-true 1 k (o .0);
       kind = eqb-true (num 1 f) k (p .0);
       test = p .1;
       range = range-is (num 1 (drop 5 f)) (num 1 (drop 6 f)) (p .1);
     }
 
-pub head-rule : (k m d : ℕ) (f : List ℕ) → 1 ≤ k → num 1 f ≡ k → num 1 (drop 5 f) ≡ m → num 1 (drop 6 f) ≡ d → inRange m d ≡ true → headOk k f ≡ true
+pub head-rule : (k m d : ℕ) (f : List ℕ) → num 1 f ≡ k → num 1 (drop 5 f) ≡ m → num 1 (drop 6 f) ≡ d → inRange m d ≡ true → headOk k f ≡ true
 unfolding headOk
-head-rule k m d f h a b c e = rw (a, b, c, le-leb 1 k h, eq-eqb k k refl) e
+head-rule k m d f a b c e = rw (a, b, c, eq-eqb k k refl) e

@@ -27,9 +27,6 @@ pub fn head_ok(src: &[u8], kind: u8) -> bool
     requires { ⌜ 7 ≤ length (frameIn (now src)) ⌝ }
     ensures { λ r. ⌜ r ≡ headOk kind (frameIn (now (src .entry))) ⌝ }
 {
-    if kind == 0 {
-        return false;
-    }
     if line_digits::number(src, 0, 1) == kind as u64 {
         return in_range(
             line_digits::number(src, 5, 1) as u8,

@@ -9,7 +9,6 @@ ghost use Rattle.line_digits.specs.FrameBytes.{frameIn};
 ghost use Rattle.line_fields.specs.Fronts.{Begun};
 ghost use Rattle.paper.specs.Limits.{mostCoordinates};
 use super::parts::coords_at;
-use checks::has_lines;
 use checks::in_range;
 use paper::limits::MOST_COORDINATES;
 use paper::orders::Order;
@@ -45,15 +44,11 @@ pub fn query_of(order: Order, table: u32, measure: u8, d: usize, probe: &[i32], 
     }
 }
 
-// [8.10] Whether a line can carry a query: its order has lines, and there are such a measure and d.
+// [8.10] Whether a line can carry a query: there are such a measure and d.
 pub fn query_fits(q: Query) -> bool
     ensures { λ r. ⌜ r ≡ queryFits (queryIn q) ⌝ }
 {
-    let order = q.order;
-    if has_lines(order) {
-        return in_range(q.measure, q.d);
-    }
-    false
+    in_range(q.measure, q.d)
 }
 
 // [5.5] [5.6] The query of an ask's or an answer's frame, in the order that its kind tells: bytes 1 to 4 table, 5 measure, 6 d, the probe from

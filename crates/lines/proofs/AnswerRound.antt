@@ -1,5 +1,5 @@
--- [5.13] The answer line there and back, in every order that has lines: what a writer accepts is read back, and whatever a reader accepts
--- is the line that the writer writes for the fields read. Assumes nothing.
+-- [5.13] The answer line there and back, in either order: what a writer accepts is read back, and whatever a reader accepts is the line that
+-- the writer writes for the fields read. Assumes nothing.
 use Prim.Native.Nat.{ℕ, _+_, _-_, _*_}
 use native.Mathlib.Omega.{arith}
 use mathlib.Core.Path.{_≡_, refl, sym, ap, subst, _∙_}
@@ -11,12 +11,12 @@ use borrow.Author.Tests.{eq-eqb}
 use Rattle.paper.specs.Frames.{be, num, lineOf, frameOf, isLine}
 use Rattle.paper.specs.Orders.{Query, queryIn}
 use Rattle.paper.specs.Fields.{front, queryInSlots, scopeIn, itemBytes, itemNumbers, itemSlots}
-use Rattle.paper.specs.Lines.{answerKind, behind, queryAt, answerFrame, answerFits, countIn, answerOk, answerAt, anAnswer, noAnswer, readAsAnswer}
+use Rattle.paper.specs.Lines.{answerKind, answerOrder, behind, queryAt, answerFrame, answerFits, countIn, answerOk, isAnswer, answerAt, anAnswer, noAnswer, readAsAnswer}
 use Rattle.paper.specs.declared.lines.Scope.{Scope}
 use Rattle.paper.specs.declared.lines.Answer.{Answer}
 use Rattle.paper.specs.declared.lines.AnswerRead.{AnswerRead}
 use Rattle.paper.specs.declared.orders.Order.{Order}
-use Rattle.paper.proofs.LineKinds.{answer-small, answer-some, answer-spoken}
+use Rattle.paper.proofs.LineKinds.{answer-small, answer-order-back}
 use Rattle.line_digits.proofs.NumbersAndFrames.{Bytes, bytes-drop, field-read, field-back}
 use Rattle.line_digits.proofs.LinesAndFrames.{bytes-frame, frame-line, sound-line, line-of-sound}
 use Rattle.line_fields.proofs.PartLaws.{head-rule}
@@ -64,7 +64,7 @@ module _ (q : Query) (p : Scope) (last n : ℕ) (ns : List ℕ) (fit : answerFit
       let l : length frame ≡ 30 + 4 * q .d + 14 * n =
       length-answer q p last n ns (w .count) ∙ ap (λ (x : ℕ). 30 + 4 * x + 14 * n) (w .query .count) in
       rw (
-        head-rule k (q .measure) (q .d) frame (answer-some (q .order) (w .query .known)) (begins .kind) (begins .measure) (begins .dim) (w .query .test),
+        head-rule k (q .measure) (q .d) frame (begins .kind) (begins .measure) (begins .dim) (w .query .test),
         begins .dim,
         l,
         count-read .0,
@@ -77,17 +77,25 @@ module _ (q : Query) (p : Scope) (last n : ℕ) (ns : List ℕ) (fit : answerFit
       )
       (w .numbers)
 
-  frame-at : answerAt (q .order) frame ≡ record { query = queryInSlots q; scope = p; last = last; count = n; items = itemSlots n ns }
-  unfolding answerAt
-  frame-at = rw (begins .query, begins .scope, last-read .0, count-read .0, count-read .1, items-in)
+  -- the order that the frame's kind tells
+  order-read : answerOrder (num 1 frame) ≡ q .order
+  order-read = ap answerOrder (begins .kind) ∙ answer-order-back (q .order)
 
-  pub answer-reads-back : readAsAnswer (q .order) (lineOf frame) ≡ anAnswer (record { query = queryInSlots q; scope = p; last = last; count = n; items = itemSlots n ns })
+  frame-is : isAnswer frame ≡ true
+  unfolding isAnswer
+  frame-is = ap (λ (o : Order). answerOk (answerKind o) frame) order-read ∙ frame-ok
+
+  frame-at : answerAt frame ≡ record { query = queryInSlots q; scope = p; last = last; count = n; items = itemSlots n ns }
+  unfolding answerAt
+  frame-at = rw (order-read, begins .query, begins .scope, last-read .0, count-read .0, count-read .1, items-in)
+
+  pub answer-reads-back : readAsAnswer (lineOf frame) ≡ anAnswer (record { query = queryInSlots q; scope = p; last = last; count = n; items = itemSlots n ns })
   unfolding readAsAnswer
   answer-reads-back =
       let w = answer-fits q p last n ns fit in
       let l = length-answer q p last n ns (w .count) in
       let b = frame-line frame (bytes-answer q p last n ns) in
-      reads (answerOk k) (λ f. anAnswer (answerAt (q .order) f)) noAnswer (lineOf frame) (sound-line frame (bytes-answer q p last n ns) (omega arith) (omega arith)) (rw b frame-ok)
+      reads isAnswer (λ f. anAnswer (answerAt f)) noAnswer (lineOf frame) (sound-line frame (bytes-answer q p last n ns) (omega arith) (omega arith)) (rw b frame-is)
       ∙ rw (b, frame-at)
 
 -- ---- what is read was written
@@ -122,7 +130,7 @@ module _ (o : Order) (f : List ℕ) (p : Bytes f) (e : answerOk (answerKind o) f
       let i : drop 23 (behind f) ≡ drop 2 rest = sym (drop-drop 2 21 (behind f)) in
       let of-order : queryIn (queryAt o f) .order ≡ o = unfold queryAt in refl in
       let kinds : answerKind (queryIn (queryAt o f) .order) ≡ num 1 f = ap answerKind of-order ∙ sym (w .headed .kind) in
-      rw (i, tail-back rest (countIn f) pb l c, kinds) (front-back o f p (answer-begun (answerKind o) f e))
+      rw (i, tail-back rest (countIn f) pb l c, kinds) (front-back o f p (answer-begun (answerKind o) f w))
 
   fits-back : answerFits (queryIn (queryAt o f)) (scopeIn (behind f)) (num 1 rest) (countIn f) listed ≡ true
   unfolding answerFits
@@ -130,7 +138,7 @@ module _ (o : Order) (f : List ℕ) (p : Bytes f) (e : answerOk (answerKind o) f
       let w = is-answer (answerKind o) f e in
       let n = countIn f in
       let b : Bytes (drop 23 (behind f)) = rw (← items-from f (28 + 4 * num 1 (drop 6 f)) refl) (bytes-drop (28 + 4 * num 1 (drop 6 f) + 2) f p) in
-      rw (read-fits o f (answer-spoken o (w .headed .some)) (w .headed .test), w .rest, eq-eqb _ _ (length-itemsIn n (drop 23 (behind f))), references-in n (drop 23 (behind f)) b)
+      rw (read-fits o f (w .headed .test), w .rest, eq-eqb _ _ (length-itemsIn n (drop 23 (behind f))), references-in n (drop 23 (behind f)) b)
       (w .numbers)
 
 -- the fields of an answer that was read, as a writer takes them
@@ -142,15 +150,16 @@ take-items : (n : ℕ) (g : List ℕ) → take (3 * n) (itemSlots n (itemNumbers
 unfolding itemSlots
 take-items n g = take-at (itemNumbers n g) (replicate (itemRoom - 3 * n) 0) (3 * n) (length-itemsIn n g)
 
-answer-back : (o : Order) (l : List ℕ) → isLine l ≡ true → answerOk (answerKind o) (frameOf l) ≡ true → AnswerBack l (answerAt o (frameOf l))
-unfolding answerAt
-answer-back o l s e =
+answer-back : (l : List ℕ) → isLine l ≡ true → isAnswer (frameOf l) ≡ true → AnswerBack l (answerAt (frameOf l))
+unfolding answerAt isAnswer
+answer-back l s e =
     let f = frameOf l in
+    let o = answerOrder (num 1 f) in
     let i = take-items (countIn f) (drop 23 (behind f)) in
     record { fits = rw i (fits-back o f (bytes-frame l) e); line = rw i (ap lineOf (frame-back o f (bytes-frame l) e) ∙ line-of-sound l s) }
 
-pub answer-writes-back : (o : Order) (l : List ℕ) → readAsAnswer o l .refusal ≡ 0 → AnswerBack l (readAsAnswer o l .answer)
+pub answer-writes-back : (l : List ℕ) → readAsAnswer l .refusal ≡ 0 → AnswerBack l (readAsAnswer l .answer)
 unfolding readAsAnswer
-answer-writes-back o l e =
-    let p = accepted (answerOk (answerKind o)) (λ f. anAnswer (answerAt o f)) noAnswer (λ (x : AnswerRead). x .refusal) l (unfold noAnswer in λ n. refl) e in
-    subst (λ (x : AnswerRead). AnswerBack l (x .answer)) (sym (reads (answerOk (answerKind o)) (λ f. anAnswer (answerAt o f)) noAnswer l (p .0) (p .1))) (unfold anAnswer in answer-back o l (p .0) (p .1))
+answer-writes-back l e =
+    let p = accepted isAnswer (λ f. anAnswer (answerAt f)) noAnswer (λ (x : AnswerRead). x .refusal) l (unfold noAnswer in λ n. refl) e in
+    subst (λ (x : AnswerRead). AnswerBack l (x .answer)) (sym (reads isAnswer (λ f. anAnswer (answerAt f)) noAnswer l (p .0) (p .1))) (unfold anAnswer in answer-back l (p .0) (p .1))

@@ -11,9 +11,8 @@ use borrow.Author.Tests.{leb-true, eqb-true, eq-eqb}
 use Rattle.paper.specs.Frames.{be, num}
 use Rattle.paper.specs.Fields.{front, scopeIn, scopeOk, itemBytes, itemNumbers, itemSlots, numbersOk, referencesOk}
 use Rattle.paper.specs.Orders.{Query}
-use Rattle.paper.specs.Lines.{answerKind, headOk, behind, queryAt, queryFits, answerFrame, answerRanges, answerFits, countIn, answerOk, answerAt}
+use Rattle.paper.specs.Lines.{answerKind, answerOrder, headOk, behind, queryAt, queryFits, answerFrame, answerRanges, answerFits, countIn, answerOk, isAnswer, answerAt}
 use Rattle.paper.specs.declared.lines.Scope.{Scope}
-use Rattle.paper.specs.declared.orders.Order.{Order}
 use Rattle.paper.specs.declared.queries.Query as queries
 use Rattle.line_digits.proofs.LinesAndFrames.{and-both}
 use Rattle.line_digits.proofs.NumbersAndFrames.{Bytes, bytes-append, bytes-be, length-be}
@@ -103,8 +102,12 @@ is-answer k f e =
       numbers = r .1;
     }
 
-pub answer-begun : (k : ℕ) (f : List ℕ) → answerOk k f ≡ true → Begun f
-answer-begun k f e = let p = is-answer k f e in record { few = p .headed .range .narrow; long = omega arith }
+pub any-answer : (f : List ℕ) → isAnswer f ≡ true → AnswerOk (answerKind (answerOrder (num 1 f))) f
+unfolding isAnswer
+any-answer f e = is-answer (answerKind (answerOrder (num 1 f))) f e
+
+pub answer-begun : (k : ℕ) (f : List ℕ) → AnswerOk k f → Begun f
+answer-begun k f p = record { few = p .headed .range .narrow; long = omega arith }
 
 -- ---- where its parts stand
 
@@ -123,12 +126,12 @@ items-from f at e = let q : at + 2 ≡ 7 + 4 * num 1 (drop 6 f) + 23 = omega ari
 -- ---- handed on
 
 -- the answer that a frame holds, from its parts
-pub answer-value : (o : Order) (f : List ℕ) (x : queries.Query) (p : Scope) (at last n : ℕ) (ns : List ℕ)
-    → x ≡ queryAt o f → at ≡ 28 + 4 * x .d → p ≡ scopeIn (drop (at - 21) f) → last ≡ num 1 (drop at f) → n ≡ num 1 (drop (at + 1) f)
+pub answer-value : (f : List ℕ) (x : queries.Query) (p : Scope) (at last n : ℕ) (ns : List ℕ)
+    → x ≡ queryAt (answerOrder (num 1 f)) f → at ≡ 28 + 4 * x .d → p ≡ scopeIn (drop (at - 21) f) → last ≡ num 1 (drop at f) → n ≡ num 1 (drop (at + 1) f)
     → ns ≡ itemSlots n (itemNumbers n (drop (at + 2) f))
-    → record { query = x; scope = p; last = last; count = n; items = ns } ≡ answerAt o f
+    → record { query = x; scope = p; last = last; count = n; items = ns } ≡ answerAt f
 unfolding answerAt
-answer-value o f x p at last n ns e q u v w z =
+answer-value f x p at last n ns e q u v w z =
     let h : at ≡ 28 + 4 * num 1 (drop 6 f) = q ∙ ap (λ (y : queries.Query). 28 + 4 * y .d) e ∙ (unfold queryAt in refl) in
     let m : at - 21 ≡ 7 + 4 * num 1 (drop 6 f) = omega arith in
     let b : drop (at - 21) f ≡ behind f = ap (λ (n : ℕ). drop n f) m ∙ sym (behind-eq f) in

@@ -1,12 +1,12 @@
--- [5.13] The ask line there and back, in every order that has lines: what a writer accepts is read back, and whatever a reader accepts is
--- the line that the writer writes for the fields read. Assumes nothing.
+-- [5.13] The ask line there and back, in either order: what a writer accepts is read back, and whatever a reader accepts is the line that
+-- the writer writes for the fields read. Assumes nothing.
 use Prim.Native.Nat.{ℕ, _+_, _-_, _*_}
 use native.Mathlib.Omega.{arith}
 use mathlib.Core.Path.{_≡_, refl, sym, ap, subst, _∙_}
 use mathlib.Core.Bool.{true}
 use mathlib.Core.List.{List, [], _++_, append-nil}
 use lib.ListN.{length, drop, length-drop}
-use borrow.Author.Tests.{leb-true, le-leb, eq-eqb}
+use borrow.Author.Tests.{eq-eqb}
 use Rattle.paper.specs.Frames.{be, num, lineOf, frameOf, isLine}
 use Rattle.paper.specs.Orders.{Query, queryIn}
 use Rattle.paper.specs.Fields.{front, queryInSlots, scopeIn}
@@ -15,7 +15,7 @@ use Rattle.paper.specs.declared.lines.Scope.{Scope}
 use Rattle.paper.specs.declared.lines.Ask.{Ask}
 use Rattle.paper.specs.declared.lines.AskRead.{AskRead}
 use Rattle.paper.specs.declared.orders.Order.{Order}
-use Rattle.paper.proofs.LineKinds.{ask-small, order-back}
+use Rattle.paper.proofs.LineKinds.{ask-small, ask-order-back}
 use Rattle.line_digits.proofs.NumbersAndFrames.{Bytes, bytes-drop, field-read}
 use Rattle.line_digits.proofs.LinesAndFrames.{bytes-frame, frame-line, sound-line, line-of-sound}
 use Rattle.line_fields.proofs.PartLaws.{head-rule}
@@ -41,14 +41,14 @@ module _ (q : Query) (p : Scope) (s : ℕ) (fit : askFits q p s ≡ true) (hq : 
 
   -- the order that the frame's kind tells
   order-read : askOrder (num 1 (askFrame q p s)) ≡ q .order
-  order-read = ap askOrder (begins .kind) ∙ order-back (q .order)
+  order-read = ap askOrder (begins .kind) ∙ ask-order-back (q .order)
 
   frame-ok : askOk k (askFrame q p s) ≡ true
   unfolding askOk
   frame-ok =
       let w = ask-fits q p s fit in
       let l : length (askFrame q p s) ≡ 29 + 4 * q .d = length-ask q p s ∙ ap (λ (n : ℕ). 29 + 4 * n) (w .query .count) in
-      rw (head-rule k (q .measure) (q .d) (askFrame q p s) (leb-true 1 k (w .query .known)) (begins .kind) (begins .measure) (begins .dim) (w .query .test), begins .dim, l, eq-eqb (29 + 4 * q .d) (29 + 4 * q .d) refl, begins .scope, size-read)
+      rw (head-rule k (q .measure) (q .d) (askFrame q p s) (begins .kind) (begins .measure) (begins .dim) (w .query .test), begins .dim, l, eq-eqb (29 + 4 * q .d) (29 + 4 * q .d) refl, begins .scope, size-read)
       (w .rest)
 
   frame-is : isAsk (askFrame q p s) ≡ true
@@ -98,7 +98,7 @@ module _ (o : Order) (f : List ℕ) (e : askOk (askKind o) f ≡ true) where
   unfolding askFits
   fits-back =
       let w = is-ask (askKind o) f e in
-      rw (read-fits o f (le-leb 1 (askKind o) (w .headed .some)) (w .headed .test)) (w .rest)
+      rw (read-fits o f (w .headed .test)) (w .rest)
 
 ask-back : (l : List ℕ) → isLine l ≡ true → isAsk (frameOf l) ≡ true → AskBack l (askAt (frameOf l))
 unfolding askAt isAsk

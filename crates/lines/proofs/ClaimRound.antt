@@ -37,7 +37,7 @@ module _ (t m d r : ℕ) (cs : List ℤ) (fit : claimFits m d cs ≡ true) (ht :
   unfolding claimOk
   frame-ok =
       let q = claim-fits m d cs fit in
-      rw (head-rule 3 m d (claimFrame t m d r cs) (lit≤ tt) (begins .kind) (begins .measure) (begins .dim) (q .test), begins .dim, length-claim t m d r cs, q .count)
+      rw (head-rule 3 m d (claimFrame t m d r cs) (begins .kind) (begins .measure) (begins .dim) (q .test), begins .dim, length-claim t m d r cs, q .count)
       (eq-eqb (11 + 4 * d) (11 + 4 * d) refl)
 
   frame-at : claimAt (claimFrame t m d r cs) ≡ record { table = t; measure = m; d = d; reference = r; coordinates = inSlots d cs }

@@ -2,7 +2,7 @@
 use Prim.Native.Nat.{ℕ, _+_, _*_}
 use native.Mathlib.Omega.{arith}
 use mathlib.Core.Path.{_≡_}
-use mathlib.Core.Bool.{true, _&&_}
+use mathlib.Core.Bool.{true}
 use mathlib.Core.List.{List}
 use lib.ListN.{length, drop}
 use lib.Seq.{drop-drop}
@@ -12,7 +12,7 @@ use Rattle.paper.specs.Frames.{num}
 use Rattle.paper.specs.Points.{inRange, InRange}
 use Rattle.paper.proofs.Ranges.{range-is}
 use Rattle.paper.specs.Orders.{Query, queryIn}
-use Rattle.paper.specs.Lines.{spoken, behind, queryAt, queryFits}
+use Rattle.paper.specs.Lines.{behind, queryAt, queryFits}
 use Rattle.paper.specs.declared.orders.Order.{Order}
 use Rattle.line_digits.proofs.LinesAndFrames.{and-both}
 use Rattle.line_fields.proofs.PartLaws.{length-coordsIn}
@@ -24,7 +24,6 @@ unfolding behind
 last-at f at e = let q : at ≡ 7 + 4 * num 1 (drop 6 f) + 21 = omega arith in rw (drop-drop, q)
 
 pub record QueryFits (q : Query) : Type 0 where
-  pub known : spoken (q .order) ≡ true
   pub test : inRange (q .measure) (q .d) ≡ true
   pub range : InRange (q .measure) (q .d)
   pub count : length (q .probe) ≡ q .d
@@ -32,11 +31,10 @@ pub record QueryFits (q : Query) : Type 0 where
 pub query-fits : (q : Query) → queryFits q ≡ true → QueryFits q
 unfolding queryFits
 query-fits q e =
-    let a = and-both (spoken (q .order)) (inRange (q .measure) (q .d) && eqb (length (q .probe)) (q .d)) e in
-    let b = and-both (inRange (q .measure) (q .d)) (eqb (length (q .probe)) (q .d)) (a .1) in
-    record { known = a .0; test = b .0; range = range-is (q .measure) (q .d) (b .0); count = eqb-true (length (q .probe)) (q .d) (b .1) }
+    let b = and-both (inRange (q .measure) (q .d)) (eqb (length (q .probe)) (q .d)) e in
+    record { test = b .0; range = range-is (q .measure) (q .d) (b .0); count = eqb-true (length (q .probe)) (q .d) (b .1) }
 
 -- a query that was read fits
-pub read-fits : (o : Order) (f : List ℕ) → spoken o ≡ true → inRange (num 1 (drop 5 f)) (num 1 (drop 6 f)) ≡ true → queryFits (queryIn (queryAt o f)) ≡ true
+pub read-fits : (o : Order) (f : List ℕ) → inRange (num 1 (drop 5 f)) (num 1 (drop 6 f)) ≡ true → queryFits (queryIn (queryAt o f)) ≡ true
 unfolding queryFits queryAt
-read-fits o f s e = rw (s, e, take-slots (num 1 (drop 6 f)) (drop 7 f), eq-eqb _ _ (length-coordsIn (num 1 (drop 6 f)) (drop 7 f)))
+read-fits o f e = rw (e, take-slots (num 1 (drop 6 f)) (drop 7 f), eq-eqb _ _ (length-coordsIn (num 1 (drop 6 f)) (drop 7 f)))

@@ -1,17 +1,17 @@
-// [5.6] The answer line: a list's order tells its kind.
+// [5.6] The answer line: a list's order tells its kind, and its kind its order.
 ghost use mathlib.Core.Path.{_≡_};
-ghost use mathlib.Core.Bool.{_&&_};
+ghost use mathlib.Core.Bool.{true, _&&_};
 ghost use mathlib.Core.List.{_++_};
 ghost use Prim.Native.Nat.{_+_, _-_, _*_, _≤_};
 ghost use lib.ListN.{length, drop};
 ghost use Rattle.paper.specs.Frames.{be, num, lineOf, written};
 ghost use Rattle.paper.specs.Fields.{scopeIn, itemBytes, itemNumbers, numbersOk};
 ghost use Rattle.paper.specs.Orders.{queryIn};
-ghost use Rattle.paper.specs.Lines.{Writes, bareLine, answerFrame, answerRanges, answerFits, answerOk, answerAt, noAnswer, readAsAnswer};
+ghost use Rattle.paper.specs.Lines.{Writes, bareLine, answerFrame, answerRanges, answerFits, answerOk, isAnswer, answerAt, noAnswer, readAsAnswer};
 ghost use Rattle.line_digits.specs.FrameBytes.{frameIn, overlaid};
-ghost use Rattle.lines.specs.Kinds.{IsAnswer};
 ghost use Rattle.paper.specs.Limits.{longestAnswer, mostPage, mostCoordinates};
 use checks::answer_kind;
+use checks::answer_order;
 use paper::limits::ITEM_ROOM;
 use paper::limits::LONGEST_ANSWER;
 use paper::limits::LONGEST_FRAME;
@@ -20,7 +20,6 @@ use paper::lines::Answer;
 use paper::lines::AnswerRead;
 use paper::lines::Scope;
 use paper::lines::Wrote;
-use paper::orders::Order;
 use paper::queries::Query;
 
 // [5.8] [5.9] Whether scope, last and item count are in range.
@@ -100,7 +99,7 @@ fn tail_ok(src: &[u8], at: usize, count: u64) -> bool
 }
 
 // [8.10] Whether a frame of this kind is laid out as an answer.
-fn answer_ok(src: &[u8], kind: u8) -> bool
+fn is_kind(src: &[u8], kind: u8) -> bool
     ensures { λ r. ⌜ r ≡ answerOk kind (frameIn (now (src .entry))) ⌝ }
 {
     let n = line_digits::size(src);
@@ -120,10 +119,23 @@ fn answer_ok(src: &[u8], kind: u8) -> bool
     false
 }
 
-fn answer_at(order: Order, src: &[u8]) -> Answer
-    requires { ⌜ IsAnswer (frameIn (now src)) ⌝ }
-    ensures { λ r. ⌜ r ≡ answerAt order (frameIn (now (src .entry))) ⌝ }
+// [5.6] [8.10] Whether a frame is an answer, of the order that its kind tells.
+fn answer_ok(src: &[u8]) -> bool
+    ensures { λ r. ⌜ r ≡ isAnswer (frameIn (now (src .entry))) ⌝ }
 {
+    if line_digits::size(src) == 0 {
+        return false;
+    }
+    let order = answer_order(line_fields::kind(src));
+    is_kind(src, answer_kind(order))
+}
+
+// [5.6] The answer that a frame holds: query, scope behind its reach, last in byte 28 + 4d, then the item count and the items.
+fn answer_at(src: &[u8]) -> Answer
+    requires { ⌜ isAnswer (frameIn (now src)) ≡ true ⌝ }
+    ensures { λ r. ⌜ r ≡ answerAt (frameIn (now (src .entry))) ⌝ }
+{
+    let order = answer_order(line_fields::kind(src));
     let query = line_fields::query_at(order, src);
     let at = 28 + 4 * query.d;
     let scope = line_fields::scope_at(src, at - 21);
@@ -151,9 +163,9 @@ fn no_answer(n: u8) -> AnswerRead
     AnswerRead { refusal: n, answer }
 }
 
-// [5.6] [9.15] Reads the line of an answer in an order. Refusals 9, 10.
-pub fn read_answer(order: Order, line: &[u8]) -> AnswerRead
-    ensures { λ r. ⌜ r ≡ readAsAnswer order (now (line .entry)) ⌝ }
+// [5.6] [9.15] Reads an answer's line. Refusals 9, 10.
+pub fn read_answer(line: &[u8]) -> AnswerRead
+    ensures { λ r. ⌜ r ≡ readAsAnswer (now (line .entry)) ⌝ }
 {
     let mut frame = [0u8; LONGEST_FRAME];
     let n = line_digits::frame_of(line, &mut frame);
@@ -161,8 +173,8 @@ pub fn read_answer(order: Order, line: &[u8]) -> AnswerRead
         return no_answer(9);
     }
     let src = &frame[..n];
-    if answer_ok(src, answer_kind(order)) {
-        let answer = answer_at(order, src);
+    if answer_ok(src) {
+        let answer = answer_at(src);
         return AnswerRead { refusal: 0, answer };
     }
     no_answer(10)

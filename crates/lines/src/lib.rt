@@ -1,4 +1,4 @@
-// The lines: for each kind a bare writer and a bare reader, and for the ends the tests and values of a frame whose digits were read.
+// The lines: for asks, answers and claims a bare writer and a bare reader each, and for the ends the tests and values of a frame whose digits were read.
 mod answers;
 mod asks;
 mod claims;

@@ -9,14 +9,13 @@ use lib.ListN.{length, take, drop, replicate, length-append, length-drop}
 use lib.Seq.{take-at, drop-at}
 use Rattle.paper.specs.Orders.{Item, Query, queryIn, flat, fronted}
 use Rattle.paper.specs.Fields.{inSlots, queryInSlots}
-use Rattle.paper.specs.Lines.{spoken}
 use Rattle.paper.specs.Outcomes.{gives}
 use Rattle.paper.specs.Ends.{Codec, Listing, fresh, every, sameZ, soundIn, taking}
 use Rattle.paper.specs.Lists.{Held, held, itemsIn, roomFor, listing, unusedZero, heldWell, soundHeld, openedAs, takingHeld, heldAfter}
 use Rattle.orders.specs.LawfulLines.{Lawful}
 use Rattle.paper.proofs.Tests.{and-both}
-use Rattle.paper.proofs.Outcomes.{must-test, must-rest, through}
-use Rattle.orders.proofs.Taking.{took, took-query}
+use Rattle.paper.proofs.Outcomes.{must-test, must-rest}
+use Rattle.orders.proofs.Taking.{took-line-query}
 use Rattle.orders.proofs.Sound.{soundness, stays-sound}
 
 -- ---- items as numbers
@@ -76,10 +75,8 @@ module _ (c : Codec) (s : Held) (line : List ℕ) (L : Listing) (e : takingHeld 
   took-held = must-rest (heldWell (s .list .query)) 2 _ _ e
 
   pub held-query : L .query ≡ queryIn (s .list .query)
-  unfolding taking listing
-  held-query =
-      let a = through (c .readAnswer (s .list .query .order) line) _ _ (must-rest (soundIn (roomFor s) (listing s)) 2 _ _ took-held) in
-      took-query (roomFor s) (listing s) (a .value) L (took (roomFor s) (listing s) (a .value) L (a .second))
+  unfolding listing
+  held-query = took-line-query c (roomFor s) (listing s) line L took-held
 
   -- the list moves as the definition says
   pub moves : listing (heldAfter s (gives L)) ≡ L
@@ -112,7 +109,7 @@ unfolding every
 zeros zero = refl
 zeros (suc n) = zeros n
 
--- stands as soundness asks, if its order has lines
-pub opened-well : (q : Query) → spoken (q .order) ≡ true → length (q .probe) ≡ q .d → heldWell (openedAs q .query) ≡ true
+-- stands as soundness asks
+pub opened-well : (q : Query) → length (q .probe) ≡ q .d → heldWell (openedAs q .query) ≡ true
 unfolding heldWell unusedZero openedAs queryInSlots inSlots
-opened-well q s long = and-both _ _ s (rw (drop-at (q .probe) (replicate (8 - q .d) (pos 0)) (q .d) long) (zeros (8 - q .d)))
+opened-well q long = rw (drop-at (q .probe) (replicate (8 - q .d) (pos 0)) (q .d) long) (zeros (8 - q .d))

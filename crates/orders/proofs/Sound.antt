@@ -12,12 +12,11 @@ use Rattle.paper.specs.declared.orders.Place.the-variants.{After}
 use Rattle.paper.specs.Orders.{Item, follows, earlier}
 use Rattle.paper.specs.Points.{inRange}
 use Rattle.paper.specs.Outcomes.{gives}
-use Rattle.paper.specs.Ends.{Answer, Codec, Listing, lastItem, markOf, leads, rising, every, fitting, startedWell, soundIn, pageHolds, joinedTo, taking}
+use Rattle.paper.specs.Ends.{Answer, Codec, Listing, lastItem, markOf, leads, rising, every, fitting, startedWell, soundIn, pageHolds, joinedTo, ownKind, taking}
 use Rattle.paper.proofs.Tests.{and-first, and-second, and-both, or-left, or-right}
-use Rattle.paper.proofs.Outcomes.{must-test, must-rest, through}
 use Rattle.orders.proofs.Lists.{All, all-append, every-all, every-true}
 use Rattle.orders.specs.LawfulLines.{AnswerInRange, Lawful}
-use Rattle.orders.proofs.Taking.{Took, took, FitsList, fits-present, present-after}
+use Rattle.orders.proofs.Taking.{Took, took-line, FitsList, fits-present, present-after}
 use Rattle.paper.specs.Limits.{mostClaims}
 
 -- ---- items joined
@@ -146,13 +145,13 @@ joins room L y s f p = go (L .started) refl
           fit = all-append _ (L .items) (y .items) (rw (f .snapshot q) (s .fit)) fit;
         }
 
-pub sound-joined : (room : ℕ) (L : Listing) (y : Answer) (K : Listing) → AnswerInRange y → y .query .order ≡ L .query .order → soundIn room L ≡ true
+pub sound-joined : (room : ℕ) (L : Listing) (y : Answer) (K : Listing) → AnswerInRange y → ownKind L y ≡ true → soundIn room L ≡ true
     → Took room L y K → soundIn room (joinedTo L y) ≡ true
 unfolding joinedTo startedWell
-sound-joined room L y K ok o e k =
+sound-joined room L y K ok own e k =
     let s = soundness room L e in
     let p = passes y (k .page) in
-    let j = joins room L y s (fits-present L y (s .long) ok o (k .present)) p in
+    let j = joins room L y s (fits-present L y (s .long) ok own (k .present)) p in
     sound-of room (joinedTo L y) (record {
       range = s .range;
       long = s .long;
@@ -167,10 +166,6 @@ sound-joined room L y K ok o e k =
 
 -- any line whatever
 pub stays-sound : (c : Codec) → Lawful c → (room : ℕ) (L K : Listing) (s : List ℕ) → taking c room L s ≡ gives K → soundIn room K ≡ true
-unfolding taking
 stays-sound c law room L K s e =
-    let sound = must-test (soundIn room L) 2 _ _ e in
-    let a1 = through (c .readAnswer (L .query .order) s) _ _ (must-rest (soundIn room L) 2 _ _ e) in
-    let ok = law .answer-ok _ s (a1 .value) (a1 .first) in
-    let tk = took room L (a1 .value) K (a1 .second) in
-    rw (tk .is) (sound-joined room L (a1 .value) K (ok .0) (ok .1) sound tk)
+    let t = took-line c room L s K e in
+    rw (t .joins .is) (sound-joined room L (t .answer) K (law .answer-ok s (t .answer) (t .read)) (t .own) (t .sound) (t .joins))

@@ -13,14 +13,15 @@ use lib.IntN.{ℤ, pos, negsuc}
 use borrow.Author.Tests.{leb-true, eqb-true, eq-eqb, not-true}
 use Rattle.paper.specs.declared.orders.Mark.{Mark}
 use Rattle.paper.specs.declared.orders.Order.{Order}
+use Rattle.paper.specs.declared.orders.Order.the-variants.{Near, Far}
 use Rattle.paper.specs.declared.orders.Place.{Place}
 use Rattle.paper.specs.declared.orders.Place.the-variants.{Start, After}
-use Rattle.paper.specs.Orders.{Query, snapshotOf}
+use Rattle.paper.specs.Orders.{Query, sameOrder, snapshotOf}
 use Rattle.paper.specs.Outcomes.{gives}
-use Rattle.paper.specs.Ends.{Answer, Listing, lastItem, markOf, presentPlace, sameZ, sameProbe, sameQuery, samePlace, toPresent, pageHolds, joinedTo, taken}
+use Rattle.paper.specs.Ends.{Answer, Codec, Listing, lastItem, markOf, presentPlace, soundIn, sameZ, sameProbe, sameQuery, samePlace, toPresent, pageHolds, joinedTo, taken, ownKind, taking}
 use Rattle.orders.specs.LawfulLines.{AnswerInRange}
 use Rattle.paper.proofs.Tests.{no-way, and-first, and-second, and-both}
-use Rattle.paper.proofs.Outcomes.{must-test, must-rest, same-given}
+use Rattle.paper.proofs.Outcomes.{must-test, must-rest, through, same-given}
 
 -- ---- where a list stands
 
@@ -31,6 +32,18 @@ present-start L p = rw p
 pub present-after : (L : Listing) → L .started ≡ true → presentPlace L ≡ After (L .snapshot) (markOf (lastItem (L .items)))
 unfolding presentPlace
 present-after L p = rw p
+
+-- ---- the order that 10 compares
+
+same-order : (o p : Order) → sameOrder o p ≡ true → o ≡ p
+same-order Near Near e = refl
+same-order Near Far e = absurd (no-way (sym e))
+same-order Far Near e = absurd (no-way (sym e))
+same-order Far Far e = refl
+
+pub order-same : (o : Order) → sameOrder o o ≡ true
+order-same Near = refl
+order-same Far = refl
 
 -- ---- the fields that 13 compares
 
@@ -102,7 +115,7 @@ place-same (After n m) = and-both _ _ (eq-eqb n n refl) (and-both _ _ (eq-eqb (m
 
 -- ---- an answer that a list takes
 
--- an answer that 13 lets pass, read under the list's order
+-- an answer that 10 and 13 let pass
 pub record FitsList (L : Listing) (y : Answer) : Type 0 where
   pub query : L .query ≡ y .query
   pub place : presentPlace L ≡ y .place
@@ -111,12 +124,12 @@ pub record FitsList (L : Listing) (y : Answer) : Type 0 where
 used-snapshot : (p : Place) (s n : ℕ) (m : Mark) → snapshotOf p s ≡ s → p ≡ After n m → s ≡ n
 used-snapshot p s n m e q = sym e ∙ ap (λ (r : Place). snapshotOf r s) q
 
-pub fits-present : (L : Listing) (y : Answer) → length (L .query .probe) ≡ L .query .d → AnswerInRange y → y .query .order ≡ L .query .order → toPresent L y ≡ true → FitsList L y
+pub fits-present : (L : Listing) (y : Answer) → length (L .query .probe) ≡ L .query .d → AnswerInRange y → ownKind L y ≡ true → toPresent L y ≡ true → FitsList L y
 unfolding toPresent
-fits-present L y long ok o e =
+fits-present L y long ok own e =
     let p : presentPlace L ≡ y .place = same-place _ _ (and-second (sameQuery (L .query) (y .query)) _ e) in
     record {
-      query = same-query (L .query) (y .query) (sym o) long (ok .query .long) (and-first _ _ e);
+      query = same-query (L .query) (y .query) (same-order _ _ own) long (ok .query .long) (and-first _ _ e);
       place = p;
       snapshot = λ q. used-snapshot (y .place) (y .snapshot) _ _ (ok .used) (sym p ∙ present-after L q);
     }
@@ -146,3 +159,26 @@ took room L y K e =
 pub took-query : (room : ℕ) (L : Listing) (y : Answer) (K : Listing) → Took room L y K → K .query ≡ L .query
 unfolding joinedTo
 took-query room L y K k = ap (λ (X : Listing). X .query) (k .is)
+
+-- and from the line on
+pub record TookLine (c : Codec) (room : ℕ) (L : Listing) (s : List ℕ) (K : Listing) : Type 0 where
+  pub sound : soundIn room L ≡ true
+  pub answer : Answer
+  pub read : c .readAnswer s ≡ gives answer
+  pub own : ownKind L answer ≡ true
+  pub joins : Took room L answer K
+
+pub took-line : (c : Codec) (room : ℕ) (L : Listing) (s : List ℕ) (K : Listing) → taking c room L s ≡ gives K → TookLine c room L s K
+unfolding taking
+took-line c room L s K e =
+    let a = through (c .readAnswer s) _ _ (must-rest (soundIn room L) 2 _ _ e) in
+    record {
+      sound = must-test (soundIn room L) 2 _ _ e;
+      answer = a .value;
+      read = a .first;
+      own = must-test (ownKind L (a .value)) 10 _ _ (a .second);
+      joins = took room L (a .value) K (must-rest (ownKind L (a .value)) 10 _ _ (a .second));
+    }
+
+pub took-line-query : (c : Codec) (room : ℕ) (L : Listing) (s : List ℕ) (K : Listing) → taking c room L s ≡ gives K → K .query ≡ L .query
+took-line-query c room L s K e = let t = took-line c room L s K e in took-query room L (t .answer) K (t .joins)

@@ -7,7 +7,6 @@ use lib.IntN.{ℤ}
 use lib.ListN.{length}
 use lib.Signed.{mag}
 use Rattle.paper.specs.declared.orders.Mark.{Mark}
-use Rattle.paper.specs.declared.orders.Order.{Order}
 use Rattle.paper.specs.declared.orders.Place.{Place}
 use Rattle.paper.specs.declared.orders.Place.the-variants.{Start, After}
 use Rattle.paper.specs.Orders.{Item, Query, snapshotOf}
@@ -60,15 +59,13 @@ pub record AnswerInRange (y : Answer) : Type 0 where
   pub few : length (y .items) ≤ mostPage
   pub items : (x : Item) → List·Memᴰ x (y .items) → ItemInRange x
 
--- [5.13] of a codec, for the orders that it has kinds for
+-- [5.13] of a codec, in either order
 pub record Lawful (c : Codec) : Type 0 where
-  -- what was written reads back
-  pub ask-back : (a : Ask) → AskInRange a → c .speaks (a .query .order) ≡ true → c .readAsk (c .askLine a) ≡ gives a
-  pub answer-back : (y : Answer) → AnswerInRange y → c .speaks (y .query .order) ≡ true → c .readAnswer (y .query .order) (c .answerLine y) ≡ gives y
-  -- what reads is in range, and of an order that has its kinds; an answer, of the order it was read under
-  pub ask-ok : (s : List ℕ) (a : Ask) → c .readAsk s ≡ gives a → AskInRange a × (c .speaks (a .query .order) ≡ true)
-  pub answer-ok : (o : Order) (s : List ℕ) (y : Answer) → c .readAnswer o s ≡ gives y → AnswerInRange y × (y .query .order ≡ o)
-  -- a line reads only as its own kind
-  pub answer-kind : (o : Order) (y z : Answer) → AnswerInRange y → c .speaks (y .query .order) ≡ true → c .readAnswer o (c .answerLine y) ≡ gives z
-      → o ≡ y .query .order
-  pub ask-kind : (o : Order) (a : Ask) (z : Answer) → AskInRange a → c .readAnswer o (c .askLine a) ≡ gives z → ⊥
+  -- what was written reads back, its order too
+  pub ask-back : (a : Ask) → AskInRange a → c .readAsk (c .askLine a) ≡ gives a
+  pub answer-back : (y : Answer) → AnswerInRange y → c .readAnswer (c .answerLine y) ≡ gives y
+  -- what reads is in range
+  pub ask-ok : (s : List ℕ) (a : Ask) → c .readAsk s ≡ gives a → AskInRange a
+  pub answer-ok : (s : List ℕ) (y : Answer) → c .readAnswer s ≡ gives y → AnswerInRange y
+  -- no ask reads as an answer
+  pub ask-kind : (a : Ask) (z : Answer) → AskInRange a → c .readAnswer (c .askLine a) ≡ gives z → ⊥

@@ -2,6 +2,7 @@ pub mod Examples
 pub mod EndExamples
 pub mod CallExamples
 pub mod LineExamples
+pub mod FarExamples
 pub mod ProgramExample
 pub mod Tests
 pub mod Ranges

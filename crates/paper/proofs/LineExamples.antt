@@ -6,7 +6,7 @@ use Rattle.paper.specs.Frames.{be, num, glyph, digit, hexes, lineOf, fra
 use Rattle.paper.specs.Fields.{head, front, coordBytes, coordsIn, inSlots, queryInSlots, scopeBytes, scopeIn, scopeOk, itemFrame, itemBytes, itemSlots, numbersOk, referencesOk}
 use Rattle.paper.specs.Fields as Fields
 use Rattle.paper.specs.Lines.{bareLine, reading, headOk, behind, queryAt, queryFits, isAsk, askFrame, askRanges, askFits, askOk, askAt, anAsk, noAsk, readAsAsk}
-use Rattle.paper.specs.Lines.{answerFrame, answerRanges, answerFits, countIn, answerOk, answerAt, anAnswer, noAnswer, readAsAnswer, claimFrame, claimFits, claimOk, claimAt, aClaim, noClaim, readAsClaim}
+use Rattle.paper.specs.Lines.{answerFrame, answerRanges, answerFits, countIn, answerOk, isAnswer, answerAt, anAnswer, noAnswer, readAsAnswer, claimFrame, claimFits, claimOk, claimAt, aClaim, noClaim, readAsClaim}
 use Rattle.paper.specs.Codec.{scopeOf, placeIn, askLine, answerMeant, readAnswer}
 use Rattle.paper.specs.Ends.{opening, presentPlace, every, rising, startedWell, soundIn, asking, sameProbe, sameQuery, samePlace, toPresent, pageHolds, joinedTo, taken, taking}
 use Rattle.paper.specs.Lists.{itemsIn, listing, unusedZero, heldWell, openedAs, openingHeld, askingHeld, takingHeld, heldAfter}
@@ -27,7 +27,6 @@ lists-marked =
       fresh = refl;
       later = refl;
       falling2 = refl;
-      far2 = refl;
       whole16 = refl;
       size0 = refl;
       sizeOver = refl;
@@ -42,7 +41,7 @@ lists-marked =
 pub taking-marked : TakingMarked
 unfolding inRange unusedZero heldWell every itemsIn listing soundIn rising startedWell rank before presentPlace follows sameProbe sameQuery samePlace toPresent pageHolds
     joinedTo taken taking takingHeld flat fronted heldAfter be num glyph digit hexes lineOf frameOf pairsEnded isLine coordsIn inSlots scopeIn scopeOk
-    Fields.itemNumbers itemSlots numbersOk headOk behind answerRanges queryAt countIn answerOk answerAt placeIn answerMeant readAnswer
+    Fields.itemNumbers itemSlots numbersOk headOk behind answerRanges queryAt countIn answerOk isAnswer answerAt placeIn answerMeant readAnswer
 taking-marked =
     record {
       first = refl;
@@ -73,7 +72,7 @@ taking-marked =
 pub lines-marked : LinesMarked
 unfolding inRange be num glyph digit hexes lineOf frameOf pairsEnded isLine head front coordBytes coordsIn inSlots scopeBytes scopeIn scopeOk itemFrame itemBytes
     Fields.itemNumbers itemSlots numbersOk referencesOk bareLine reading headOk behind queryAt queryFits isAsk askFrame askRanges askFits askOk askAt anAsk noAsk readAsAsk
-    answerFrame answerRanges answerFits countIn answerOk answerAt anAnswer noAnswer readAsAnswer claimFrame claimFits claimOk claimAt aClaim noClaim readAsClaim
+    answerFrame answerRanges answerFits countIn answerOk isAnswer answerAt anAnswer noAnswer readAsAnswer claimFrame claimFits claimOk claimAt aClaim noClaim readAsClaim
 lines-marked =
     record {
       askWritten = refl;
@@ -81,7 +80,6 @@ lines-marked =
       ask12 = refl;
       askSize10 = refl;
       askProbe10 = refl;
-      askFar10 = refl;
       askSnapshot10 = refl;
       answerWritten = refl;
       answer12 = refl;

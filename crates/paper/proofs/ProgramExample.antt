@@ -1,4 +1,4 @@
--- An example of the program: five claims and one ask give this whole output, computed. Assumes nothing.
+-- Examples of the program: five claims and one ask give this whole output, computed, and asks of both kinds theirs. Assumes nothing.
 use Prim.Native.Nat.{ℕ}
 use mathlib.Core.Path.{_≡_, refl}
 use mathlib.Core.List.{List, [], _∷_, _++_}
@@ -10,7 +10,8 @@ use Rattle.paper.specs.Fields.{head, coordBytes, coordsIn, inSlots, scop
 use Rattle.paper.specs.Lines.{headOk, behind, queryAt, isAsk, askRanges, askOk, askAt, answerFrame, claimOk, claimAt}
 use Rattle.paper.specs.Ends.{matches, answerOf, answerTo}
 use Rattle.paper.specs.Codec.{placeIn, scopeOf, askMeant, answerLine}
-use Rattle.paper.specs.Program.{tableFor, ours, claimIn, withClaim, claimEntering, replyTo, reply, claimTurn, askTurn, frameTurn, lineTurn, lineDone, byte, fed, inputDone, officeStart, program}
+use Rattle.paper.specs.Program.{tableFor, ours, claimIn, withClaim, claimEntering, replyTo, reply, claimTurn, askTurn, frameTurn, lineTurn, lineDone, byte, fed, inputDone, officeStart, program, refusal, decimal}
+use Rattle.paper.specs.FarExamples.{farAsk, farAnswer}
 
 abbrev claim2 : List ℕ
 claim2 =
@@ -51,10 +52,22 @@ answer =
     48 ∷ 48 ∷ 48 ∷ 48 ∷ 48 ∷ 48 ∷ 48 ∷ 48 ∷ 48 ∷ 48 ∷ 48 ∷ 48 ∷ 48 ∷ 48 ∷ 49 ∷ 48 ∷ 48 ∷ 48 ∷ 52 ∷ 48 ∷ 48 ∷ 48 ∷ 48 ∷ 48 ∷ 48 ∷ 54 ∷ 57 ∷
     48 ∷ 48 ∷ 48 ∷ 48 ∷ 48 ∷ 48 ∷ 48 ∷ 48 ∷ 48 ∷ 48 ∷ 48 ∷ 48 ∷ 48 ∷ 48 ∷ 48 ∷ 49 ∷ 10 ∷ []
 
-pub example : program (claim2 ++ (claim3 ++ (claim9 ++ (claim6 ++ (claim5 ++ ask))))) ≡ answer
+abbrev claims : List ℕ
+claims = claim2 ++ (claim3 ++ (claim9 ++ (claim6 ++ claim5)))
+
+-- [10.5] `refused 10`
+abbrev refused10 : List ℕ
+refused10 = 114 ∷ 101 ∷ 102 ∷ 117 ∷ 115 ∷ 101 ∷ 100 ∷ 32 ∷ 49 ∷ 48 ∷ 10 ∷ []
+
+-- [10.6] an ask in far order is answered in far order, between asks in near order; an answer, of either kind, is no line for the office
+pub record ProgramMarked : Type 0 where
+  pub sample : program (claims ++ ask) ≡ answer
+  pub bothKinds : program (claims ++ (farAsk ++ (ask ++ (farAnswer ++ answer)))) ≡ farAnswer ++ (answer ++ (refused10 ++ refused10))
+
+pub program-marked : ProgramMarked
 unfolding program officeStart inputDone fed byte lineDone lineTurn frameTurn askTurn claimTurn reply replyTo claimEntering withClaim claimIn ours
     tableFor answerLine askMeant scopeOf placeIn answerTo answerOf matches claimAt claimOk answerFrame askAt askOk askRanges behind headOk queryAt
     isAsk itemBytes itemFrame scopeOk scopeIn front scopeBytes inSlots coordsIn coordBytes inRange head isLine frameOf lineOf hexes digit glyph num be
     Frames.pairsEnded flat markHolds lastOf pageOf following snapshotHolds rest follows listed itemOf insert before rank distance joined weigh
-    measureOf
-example = refl
+    measureOf refusal decimal
+program-marked = record { sample = refl; bothKinds = refl }

@@ -8,10 +8,9 @@ use Rattle.paper.specs.declared.lines.Ask as lines-Ask
 use Rattle.paper.specs.declared.lines.AskRead.{AskRead}
 use Rattle.paper.specs.declared.lines.Answer as lines-Answer
 use Rattle.paper.specs.declared.lines.AnswerRead.{AnswerRead}
-use Rattle.paper.specs.declared.orders.Order.{Order}
 use Rattle.paper.specs.Outcomes.{gives, must}
 use Rattle.paper.specs.Frames.{frameOf, isLine}
-use Rattle.paper.specs.Lines.{reading, isAsk, askAt, anAsk, noAsk, readAsAsk, answerKind, answerOk, answerAt, anAnswer, noAnswer, readAsAnswer}
+use Rattle.paper.specs.Lines.{reading, isAsk, askAt, anAsk, noAsk, readAsAsk, isAnswer, answerAt, anAnswer, noAnswer, readAsAnswer}
 use Rattle.paper.specs.Codec.{askMeant, answerMeant, readAsk, readAnswer}
 
 pub ask-by-refusal : (line : List ℕ) → readAsk line ≡ must (eqb (readAsAsk line .refusal) 0) (readAsAsk line .refusal) (gives (askMeant (readAsAsk line .ask)))
@@ -27,10 +26,10 @@ ask-by-refusal line = go (isLine line) (isAsk (frameOf line)) (askAt (frameOf li
     go true false x = unfold noAsk in refl
     go false b x = unfold noAsk in refl
 
-pub answer-by-refusal : (o : Order) (line : List ℕ)
-    → readAnswer o line ≡ must (eqb (readAsAnswer o line .refusal) 0) (readAsAnswer o line .refusal) (gives (answerMeant (readAsAnswer o line .answer)))
+pub answer-by-refusal : (line : List ℕ)
+    → readAnswer line ≡ must (eqb (readAsAnswer line .refusal) 0) (readAsAnswer line .refusal) (gives (answerMeant (readAsAnswer line .answer)))
 unfolding readAnswer readAsAnswer reading
-answer-by-refusal o line = go (isLine line) (answerOk (answerKind o) (frameOf line)) (answerAt o (frameOf line))
+answer-by-refusal line = go (isLine line) (isAnswer (frameOf line)) (answerAt (frameOf line))
   where
     read : Bool → Bool → lines-Answer.Answer → AnswerRead
     read a b x = cond a (cond b (anAnswer x) (noAnswer 10)) (noAnswer 9)

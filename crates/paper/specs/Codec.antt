@@ -7,14 +7,13 @@ use lib.ListN.{length}
 use Rattle.paper.specs.declared.lines.Ask as lines-Ask
 use Rattle.paper.specs.declared.lines.Answer as lines-Answer
 use Rattle.paper.specs.declared.lines.Scope.{Scope}
-use Rattle.paper.specs.declared.orders.Order.{Order}
 use Rattle.paper.specs.declared.orders.Place.{Place}
 use Rattle.paper.specs.declared.orders.Place.the-variants.{Start, After}
 use Rattle.paper.specs.Orders.{queryIn, snapshotOf, flat}
 use Rattle.paper.specs.Outcomes.{Outcome, gives, must}
 use Rattle.paper.specs.Frames.{lineOf, frameOf, isLine}
 use Rattle.paper.specs.Fields.{flagOf}
-use Rattle.paper.specs.Lines.{answerKind, spoken, askFrame, isAsk, askAt, answerFrame, answerOk, answerAt}
+use Rattle.paper.specs.Lines.{askFrame, isAsk, askAt, answerFrame, isAnswer, answerAt}
 use Rattle.paper.specs.Ends.{Ask, Answer, Codec}
 use Rattle.paper.specs.Lists.{itemsIn}
 
@@ -53,10 +52,10 @@ answerLine y =
 unfoldable pub readAsk : List ℕ → Outcome Ask
 readAsk line = must (isLine line) 9 (must (isAsk (frameOf line)) 10 (gives (askMeant (askAt (frameOf line)))))
 
--- [8.9] [8.10] a line read as an answer in an order
-unfoldable pub readAnswer : Order → List ℕ → Outcome Answer
-readAnswer o line =
-    must (isLine line) 9 (must (answerOk (answerKind o) (frameOf line)) 10 (gives (answerMeant (answerAt o (frameOf line)))))
+-- [8.9] [8.10] a line read as an answer
+unfoldable pub readAnswer : List ℕ → Outcome Answer
+readAnswer line =
+    must (isLine line) 9 (must (isAnswer (frameOf line)) 10 (gives (answerMeant (answerAt (frameOf line)))))
 
 abbrev pub lines : Codec
-lines = record { speaks = spoken; askLine = askLine; answerLine = answerLine; readAsk = readAsk; readAnswer = readAnswer }
+lines = record { askLine = askLine; answerLine = answerLine; readAsk = readAsk; readAnswer = readAnswer }

@@ -10,7 +10,7 @@ use Rattle.paper.specs.declared.orders.Order.{Order}
 use Rattle.paper.specs.declared.orders.Place.{Place}
 use Rattle.paper.specs.declared.orders.Place.the-variants.{Start, After}
 use Rattle.paper.specs.Points.{Claim, inRange}
-use Rattle.paper.specs.Orders.{Item, noItem, Query, earlier, follows, snapshotOf, snapshotHolds, following, pageOf, lastOf, markHolds}
+use Rattle.paper.specs.Orders.{Item, noItem, Query, sameOrder, earlier, follows, snapshotOf, snapshotHolds, following, pageOf, lastOf, markHolds}
 use Rattle.paper.specs.Tree.{Store, claimsIn}
 use Rattle.paper.specs.Outcomes.{Outcome, must, onto, gives}
 use Rattle.paper.specs.Limits.{longestAnswer, longestAsk, mostClaims, mostPage}
@@ -31,14 +31,12 @@ pub record Answer : Type 0 where
   pub last : Bool
   pub items : List Item
 
--- The writers and readers of these two kinds of line; a reader's refusals are 9 and 10. A line's kind tells its order: `speaks` says which
--- orders the office has kinds for, and a list reads answers of its own order's kind only.
+-- The writers and readers of asks and answers, in either order; a reader's refusals are 9 and 10. A line's kind tells its order.
 pub record Codec : Type 0 where
-  pub speaks : Order → Bool
   pub askLine : Ask → List ℕ
   pub answerLine : Answer → List ℕ
   pub readAsk : List ℕ → Outcome Ask
-  pub readAnswer : Order → List ℕ → Outcome Answer
+  pub readAnswer : List ℕ → Outcome Answer
 
 -- ---- the office
 
@@ -239,6 +237,10 @@ taken room L y =
     (must (leb (length (L .items) + length (y .items)) room) 15
     (gives (joinedTo L y)))))
 
+-- [7.5] [8.10] an answer of the list's own kind: a line of the other order's is none that the list expects
+abbrev pub ownKind : Listing → Answer → Bool
+ownKind L y = sameOrder (L .query .order) (y .query .order)
+
 -- [9.13] taking a line
 unfoldable pub taking : Codec → ℕ → Listing → List ℕ → Outcome Listing
-taking c room L line = must (soundIn room L) 2 (onto (c .readAnswer (L .query .order) line) (λ y. taken room L y))
+taking c room L line = must (soundIn room L) 2 (onto (c .readAnswer line) (λ y. must (ownKind L y) 10 (taken room L y)))

@@ -6,6 +6,7 @@ use mathlib.Core.Bool.{Bool, true, false}
 use mathlib.Core.List.{List, [], _∷_, _++_, map}
 use lib.IntN.{ℤ, pos, negsuc}
 use lib.ListN.{replicate}
+use Rattle.paper.specs.declared.orders.Order.{Order}
 use Rattle.paper.specs.declared.orders.Order.the-variants.{Near}
 use Rattle.paper.specs.declared.orders.Place.{Place}
 use Rattle.paper.specs.declared.orders.Place.the-variants.{Start, After}
@@ -28,9 +29,12 @@ five = claim 101 2 ∷ claim 102 3 ∷ claim 103 9 ∷ claim 104 6 ∷ claim 105
 abbrev pub six : List Claim
 six = five ++ (claim 106 4 ∷ [])
 
--- what is asked about: the probe is 4
+-- what is asked about: the probe is 4, in near order where nothing else is said
+abbrev pub queryIn : Order → ℕ → Query
+queryIn order reach = record { order = order; table = 7; measure = 1; d = 1; probe = pos 4 ∷ []; reach = reach }
+
 abbrev pub query : ℕ → Query
-query reach = record { order = Near; table = 7; measure = 1; d = 1; probe = pos 4 ∷ []; reach = reach }
+query = queryIn Near
 
 abbrev pub table : List Claim → Table
 table claims = record { number = 7; measure = 1; d = 1; capacity = officeClaims; claims = claims }
@@ -63,8 +67,11 @@ abbrev pub shown : Outcome Answer → Outcome Page
 shown (refused n) = refused n
 shown (gives y) = gives (page (map (λ x. x .number) (y .items)) (y .last))
 
-unfoldable pub officePage : List Claim → Place → ℕ → Outcome Page
-officePage claims place size = shown (answerTo (table claims) (record { query = query 5; place = place; size = size }))
+unfoldable pub officePageIn : Order → List Claim → Place → ℕ → Outcome Page
+officePageIn order claims place size = shown (answerTo (table claims) (record { query = queryIn order 5; place = place; size = size }))
+
+abbrev pub officePage : List Claim → Place → ℕ → Outcome Page
+officePage = officePageIn Near
 
 -- examples a to j
 pub record Marked : Type 0 where

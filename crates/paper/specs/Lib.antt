@@ -15,4 +15,5 @@ pub mod EndExamples
 pub mod Calls
 pub mod CallExamples
 pub mod LineExamples
+pub mod FarExamples
 pub mod Program

@@ -12,7 +12,7 @@ use Rattle.paper.specs.declared.lines.Answer.{Answer}
 use Rattle.paper.specs.declared.lines.ClaimLine.{ClaimLine}
 use Rattle.paper.specs.declared.lists.List as lists
 use Rattle.paper.specs.declared.orders.Order.{Order}
-use Rattle.paper.specs.declared.orders.Order.the-variants.{Near, Far}
+use Rattle.paper.specs.declared.orders.Order.the-variants.{Near}
 use Rattle.paper.specs.declared.queries.Query as queries
 use Rattle.paper.specs.Orders.{Query}
 use Rattle.paper.specs.Outcomes.{Outcome, refused, gives, number}
@@ -76,10 +76,6 @@ spoiled = held (listOf 1 true 5 2 true) (pageRoom 6)
 abbrev pub falling : Held
 falling = held (listOf 0 true 5 2 false) (4 ∷ 105 ∷ 1 ∷ 1 ∷ 102 ∷ 1 ∷ [])
 
--- in far order, which has no lines: not sound
-abbrev pub far : Held
-far = held (listOrdered Far 0 false 0 0 false) []
-
 abbrev pub asked : Held → ℕ → ℕ → Outcome (List ℕ)
 asked s size out = askingHeld lines s size out
 
@@ -97,15 +93,19 @@ abbrev pub itemAt : ℕ → ℕ → ℕ → List ℕ
 itemAt number reference distance =
     0 ∷ number ∷ 0 ∷ 0 ∷ 0 ∷ reference ∷ 0 ∷ 0 ∷ 0 ∷ 0 ∷ 0 ∷ 0 ∷ 0 ∷ distance ∷ []
 
--- the bytes of an answer, by its table, from, snapshot, mark distance, mark number, last, item count and items
-abbrev pub answerBytes : ℕ → ℕ → ℕ → ℕ → ℕ → ℕ → ℕ → List ℕ → List ℕ
-answerBytes table from snapshot distance number last count items =
-    (2 ∷ 0 ∷ 0 ∷ 0 ∷ table ∷ 1 ∷ 1 ∷ 0 ∷ 0 ∷ 0 ∷ 4 ∷ 0 ∷ 0 ∷ 0 ∷ 0 ∷ 0 ∷ 0 ∷ 0 ∷ 5 ∷ from ∷ 0 ∷ snapshot ∷ [])
+-- the bytes of an answer, by its kind, table, from, snapshot, mark distance, mark number, last, item count and items
+abbrev pub answerBytes : ℕ → ℕ → ℕ → ℕ → ℕ → ℕ → ℕ → ℕ → List ℕ → List ℕ
+answerBytes kind table from snapshot distance number last count items =
+    (kind ∷ 0 ∷ 0 ∷ 0 ∷ table ∷ 1 ∷ 1 ∷ 0 ∷ 0 ∷ 0 ∷ 4 ∷ 0 ∷ 0 ∷ 0 ∷ 0 ∷ 0 ∷ 0 ∷ 0 ∷ 5 ∷ from ∷ 0 ∷ snapshot ∷ [])
     ++ ((0 ∷ 0 ∷ 0 ∷ 0 ∷ 0 ∷ 0 ∷ 0 ∷ distance ∷ 0 ∷ number ∷ last ∷ count ∷ []) ++ items)
 
+abbrev pub answerWith : ℕ → ℕ → ℕ → ℕ → ℕ → ℕ → ℕ → ℕ → List ℕ → List ℕ
+answerWith kind table from snapshot distance number last count items =
+    lineOf (answerBytes kind table from snapshot distance number last count items)
+
+-- an answer in near order
 abbrev pub answers : ℕ → ℕ → ℕ → ℕ → ℕ → ℕ → ℕ → List ℕ → List ℕ
-answers table from snapshot distance number last count items =
-    lineOf (answerBytes table from snapshot distance number last count items)
+answers = answerWith 2
 
 -- the second page of 2 in order, and its items exchanged
 abbrev pub second : List ℕ
@@ -126,17 +126,18 @@ abbrev pub scope : ℕ → ℕ → ℕ → ℕ → Scope
 scope from snapshot distance number =
     record { from = from; snapshot = snapshot; distance = distance; number = number }
 
-abbrev pub askValue : Ask
-askValue = record { query = queryOf Near 0; scope = scope 0 0 0 0; size = 2 }
+abbrev pub askValue : Order → Ask
+askValue order = record { query = queryOf order 0; scope = scope 0 0 0 0; size = 2 }
 
-abbrev pub answerValue : Answer
-answerValue =
+-- an answer's fields, with two items
+abbrev pub answerValue : Order → List ℕ → Answer
+answerValue order two =
     record {
-      query = queryOf Near 0;
+      query = queryOf order 0;
       scope = scope 0 5 0 0;
       last = 0;
       count = 2;
-      items = (1 ∷ 102 ∷ 1 ∷ 4 ∷ 105 ∷ 1 ∷ []) ++ replicate (itemRoom - 6) 0;
+      items = two ++ replicate (itemRoom - 6) 0;
     }
 
 abbrev pub claimValue : ClaimLine
@@ -145,8 +146,12 @@ claimValue = record { table = 7; measure = 1; d = 1; reference = 101; coordinate
 abbrev pub writesAsk : Query → Scope → ℕ → ℕ → Outcome (List ℕ)
 writesAsk q p size out = bareLine (askFits q p size) longestAsk (askFrame q p size) out
 
+abbrev pub writesAnswerIn : Order → Scope → ℕ → List ℕ → ℕ → Outcome (List ℕ)
+writesAnswerIn order p count ns out =
+    bareLine (answerFits (opensIn order 1 1 four) p 0 count ns) longestAnswer (answerFrame (opensIn order 1 1 four) p 0 count ns) out
+
 abbrev pub writesAnswer : Scope → ℕ → List ℕ → ℕ → Outcome (List ℕ)
-writesAnswer p count ns out = bareLine (answerFits (opens 1 1 four) p 0 count ns) longestAnswer (answerFrame (opens 1 1 four) p 0 count ns) out
+writesAnswer = writesAnswerIn Near
 
 abbrev pub writesClaim : List ℤ → ℕ → Outcome (List ℕ)
 writesClaim cs out = bareLine (claimFits 1 1 cs) longestClaim (claimFrame 7 1 1 101 cs) out
@@ -162,7 +167,6 @@ pub record ListsMarked : Type 0 where
   pub fresh : asked (openedIn []) 2 longestAsk ≡ gives sampleAsk
   pub later : asked heldAfterFirst 2 longestAsk ≡ gives (askWith 1 7 1 5 1 4 2)
   pub falling2 : asked falling 2 longestAsk ≡ refused 2
-  pub far2 : asked far 2 longestAsk ≡ refused 2
   pub whole16 : asked whole 2 longestAsk ≡ refused 16
   pub size0 : asked heldAfterFirst 0 longestAsk ≡ refused 6
   pub sizeOver : asked heldAfterFirst tooMany longestAsk ≡ refused 6
@@ -210,7 +214,6 @@ pub record LinesMarked : Type 0 where
   pub ask12 : writesAsk (opens 1 1 four) (scope 0 0 0 0) 2 (longestAsk - 1) ≡ refused 12
   pub askSize10 : writesAsk (opens 1 1 four) (scope 0 0 0 0) tooMany (longestAsk - 1) ≡ refused 10
   pub askProbe10 : writesAsk (opens 1 1 wide) (scope 0 0 0 0) 2 longestAsk ≡ refused 10
-  pub askFar10 : writesAsk (opensIn Far 1 1 four) (scope 0 0 0 0) 2 longestAsk ≡ refused 10
   pub askSnapshot10 : writesAsk (opens 1 1 four) (scope 0 5 0 0) 2 longestAsk ≡ refused 10
   pub answerWritten : writesAnswer (scope 0 5 0 0) 2 (1 ∷ 102 ∷ 1 ∷ 4 ∷ 105 ∷ 1 ∷ []) longestAnswer ≡ gives sampleAnswer
   pub answer12 : writesAnswer (scope 0 5 0 0) 0 [] (longestAnswer - 1) ≡ refused 12
@@ -219,15 +222,15 @@ pub record LinesMarked : Type 0 where
   pub claimWritten : writesClaim (negsuc 1 ∷ []) longestClaim ≡ gives (lineOf (claimBytes 3))
   pub claim12 : writesClaim (negsuc 1 ∷ []) (longestClaim - 1) ≡ refused 12
   pub claim10 : writesClaim wide (longestClaim - 1) ≡ refused 10
-  pub askRead : readAsAsk sampleAsk ≡ anAsk askValue
+  pub askRead : readAsAsk sampleAsk ≡ anAsk (askValue Near)
   pub askNot9 : readAsAsk (askBytes 1 7 0 0 0 0 tooMany) ≡ noAsk 9
   pub askNot10 : readAsAsk (askWith 1 7 0 0 0 0 tooMany) ≡ noAsk 10
   pub askKind10 : readAsAsk sampleAnswer ≡ noAsk 10
   pub askKindNone10 : readAsAsk (askWith 0 7 0 0 0 0 2) ≡ noAsk 10
-  pub answerRead : readAsAnswer Near sampleAnswer ≡ anAnswer answerValue
-  pub answerNot9 : readAsAnswer Near noLine ≡ noAnswer 9
-  pub answerNot10 : readAsAnswer Near (answers 7 0 5 0 0 0 tooMany overfull) ≡ noAnswer 10
-  pub answerKind10 : readAsAnswer Near sampleAsk ≡ noAnswer 10
+  pub answerRead : readAsAnswer sampleAnswer ≡ anAnswer (answerValue Near (1 ∷ 102 ∷ 1 ∷ 4 ∷ 105 ∷ 1 ∷ []))
+  pub answerNot9 : readAsAnswer noLine ≡ noAnswer 9
+  pub answerNot10 : readAsAnswer (answers 7 0 5 0 0 0 tooMany overfull) ≡ noAnswer 10
+  pub answerKind10 : readAsAnswer sampleAsk ≡ noAnswer 10
   pub claimRead : readAsClaim (lineOf (claimBytes 3)) ≡ aClaim claimValue
   pub claimNot9 : readAsClaim (claimBytes 1) ≡ noClaim 9
   pub claimKind10 : readAsClaim (lineOf (claimBytes 1)) ≡ noClaim 10

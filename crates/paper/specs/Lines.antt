@@ -1,7 +1,7 @@
--- The three kinds of line. Each has its frame, the test that a writer puts to its fields, the test that a reader puts to a frame, and the
--- value that a frame holds. The kinds of asks and answers are said once, by their order. Assumes nothing.
+-- Asks, answers and claims as lines. Each has its frame, the test that a writer puts to its fields, the test that a reader puts to a frame, and
+-- the value that a frame holds. Asks and answers have a kind for each order, said once; their layout does not depend on it. Assumes nothing.
 --
--- | kind   | fields in order, with their bytes                                                          | bytes         |
+-- | line   | fields in order, with their bytes                                                          | bytes         |
 -- |--------|--------------------------------------------------------------------------------------------|---------------|
 -- | ask    | kind 1, table 4, measure 1, d 1, probe 4d, reach 8, from 1, snapshot 2, mark 8 + 2, size 1  | 29 + 4d       |
 -- | answer | kind 1, table 4, measure 1, d 1, probe 4d, reach 8, from 1, snapshot 2, mark 8 + 2, last 1, | 30 + 4d + 14k |
@@ -14,7 +14,7 @@ use lib.ListN.{length, drop, replicate}
 use lib.Dec.{leb, eqb}
 use lib.IntN.{ℤ, pos}
 use Rattle.paper.specs.Points.{inRange}
-use Rattle.paper.specs.Orders.{Query}
+use Rattle.paper.specs.Orders.{Query, orderBy}
 use Rattle.paper.specs.Outcomes.{Outcome, refused, gives, must, Promise}
 use Rattle.paper.specs.Frames.{be, num, lineOf, frameOf, isLine}
 use Rattle.paper.specs.Fields.{head, coordBytes, coordsIn, inSlots, front, scopeIn, scopeOk, itemBytes, itemNumbers, itemSlots, numbersOk, referencesOk}
@@ -34,23 +34,22 @@ use Rattle.paper.specs.Limits.{itemRoom, mostPage, mostCoordinates}
 
 -- ---- the kinds of line
 
--- [2.1] [5.5] the kind of an ask in an order; 0 is none, and lists in far order have no lines yet
+-- [5.5] the kind of an ask in an order
 abbrev pub askKind : Order → ℕ
 askKind Near = 1
-askKind Far = 0
+askKind Far = 4
 
--- [2.1] [5.6] the kind of an answer in an order
+-- [5.6] the kind of an answer in an order
 abbrev pub answerKind : Order → ℕ
 answerKind Near = 2
-answerKind Far = 0
+answerKind Far = 5
 
--- [2.1] the orders that have kinds of line
-abbrev pub spoken : Order → Bool
-spoken o = leb 1 (askKind o)
-
--- the order whose asks are of a kind, near where there is none
+-- the order whose asks are of a kind, and the one whose answers are; near where there is none
 abbrev pub askOrder : ℕ → Order
-askOrder k = cond (eqb k (askKind Far)) Far Near
+askOrder k = orderBy (eqb k (askKind Far))
+
+abbrev pub answerOrder : ℕ → Order
+answerOrder k = orderBy (eqb k (answerKind Far))
 
 -- [5.7] the kind of a claim
 abbrev pub claimKind : ℕ
@@ -80,9 +79,9 @@ bareLine fits need f out = must fits 10 (must (leb need out) 12 (gives (lineOf f
 unfoldable pub reading : {A : Type 0} → (List ℕ → Bool) → (List ℕ → A) → (ℕ → A) → List ℕ → A
 reading ok value none l = cond (isLine l) (cond (ok (frameOf l)) (value (frameOf l)) (none 10)) (none 9)
 
--- [5.4] [8.10] a frame that begins with a head of kind k, in range; none is of kind 0
+-- [5.4] [8.10] a frame that begins with a head of kind k, in range
 unfoldable pub headOk : ℕ → List ℕ → Bool
-headOk k f = leb 1 k && (eqb (num 1 f) k && inRange (num 1 (drop 5 f)) (num 1 (drop 6 f)))
+headOk k f = eqb (num 1 f) k && inRange (num 1 (drop 5 f)) (num 1 (drop 6 f))
 
 -- the frame behind its probe, where the reach stands
 unfoldable pub behind : List ℕ → List ℕ
@@ -100,9 +99,9 @@ queryAt o f =
       reach = num 8 (behind f);
     }
 
--- [8.10] a query that a line can carry: of an order that has lines, in range, and with a probe of the length that d says
+-- [8.10] a query that a line can carry: in range, and with a probe of the length that d says
 unfoldable pub queryFits : Query → Bool
-queryFits q = spoken (q .order) && (inRange (q .measure) (q .d) && eqb (length (q .probe)) (q .d))
+queryFits q = inRange (q .measure) (q .d) && eqb (length (q .probe)) (q .d)
 
 -- [5.14] the fields of a refused line
 abbrev pub noQuery : queries.Query
@@ -130,7 +129,7 @@ unfoldable pub askOk : ℕ → List ℕ → Bool
 askOk k f =
     headOk k f && (eqb (length f) (29 + 4 * num 1 (drop 6 f)) && askRanges (scopeIn (behind f)) (num 1 (drop 21 (behind f))))
 
--- a frame that is an ask in some order
+-- a frame that is an ask, of the order that its kind tells
 unfoldable pub isAsk : List ℕ → Bool
 isAsk f = askOk (askKind (askOrder (num 1 f))) f
 
@@ -175,11 +174,15 @@ answerOk k f =
     && (eqb (length f) (30 + 4 * num 1 (drop 6 f) + 14 * countIn f)
     && (answerRanges (scopeIn (behind f)) (num 1 (drop 21 (behind f))) (countIn f) && numbersOk (itemNumbers (countIn f) (drop 23 (behind f)))))
 
+-- a frame that is an answer, of the order that its kind tells
+unfoldable pub isAnswer : List ℕ → Bool
+isAnswer f = answerOk (answerKind (answerOrder (num 1 f))) f
+
 -- [5.6] the fields of an answer's frame
-unfoldable pub answerAt : Order → List ℕ → Answer
-answerAt o f =
+unfoldable pub answerAt : List ℕ → Answer
+answerAt f =
     record {
-      query = queryAt o f;
+      query = queryAt (answerOrder (num 1 f)) f;
       scope = scopeIn (behind f);
       last = num 1 (drop 21 (behind f));
       count = countIn f;
@@ -194,9 +197,9 @@ unfoldable pub noAnswer : ℕ → AnswerRead
 noAnswer n =
     record { refusal = n; answer = record { query = noQuery; scope = noScope; last = 0; count = 0; items = replicate itemRoom 0 } }
 
--- [9.15] what reading a line as an answer in an order gives
-unfoldable pub readAsAnswer : Order → List ℕ → AnswerRead
-readAsAnswer o l = reading (answerOk (answerKind o)) (λ f. anAnswer (answerAt o f)) noAnswer l
+-- [9.15] what reading a line as an answer gives
+unfoldable pub readAsAnswer : List ℕ → AnswerRead
+readAsAnswer l = reading isAnswer (λ f. anAnswer (answerAt f)) noAnswer l
 
 -- ---- claim
 

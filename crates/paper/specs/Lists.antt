@@ -12,7 +12,7 @@ use Rattle.paper.specs.Orders.{Item, Query, queryIn, fronted}
 use Rattle.paper.specs.Outcomes.{Outcome, refused, gives, must, onto, leaves, Promise}
 use Rattle.paper.specs.Ends.{Codec, Listing, opening, every, sameZ, soundIn, asking, taking}
 use Rattle.paper.specs.Fields.{queryInSlots}
-use Rattle.paper.specs.Lines.{spoken, noQuery}
+use Rattle.paper.specs.Lines.{noQuery}
 
 -- [7.3] a list's fields, with the room that its items stand in
 pub record Held : Type 0 where
@@ -46,9 +46,9 @@ listing s =
 unfoldable pub unusedZero : ℕ → List ℤ → Bool
 unusedZero d probe = every (sameZ (pos 0)) (drop d probe)
 
--- [7.9] what soundness asks of a query as code holds it: an order that has lines, and zeros behind the probe
+-- [7.9] what soundness asks of a query as code holds it: zeros behind the probe
 unfoldable pub heldWell : queries.Query → Bool
-heldWell q = spoken (q .order) && unusedZero (q .d) (q .probe)
+heldWell q = unusedZero (q .d) (q .probe)
 
 -- [7.9] [7.10] [7.11] [8.2] a sound list in lent memory
 unfoldable pub soundHeld : Held → Bool

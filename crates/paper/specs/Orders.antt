@@ -1,6 +1,6 @@
 -- Sections 2 and 4 of the rules: orders and questions, by measuring every stored claim. Definitions only.
 use Prim.Native.Nat.{ℕ, zero, suc, _+_, _-_, _*_, _^_}
-use mathlib.Core.Bool.{Bool, true, cond, _&&_, _||_}
+use mathlib.Core.Bool.{Bool, true, false, not, cond, _&&_, _||_}
 use mathlib.Core.List.{List, [], _∷_, _++_}
 use lib.Dec.{ltb, leb, eqb}
 use lib.IntN.{ℤ}
@@ -44,6 +44,19 @@ queryIn q =
       probe = take (q .d) (q .probe);
       reach = q .reach;
     }
+
+-- [9.19] an order as a flag, which is on for far order, and a flag as an order
+abbrev pub isFar : Order → Bool
+isFar Near = false
+isFar Far = true
+
+abbrev pub orderBy : Bool → Order
+orderBy far = cond far Far Near
+
+-- the same order
+abbrev pub sameOrder : Order → Order → Bool
+sameOrder Near p = not (isFar p)
+sameOrder Far p = isFar p
 
 -- [2.1] [2.2] an order's rank of a distance: in near order itself, in far order turned round
 unfoldable pub rank : Order → ℕ → ℕ

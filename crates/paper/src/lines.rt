@@ -1,4 +1,4 @@
-// The three kinds of line as values: what readers give, and what writers answer.
+// Asks, answers and claims as values: what readers give, and what writers answer.
 use crate::limits::ITEM_ROOM;
 use crate::limits::MOST_CLAIMS;
 use crate::limits::MOST_COORDINATES;

@@ -3,7 +3,7 @@ ghost use mathlib.Core.Path.{_≡_};
 ghost use Rattle.paper.specs.Orders.{startMark, markAt};
 ghost use Rattle.paper.specs.Orders.{rank as Orders·rank, before as Orders·before};
 
-// [2.1] [2.2] Near order is that of lists; far order is farthest's.
+// [2.1] [2.2] Near order is smaller distances first, far order larger ones.
 pub enum Order {
     Near,
     Far,

@@ -20,23 +20,14 @@ enough : (q : Query) → 7 < length (q .probe) → (b : Bool) → b ≡ inRange 
 enough q h true e = let n = range-is (q .measure) (q .d) (sym e) in rw (eq-eqb _ _ (length-take-le (q .d) (q .probe) (omega (arith, n .narrow))))
 enough q h false e = refl
 
-has-lines-requires : tie.Need-has-lines-requires
-has-lines-requires c κs = search needs
-
 in-range-requires : tie.Need-in-range-requires
 in-range-requires c κs = search needs
 
 returns : tie.Need-returns
 unfolding queryFits
 returns c =
-    let q = c .before .before .before .args .q in
-    let long : 7 < length (c .before .before .before .args .q .probe) = search needs in
-    rw (← c .before .before .has-lines .ensures, c .before .if1 .taken, ← c .in-range .ensures) (enough (c .before .before .before .args .q) long (c .in-range .result) (c .in-range .ensures))
-
-returns-2 : tie.Need-returns-2
-unfolding queryFits
-returns-2 c = rw (← c .before .has-lines .ensures, c .if1 .left)
+    let long : 7 < length (c .before .args .q .probe) = search needs in
+    rw (← c .in-range .ensures) (enough (c .before .args .q) long (c .in-range .result) (c .in-range .ensures))
 
 pub query-fits-spec : {M : Type 1} → statement M
-query-fits-spec =
-    tie.close (tie.spec has-lines-requires in-range-requires returns returns-2)
+query-fits-spec = tie.close (tie.spec in-range-requires returns)

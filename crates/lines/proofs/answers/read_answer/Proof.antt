@@ -1,11 +1,9 @@
 -- `lines::answers::read_answer` meets its contract: 9, 10, or what the frame holds. Assumes nothing.
 use mathlib.Core.Path.{sym, ap, _∙_}
 use native.Mathlib.Omega.{arith}
-use lib.ListN.{take, length-take}
-use Rattle.line_digits.specs.FrameBytes.{frameIn}
+use lib.ListN.{length-take}
 use Rattle.lines.proofs.WritersReaders.{way-9, way-10, way-read}
-use Prim.Native.Nat.{ℕ}
-use Rattle.paper.specs.Lines.{answerKind, readAsAnswer, answerOk, answerAt, anAnswer, noAnswer}
+use Rattle.paper.specs.Lines.{readAsAnswer, isAnswer, answerAt, anAnswer, noAnswer}
 use borrow.Author.Needs.{needs}
 use Rattle.lines.proofs.answers.read_answer.Statement.{statement}
 use Rattle.lines.proofs.answers.read_answer.Tie as tie
@@ -24,7 +22,7 @@ unfolding readAsAnswer
 returns c =
     let args = c .before .before .before .before .before .before .args in
     let frame-of = c .before .before .before .frame-of in
-    c .no-answer .ensures ∙ way-9 (answerOk (answerKind (args .order))) (λ f. anAnswer (answerAt (args .order) f)) noAnswer (args .line .now) (frame-of .last .1 .0) (frame-of .result) (frame-of .ensures) (c .before .if1 .taken)
+    c .no-answer .ensures ∙ way-9 isAnswer (λ f. anAnswer (answerAt f)) noAnswer (args .line .now) (frame-of .last .1 .0) (frame-of .result) (frame-of .ensures) (c .before .if1 .taken)
 
 array-share-prefix-frame : tie.Need-array-share-prefix-frame
 array-share-prefix-frame c = search needs
@@ -32,25 +30,18 @@ array-share-prefix-frame c = search needs
 slice-aggregate-src : tie.Need-slice-aggregate-src
 slice-aggregate-src c = simp length-take (omega (arith, c .before .before .before .frame-of .ensures .few))
 
-answer-kind-requires : tie.Need-answer-kind-requires
-answer-kind-requires c κs = search needs
-
 answer-ok-requires : tie.Need-answer-ok-requires
 answer-ok-requires c κs = search needs
 
 answer-at-requires : tie.Need-answer-at-requires
-answer-at-requires c κs = record { kind = c .before .before .answer-kind .result; test = sym (c .before .answer-ok .ensures) ∙ c .if2 .taken }
+answer-at-requires c κs = sym (c .before .answer-ok .ensures) ∙ c .if2 .taken
 
 returns-2 : tie.Need-returns-2
 unfolding readAsAnswer anAnswer
 returns-2 c =
-    let args = c .before .before .before .before .before .before .before .before .before .before .args in
-    let frame-of = c .before .before .before .before .before .before .before .frame-of in
-    let if1 = c .before .before .before .before .before .if1 in
-    ap anAnswer (c .answer-at .ensures)
-    ∙ way-read (answerOk (answerKind (args .order))) (λ f. anAnswer (answerAt (args .order) f)) noAnswer (args .line .now) (frame-of .last .1 .0)
-    (frame-of .result) (frame-of .ensures) (if1 .left)
-    (sym (c .before .before .answer-ok .ensures ∙ ap (λ (k : ℕ). answerOk k (frameIn (take (frame-of .result) (frame-of .last .1 .0)))) (c .before .before .before .answer-kind .ensures)) ∙ c .before .if2 .taken)
+    let args = c .before .before .before .before .before .before .before .before .before .args in
+    let frame-of = c .before .before .before .before .before .before .frame-of in
+    ap anAnswer (c .answer-at .ensures) ∙ way-read isAnswer (λ f. anAnswer (answerAt f)) noAnswer (args .line .now) (frame-of .last .1 .0) (frame-of .result) (frame-of .ensures) (c .before .before .before .before .if1 .left) (sym (c .before .before .answer-ok .ensures) ∙ c .before .if2 .taken)
 
 no-answer-requires-2 : tie.Need-no-answer-requires-2
 no-answer-requires-2 c κs = search needs
@@ -58,13 +49,9 @@ no-answer-requires-2 c κs = search needs
 returns-3 : tie.Need-returns-3
 unfolding readAsAnswer
 returns-3 c =
-    let args = c .before .before .before .before .before .before .before .before .before .before .args in
-    let frame-of = c .before .before .before .before .before .before .before .frame-of in
-    let if1 = c .before .before .before .before .before .if1 in
-    c .no-answer2 .ensures
-    ∙ way-10 (answerOk (answerKind (args .order))) (λ f. anAnswer (answerAt (args .order) f)) noAnswer (args .line .now) (frame-of .last .1 .0)
-    (frame-of .result) (frame-of .ensures) (if1 .left)
-    (sym (c .before .before .answer-ok .ensures ∙ ap (λ (k : ℕ). answerOk k (frameIn (take (frame-of .result) (frame-of .last .1 .0)))) (c .before .before .before .answer-kind .ensures)) ∙ c .before .if2 .left)
+    let args = c .before .before .before .before .before .before .before .before .before .args in
+    let frame-of = c .before .before .before .before .before .before .frame-of in
+    c .no-answer2 .ensures ∙ way-10 isAnswer (λ f. anAnswer (answerAt f)) noAnswer (args .line .now) (frame-of .last .1 .0) (frame-of .result) (frame-of .ensures) (c .before .before .before .before .if1 .left) (sym (c .before .before .answer-ok .ensures) ∙ c .before .if2 .left)
 
 pub read-answer-spec : {M : Type 1} → statement M
 read-answer-spec =
@@ -76,7 +63,6 @@ read-answer-spec =
     returns
     array-share-prefix-frame
     slice-aggregate-src
-    answer-kind-requires
     answer-ok-requires
     answer-at-requires
     returns-2
