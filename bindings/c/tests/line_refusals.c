@@ -83,15 +83,15 @@ static nearby_written write_claim_row(claim_row r, output out)
     return try_claim_line(7, r.measure, r.d, 101, (points){ nine, r.length }, out);
 }
 
-static nearby_written write_ask_row(ask_row r, output out)
+static nearby_written write_ask_row(uint8_t order, ask_row r, output out)
 {
-    return try_ask_line(7, r.measure, r.d, (points){ nine, r.length }, r.scope, r.size, out);
+    return try_ask_line(order, 7, r.measure, r.d, (points){ nine, r.length }, r.scope, r.size, out);
 }
 
-static nearby_written write_answer_row(answer_row r, output out)
+static nearby_written write_answer_row(uint8_t order, answer_row r, output out)
 {
     room items = { r.items, r.items_length };
-    return try_answer_line(7, r.measure, r.d, (points){ nine, r.length }, r.scope, r.last, r.count, items, out);
+    return try_answer_line(order, 7, r.measure, r.d, (points){ nine, r.length }, r.scope, r.last, r.count, items, out);
 }
 
 /* The rooms are too small by all and by one, and just large enough. */
@@ -110,8 +110,10 @@ static void asks_refused(void)
     const size_t rooms[] = { 0, NEARBY_ASK_LINE - 1, NEARBY_ASK_LINE };
     uint8_t out[DOTS];
     for (size_t i = 0; i < LENGTH(asks); i++)
-        for (size_t k = 0; k < LENGTH(rooms); k++)
-            CHECK(refused(out, write_ask_row(asks[i], dotted(out, rooms[k])), 10));
+        for (size_t k = 0; k < LENGTH(rooms); k++) {
+            CHECK(refused(out, write_ask_row(NEARBY_NEAR, asks[i], dotted(out, rooms[k])), 10));
+            CHECK(refused(out, write_ask_row(NEARBY_FAR, asks[i], dotted(out, rooms[k])), 10));
+        }
 }
 
 static void answers_refused(void)
@@ -119,8 +121,10 @@ static void answers_refused(void)
     const size_t rooms[] = { 0, NEARBY_ANSWER_LINE - 1, NEARBY_ANSWER_LINE };
     uint8_t out[DOTS];
     for (size_t i = 0; i < LENGTH(answers); i++)
-        for (size_t k = 0; k < LENGTH(rooms); k++)
-            CHECK(refused(out, write_answer_row(answers[i], dotted(out, rooms[k])), 10));
+        for (size_t k = 0; k < LENGTH(rooms); k++) {
+            CHECK(refused(out, write_answer_row(NEARBY_NEAR, answers[i], dotted(out, rooms[k])), 10));
+            CHECK(refused(out, write_answer_row(NEARBY_FAR, answers[i], dotted(out, rooms[k])), 10));
+        }
 }
 
 /* ---- Readers ---- */
@@ -149,6 +153,9 @@ static const char *const no_lines[] = {
     "030000000701010000006500000002",
     "010000000701010000000400000000000000050000000000000000000000000002",
     "0200000007010100000004000000000000000501000500000000000000010004000200000000006500000000000000020003000000680000000000000002",
+    "040000000701010000000400000000000000050000000000000000000000000002",
+    "0500000007010100000004000000000000000501000500000000000000020000000200030000006800000000000000020001000000660000000000000001",
+    "04000000070101000000040000000000000005000000000000000000000000000A\n",
     "03000000070101000000650000000\n",
     "03000000070101000000650000000A\n",
     "03000000070101000000650000000g\n",
@@ -178,12 +185,29 @@ static const line_row other_kinds[] = {
     { READ_ASK, "02000000070101000000040000000000000005000005000000000000000000000100\n" },
     { READ_CLAIM, "02000000070101000000040000000000000005010005000000000000000100040002"
                   "00000000006500000000000000020003000000680000000000000002\n" },
+    { READ_ANSWER, "040000000701010000000400000000000000050000000000000000000000000002\n" },
+    { READ_CLAIM, "040000000701010000000400000000000000050000000000000000000000000002\n" },
+    { READ_ASK, "05000000070101000000040000000000000005000005000000000000000000000100\n" },
+    { READ_CLAIM, "05000000070101000000040000000000000005010005000000000000000200000002"
+                  "00030000006800000000000000020001000000660000000000000001\n" },
+    /* the fields of one kind under the number of another, or of none */
     { READ_CLAIM, "00000000070101000000650000000a\n" },
     { READ_CLAIM, "04000000070101000000650000000a\n" },
-    { READ_ASK, "040000000701010000000400000000000000050000000000000000000000000002\n" },
+    { READ_CLAIM, "05000000070101000000650000000a\n" },
+    { READ_CLAIM, "06000000070101000000650000000a\n" },
+    { READ_ASK, "000000000701010000000400000000000000050000000000000000000000000002\n" },
+    { READ_ASK, "020000000701010000000400000000000000050000000000000000000000000002\n" },
+    { READ_ASK, "030000000701010000000400000000000000050000000000000000000000000002\n" },
+    { READ_ASK, "050000000701010000000400000000000000050000000000000000000000000002\n" },
+    { READ_ASK, "060000000701010000000400000000000000050000000000000000000000000002\n" },
+    { READ_ANSWER, "00000000070101000000040000000000000005000005000000000000000000000100\n" },
+    { READ_ANSWER, "01000000070101000000040000000000000005000005000000000000000000000100\n" },
+    { READ_ANSWER, "03000000070101000000040000000000000005000005000000000000000000000100\n" },
+    { READ_ANSWER, "04000000070101000000040000000000000005000005000000000000000000000100\n" },
+    { READ_ANSWER, "06000000070101000000040000000000000005000005000000000000000000000100\n" },
 };
 
-/* [8.10] A field that breaks 5.8 to 5.10, or a line that is too short or too long for its fields. */
+/* [8.10] A field that breaks 5.8 to 5.10, or a line that is too short or too long for its fields; asks and answers in near order. */
 static const line_row fields_amiss[] = {
     { READ_CLAIM, "030000000700010000006500000002\n" },
     { READ_CLAIM, "030000000704010000006500000002\n" },
@@ -206,23 +230,35 @@ static const line_row fields_amiss[] = {
 };
 
 /* 10, and 9 for the same without its 0A. */
-static void check_rows(const line_row *rows, size_t length)
+static void check_row(call reader, text line)
 {
-    for (size_t i = 0; i < length; i++) {
-        text line = text_of(rows[i].line);
-        CHECK(refuses(rows[i].reader, line, 10));
-        CHECK(refuses(rows[i].reader, (text){ line.at, line.length - 1 }, 9));
-    }
+    CHECK(refuses(reader, line, 10));
+    CHECK(refuses(reader, (text){ line.at, line.length - 1 }, 9));
 }
 
 static void lines_of_other_kinds(void)
 {
-    check_rows(other_kinds, LENGTH(other_kinds));
+    for (size_t i = 0; i < LENGTH(other_kinds); i++)
+        check_row(other_kinds[i].reader, text_of(other_kinds[i].line));
+}
+
+/* The line in far order: its kind is 04 in place of 01, or 05 in place of 02. */
+static void check_row_in_far_order(line_row r)
+{
+    uint8_t far[NEARBY_ANSWER_LINE];
+    text near = text_of(r.line);
+    memcpy(far, near.at, near.length);
+    far[1] = r.reader == READ_ASK ? '4' : '5';
+    check_row(r.reader, (text){ far, near.length });
 }
 
 static void lines_with_fields_amiss(void)
 {
-    check_rows(fields_amiss, LENGTH(fields_amiss));
+    for (size_t i = 0; i < LENGTH(fields_amiss); i++) {
+        check_row(fields_amiss[i].reader, text_of(fields_amiss[i].line));
+        if (fields_amiss[i].reader != READ_CLAIM)
+            check_row_in_far_order(fields_amiss[i]);
+    }
 }
 
 /* Zeros are of no kind: 10 up to the length of the longest line, and 9 beyond. */

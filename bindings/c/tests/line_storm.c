@@ -92,10 +92,11 @@ static void put_page(seeded *from, sheet *s)
     }
 }
 
-/* The fields of one of the kinds, now and then under another number or with d 0 or 9, and the 0A. */
+/* The fields of one of the five kinds, now and then under another number or with d 0 or 9, and the 0A. */
 static void put_line(seeded *from, sheet *s)
 {
-    uint64_t kind = 1 + below(from, 3), d = one_in(from, 16) ? 9 * below(from, 2) : 1 + below(from, 8);
+    uint64_t kind = 1 + below(from, 5), d = one_in(from, 16) ? 9 * below(from, 2) : 1 + below(from, 8);
+    bool ask = kind == 1 || kind == 4, answer = kind == 2 || kind == 5;
     s->length = 0;
     put(s, 2, one_in(from, 16) ? below(from, 8) : kind);
     put_about(from, s, four_bytes);
@@ -106,10 +107,10 @@ static void put_line(seeded *from, sheet *s)
     for (uint64_t i = 0; i < d; i++)
         put_about(from, s, four_bytes);
     if (kind != 3)
-        put_scope(from, s, kind == 1);
-    if (kind == 1)
+        put_scope(from, s, ask);
+    if (ask)
         put_about(from, s, size);
-    if (kind == 2)
+    if (answer)
         put_page(from, s);
     put_character(s, '\n');
 }
@@ -145,8 +146,9 @@ static void damage(seeded *from, sheet *s)
 
 /* ---- The storm ---- */
 
+/* Asks and answers by their order. */
 typedef struct {
-    size_t no_line, no_kind, asks, answers, claims;
+    size_t no_line, no_kind, asks[2], answers[2], claims;
 } tally;
 
 /* A line is no line for every reader, or it is of one kind at most. */
@@ -160,11 +162,11 @@ static void read_and_write_again(text line, tally *t)
         t->no_line++;
         CHECK(answer.refusal == 9 && claim.refusal == 9);
     } else if (ask.refusal == 0) {
-        t->asks++;
+        t->asks[ask.ask.order != NEARBY_NEAR]++;
         CHECK(answer.refusal == 10 && claim.refusal == 10);
         CHECK(wrote(out, write_ask_fields(ask.ask, dotted(out, NEARBY_ASK_LINE)), line));
     } else if (answer.refusal == 0) {
-        t->answers++;
+        t->answers[answer.answer.order != NEARBY_NEAR]++;
         CHECK(ask.refusal == 10 && claim.refusal == 10);
         CHECK(wrote(out, write_answer_fields(answer.answer, dotted(out, NEARBY_ANSWER_LINE)), line));
     } else if (claim.refusal == 0) {
@@ -190,8 +192,9 @@ static void storm(void)
         read_and_write_again((text){ end - s.length, s.length }, &t);
     }
     brink_free(end - NODE, NODE);
-    CHECK(t.no_line >= LEAST && t.no_kind >= LEAST);
-    CHECK(t.asks >= LEAST && t.answers >= LEAST && t.claims >= LEAST);
+    CHECK(t.no_line >= LEAST && t.no_kind >= LEAST && t.claims >= LEAST);
+    CHECK(t.asks[NEARBY_NEAR] >= LEAST && t.answers[NEARBY_NEAR] >= LEAST);
+    CHECK(t.asks[NEARBY_FAR] >= LEAST && t.answers[NEARBY_FAR] >= LEAST);
 }
 
 void line_storm_tests(void)

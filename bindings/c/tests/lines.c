@@ -4,10 +4,10 @@
 
 #include <string.h>
 
-/* The fields of all three kinds at once; each writer takes what is its own. */
+/* The fields of asks, answers and claims at once; each writer takes what is its own. */
 typedef struct {
     uint32_t table, reference;
-    uint8_t measure, d, size, last, count;
+    uint8_t order, measure, d, size, last, count;
     int32_t probe[10];
     size_t probe_length, items_length;
     nearby_scope scope;
@@ -16,7 +16,7 @@ typedef struct {
 
 static fields any_fields(seeded *from)
 {
-    fields f = { .table = (uint32_t)next_number(from), .reference = (uint32_t)next_number(from) };
+    fields f = { .table = (uint32_t)next_number(from), .reference = (uint32_t)next_number(from), .order = any_order(from) };
     f.measure = (uint8_t)(1 + below(from, 3));
     f.d = (uint8_t)(1 + below(from, 8));
     f.size = (uint8_t)(1 + below(from, 16));
@@ -37,13 +37,13 @@ static points probe_of(const fields *f) { return (points){ f->probe, f->probe_le
 
 static nearby_written write_ask_of(const fields *f, output out)
 {
-    return try_ask_line(f->table, f->measure, f->d, probe_of(f), f->scope, f->size, out);
+    return try_ask_line(f->order, f->table, f->measure, f->d, probe_of(f), f->scope, f->size, out);
 }
 
 static nearby_written write_answer_of(fields *f, output out)
 {
-    return try_answer_line(f->table, f->measure, f->d, probe_of(f), f->scope, f->last, f->count, (room){ f->items, f->items_length },
-                           out);
+    return try_answer_line(f->order, f->table, f->measure, f->d, probe_of(f), f->scope, f->last, f->count,
+                           (room){ f->items, f->items_length }, out);
 }
 
 static nearby_written write_claim_of(const fields *f, output out)
@@ -58,21 +58,31 @@ static void read_all(text line)
     try_read_claim(line);
 }
 
+/* Whether a line begins with the digits of a kind. */
+static bool of_kind(const uint8_t *line, const char *kind)
+{
+    return memcmp(line, kind, 2) == 0;
+}
+
 static void written_lines_read_back(void)
 {
     seeded from = seed(21);
     uint8_t out[NEARBY_ANSWER_LINE + 5];
     for (int round = 0; round < 20000; round++) {
         fields f = any_fields(&from);
+        bool far = f.order != NEARBY_NEAR;
         memset(out, 0xa5, sizeof out);
         size_t length = write_ask_of(&f, (output){ out, sizeof out }).length;
-        CHECK(length == 59 + 8u * f.d && try_read_ask((text){ out, length }).refusal == 0);
+        nearby_ask_read ask = try_read_ask((text){ out, length });
+        CHECK(length == 59 + 8u * f.d && of_kind(out, far ? "04" : "01") && ask.refusal == 0 && ask.ask.order == far);
         CHECK(try_read_answer((text){ out, length }).refusal == 10 && try_read_claim((text){ out, length }).refusal == 10);
         length = write_answer_of(&f, (output){ out, sizeof out }).length;
-        CHECK(length == 61 + 8u * f.d + 28u * f.count && try_read_answer((text){ out, length }).refusal == 0);
+        nearby_answer_read answer = try_read_answer((text){ out, length });
+        CHECK(length == 61 + 8u * f.d + 28u * f.count && of_kind(out, far ? "05" : "02"));
+        CHECK(answer.refusal == 0 && answer.answer.order == far);
         CHECK(try_read_ask((text){ out, length }).refusal == 10 && try_read_claim((text){ out, length }).refusal == 10);
         length = write_claim_of(&f, (output){ out, sizeof out }).length;
-        CHECK(length == 23 + 8u * f.d && try_read_claim((text){ out, length }).refusal == 0);
+        CHECK(length == 23 + 8u * f.d && of_kind(out, "03") && try_read_claim((text){ out, length }).refusal == 0);
         CHECK(try_read_ask((text){ out, length }).refusal == 10 && try_read_answer((text){ out, length }).refusal == 10);
     }
 }
@@ -154,6 +164,7 @@ static void lines_with_a_digit_changed(void)
     uint8_t out[NEARBY_ANSWER_LINE];
     for (uint8_t d = 1; d <= 8; d++) {
         fields f = any_fields(&from);
+        f.order = d % 2 == 0 ? NEARBY_NEAR : NEARBY_FAR;
         f.d = d;
         f.probe_length = d;
         f.count = (uint8_t)(2 * d);
@@ -200,10 +211,14 @@ static void lines_reshaped(void)
     }
 }
 
+/* The kinds of line, and one that there is not. */
+static const char *const heads[] = {
+    "01000000070101", "02000000070203", "03000000070308", "04000000070101", "05000000070203", "06000000070101",
+};
+
 /* Any digits behind the head of a line of each kind, or any characters, of every length to just over the longest line. */
 static void put_noise(seeded *from, uint8_t *line, size_t length, size_t kind)
 {
-    const char *heads[] = { "01000000070101", "02000000070203", "03000000070308", "04000000070101" };
     for (size_t i = 0; i < length; i++) {
         uint8_t any = (uint8_t)next_number(from);
         line[i] = kind == LENGTH(heads) ? any : (uint8_t)"0123456789abcdef"[any % 16];
@@ -218,7 +233,7 @@ static void lines_of_noise(void)
 {
     seeded from = seed(26);
     for (size_t length = 0; length <= NEARBY_ANSWER_LINE + 4; length++)
-        for (size_t kind = 0; kind < 5; kind++) {
+        for (size_t kind = 0; kind <= LENGTH(heads); kind++) {
             uint8_t *line = brink(length);
             put_noise(&from, line, length, kind);
             read_all((text){ line, length });
@@ -235,7 +250,7 @@ static void frames_at_the_edges(void)
         fields f = any_fields(&from);
         size_t length = round % 2 == 0 ? write_ask_of(&f, (output){ out, sizeof out }).length
                                        : write_answer_of(&f, (output){ out, sizeof out }).length;
-        const char *edges[] = { "00", "01", "02", "03", "04", "08", "09", "10", "11", "0f", "1000", "1001", "0fff", "ffff" };
+        const char *edges[] = { "00", "01", "02", "03", "04", "05", "06", "08", "09", "10", "11", "0f", "1000", "1001", "0fff", "ffff" };
         const char *edge = edges[below(&from, LENGTH(edges))];
         size_t at = 2 * below(&from, (length - 5) / 2);
         memcpy(out + at, edge, strlen(edge));

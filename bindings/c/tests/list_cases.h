@@ -1,4 +1,4 @@
-/* The list of the examples with something amiss: cases beside the numbers that they have to be refused with. */
+/* Two lists of the examples' claims, near and far, with something amiss: cases beside the numbers that they have to be refused with. */
 #ifndef LIST_CASES_H
 #define LIST_CASES_H
 
@@ -28,17 +28,26 @@ typedef struct {
 } list_case;
 #define CASE(refusal, ...) { refusal, #__VA_ARGS__, { __VA_ARGS__ } }
 
-/* Claim numbers and distances of two items; their references stay. */
-void set_items(uint64_t *items, uint64_t first, uint64_t first_distance, uint64_t second, uint64_t second_distance);
+/* Claim numbers and distances of two items. */
+typedef struct {
+    uint64_t first, first_distance, second, second_distance;
+} two_items;
+
+/* Sets the list's items, or the line's, by the list's order; their references stay. */
+void set_list(situation *c, two_items near, two_items far);
+void set_page(situation *c, two_items near, two_items far);
 
 change in_order;
 /* The list before its first page, and the first answer. */
 change list_not_started;
 change list_started_as_255, list_complete, list_complete_as_255, list_empty, list_at_snapshot_4096;
+/* A far list's order as another number than 1; a near list stays. */
+change list_far_as_255;
 /* The one that stands for all lists that are not sound where two things are amiss. */
 change list_falls;
 
-/* Each case by its call: the number that it gives is the case's, and beside a refusal all lent memory is as it was. */
+/* Each case by its call, of the near list and of the far one: the number that it gives is the case's, and beside a refusal all lent
+ * memory is as it was. */
 void ask_cases(const list_case *cases, size_t count);
 void take_cases(const list_case *cases, size_t count);
 

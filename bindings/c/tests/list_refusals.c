@@ -4,17 +4,25 @@
 
 /* ---- Opening: 1, 5 ---- */
 
-static void opening(void)
+static void open_in(uint8_t order)
 {
     const size_t sizes[] = { 0, 1, 2, 7, 8, 9, 255, 256, SIZE_MAX };
     const int32_t probe[10] = { 1, 2, 3, 4, 5, 6, 7, 8, 9, 10 };
     for (unsigned measure = 0; measure < 256; measure++)
         for (size_t i = 0; i < LENGTH(sizes); i++)
             for (size_t length = 0; length <= 10; length++) {
-                nearby_listed opened = try_open(7, (uint8_t)measure, sizes[i], (points){ probe, length }, 5);
+                nearby_listed opened = try_open(order, 7, (uint8_t)measure, sizes[i], (points){ probe, length }, 5);
                 bool in_range = measure >= 1 && measure <= 3 && sizes[i] >= 1 && sizes[i] <= 8;
                 CHECK(opened.refusal == (!in_range ? 1 : length != sizes[i] ? 5 : 0));
+                CHECK(opened.list.order == (opened.refusal == 0 && order != NEARBY_NEAR));
             }
+}
+
+static void opening(void)
+{
+    open_in(NEARBY_NEAR);
+    open_in(NEARBY_FAR);
+    open_in(255);
 }
 
 /* ---- Lists that are not sound: 2 ---- */
@@ -30,11 +38,11 @@ static void snapshot_1(situation *c) { c->list.snapshot = 1; }
 static void snapshot_4097(situation *c) { c->list.snapshot = 4097; }
 static void room_of_1_item(situation *c) { c->items_length = NEARBY_ITEM; }
 static void room_of_5_numbers(situation *c) { c->items_length = 5; }
-static void falls_within_a_tie(situation *c) { set_items(c->items, 4, 1, 1, 1); }
-static void item_twice(situation *c) { set_items(c->items, 4, 1, 4, 1); }
-static void item_over_reach(situation *c) { set_items(c->items, 1, 1, 4, 6); }
-static void item_at_snapshot(situation *c) { set_items(c->items, 1, 1, 5, 1); }
-static void item_over_snapshot(situation *c) { set_items(c->items, 1, 1, UINT64_MAX, 1); }
+static void falls_within_a_tie(situation *c) { set_list(c, (two_items){ 4, 1, 1, 1 }, (two_items){ 1, 4, 0, 4 }); }
+static void item_twice(situation *c) { set_list(c, (two_items){ 4, 1, 4, 1 }, (two_items){ 1, 4, 1, 4 }); }
+static void item_over_reach(situation *c) { set_list(c, (two_items){ 1, 1, 4, 6 }, (two_items){ 0, 6, 1, 4 }); }
+static void item_at_snapshot(situation *c) { set_list(c, (two_items){ 1, 1, 5, 1 }, (two_items){ 0, 5, 5, 4 }); }
+static void item_over_snapshot(situation *c) { set_list(c, (two_items){ 1, 1, UINT64_MAX, 1 }, (two_items){ 0, 5, UINT64_MAX, 4 }); }
 static void not_flagged_as_started(situation *c) { c->list.started = 0; }
 static void flagged_as_started(situation *c) { c->list.started = 1; }
 
@@ -75,8 +83,10 @@ static void out_of_122(situation *c) { c->out_length = 122; }
 static const list_case asks[] = {
     CASE(0, in_order),
     CASE(0, list_started_as_255),
+    CASE(0, list_far_as_255),
     CASE(0, list_at_snapshot_4096),
     CASE(0, list_not_started),
+    CASE(0, list_not_started, list_far_as_255),
     CASE(16, list_complete),
     CASE(16, list_complete_as_255),
     CASE(16, list_complete, list_empty),
@@ -97,11 +107,11 @@ static void asking(void)
     ask_cases(asks, LENGTH(asks));
 }
 
-static void asking_in_every_room(void)
+static void ask_in_every_room(uint8_t order)
 {
     const size_t sizes[] = { 0, 1, 16, 17, 255, 256, 257, SIZE_MAX };
     const int32_t probe[] = { 4 };
-    tablet t = open_tablet(7, 1, (points){ probe, 1 }, 5, 0);
+    tablet t = open_tablet(order, 7, 1, (points){ probe, 1 }, 5, 0);
     for (size_t i = 0; i < LENGTH(sizes); i++)
         for (size_t length = 0; length <= NEARBY_ASK_LINE + 1; length++) {
             uint8_t *out = brink(length);
@@ -111,6 +121,12 @@ static void asking_in_every_room(void)
             brink_free(out, length);
         }
     free_room(t.items);
+}
+
+static void asking_in_every_room(void)
+{
+    ask_in_every_room(NEARBY_NEAR);
+    ask_in_every_room(NEARBY_FAR);
 }
 
 void list_refusal_tests(void)

@@ -7,7 +7,7 @@
 /* The calls for many ask so many questions. Rooms are long enough for a page size that is one too large. */
 enum { ASKED = 3, LARGE_SIZE = NEARBY_MOST_PAGE + 1 };
 
-/* What an ask line may be in place of an ask. */
+/* The kind of line that comes in as an ask. */
 typedef enum { AN_ASK_LINE, A_CLAIM_LINE, AN_ANSWER_LINE } line_kind;
 
 /* `order` and `start` are those of the page, of the second of many pages, and of the ask line; that line is also the last of many. */

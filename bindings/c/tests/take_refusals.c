@@ -7,6 +7,7 @@ static void unended(situation *c) { c->unended = true; }
 static void no_digit(situation *c) { c->no_digit = true; }
 static void ask_line(situation *c) { c->writer = ASK_LINE; c->fields.scope = (nearby_scope){ .reach = 5 }; }
 static void claim_line(situation *c) { c->writer = CLAIM_LINE; }
+static void other_order(situation *c) { c->fields.order = c->fields.order == NEARBY_NEAR ? NEARBY_FAR : NEARBY_NEAR; }
 static void byte_short(situation *c) { c->byte_short = true; }
 
 /* The ask that it answers. */
@@ -21,17 +22,17 @@ static void other_mark_number(situation *c) { c->fields.scope.number = 3; }
 static void from_the_start(situation *c) { c->fields.scope = (nearby_scope){ .reach = 5, .snapshot = 5 }; }
 static void from_a_mark(situation *c) { c->fields.scope.from = 1; }
 
-/* Its items. */
-static void page_falls(situation *c) { set_items(c->fields.items, 3, 3, 0, 2); }
-static void page_falls_within_a_tie(situation *c) { set_items(c->fields.items, 3, 2, 0, 2); }
-static void page_item_twice(situation *c) { set_items(c->fields.items, 3, 2, 3, 2); }
-static void page_item_is_the_mark(situation *c) { set_items(c->fields.items, 4, 1, 3, 2); }
-static void page_item_before_the_mark(situation *c) { set_items(c->fields.items, 3, 1, 0, 2); }
-static void page_item_nearer_than_the_mark(situation *c) { set_items(c->fields.items, 4, 0, 3, 2); }
-static void page_item_at_reach(situation *c) { set_items(c->fields.items, 0, 2, 3, 5); }
-static void page_item_over_reach(situation *c) { set_items(c->fields.items, 0, 2, 3, 6); }
-static void page_item_at_snapshot(situation *c) { set_items(c->fields.items, 0, 2, 5, 2); }
-static void page_item_over_snapshot(situation *c) { set_items(c->fields.items, 0, 2, 4095, 2); }
+/* Its items. What is after the mark in far order is within reach, as the mark is: there an item over reach shows on the first page. */
+static void page_falls(situation *c) { set_page(c, (two_items){ 3, 3, 0, 2 }, (two_items){ 2, 2, 4, 3 }); }
+static void page_falls_within_a_tie(situation *c) { set_page(c, (two_items){ 3, 2, 0, 2 }, (two_items){ 4, 2, 2, 2 }); }
+static void page_item_twice(situation *c) { set_page(c, (two_items){ 3, 2, 3, 2 }, (two_items){ 2, 2, 2, 2 }); }
+static void page_item_is_the_mark(situation *c) { set_page(c, (two_items){ 4, 1, 3, 2 }, (two_items){ 1, 4, 4, 2 }); }
+static void page_number_before_the_mark(situation *c) { set_page(c, (two_items){ 3, 1, 0, 2 }, (two_items){ 0, 4, 4, 2 }); }
+static void page_distance_before_the_mark(situation *c) { set_page(c, (two_items){ 4, 0, 3, 2 }, (two_items){ 2, 5, 4, 2 }); }
+static void page_to_the_end(situation *c) { set_page(c, (two_items){ 0, 2, 3, 5 }, (two_items){ 2, 2, 4, 0 }); }
+static void page_item_over_reach(situation *c) { set_page(c, (two_items){ 0, 2, 3, 6 }, (two_items){ 2, 6, 4, 2 }); }
+static void page_item_at_snapshot(situation *c) { set_page(c, (two_items){ 0, 2, 5, 2 }, (two_items){ 2, 2, 5, 2 }); }
+static void page_item_over_snapshot(situation *c) { set_page(c, (two_items){ 0, 2, 4095, 2 }, (two_items){ 2, 2, 4095, 2 }); }
 static void page_empty(situation *c) { c->fields.count = 0; }
 static void page_last(situation *c) { c->fields.last = 1; }
 
@@ -45,12 +46,14 @@ static void room_of_nothing(situation *c) { c->items_length = 0; }
 static const list_case taken[] = {
     CASE(0, in_order),
     CASE(0, list_started_as_255),
+    CASE(0, list_far_as_255),
     CASE(0, list_at_snapshot_4096),
-    CASE(0, page_item_at_reach),
+    CASE(0, page_to_the_end),
     CASE(0, page_last),
     CASE(0, page_empty, page_last),
     CASE(0, room_of_2_items, page_empty, page_last),
     CASE(0, list_not_started),
+    CASE(0, list_not_started, list_far_as_255),
     CASE(0, list_not_started, other_snapshot),
     CASE(0, list_not_started, room_of_2_items),
     CASE(0, list_not_started, page_empty, page_last),
@@ -60,8 +63,13 @@ static const list_case refused[] = {
     CASE(9, unended),
     CASE(9, no_digit),
     CASE(10, ask_line),
+    CASE(10, ask_line, other_order),
     CASE(10, claim_line),
     CASE(10, byte_short),
+    CASE(10, other_order),
+    CASE(10, other_order, list_far_as_255),
+    CASE(10, other_order, page_empty, page_last),
+    CASE(10, list_not_started, other_order),
     CASE(16, list_complete),
     CASE(16, list_complete_as_255),
     CASE(16, list_complete, list_empty),
@@ -81,8 +89,8 @@ static const list_case refused[] = {
     CASE(14, page_falls_within_a_tie),
     CASE(14, page_item_twice),
     CASE(14, page_item_is_the_mark),
-    CASE(14, page_item_before_the_mark),
-    CASE(14, page_item_nearer_than_the_mark),
+    CASE(14, page_number_before_the_mark),
+    CASE(14, page_distance_before_the_mark),
     CASE(14, page_item_over_reach),
     CASE(14, page_item_at_snapshot),
     CASE(14, page_item_over_snapshot),
@@ -104,16 +112,24 @@ static const list_case refused[] = {
 static const list_case two_at_once[] = {
     CASE(2, list_falls, unended),
     CASE(2, list_falls, ask_line),
+    CASE(2, list_falls, other_order),
     CASE(2, list_falls, list_complete),
     CASE(2, list_falls, other_table),
     CASE(2, list_falls, page_falls),
     CASE(2, list_falls, room_of_3_items),
     CASE(9, unended, ask_line),
+    CASE(9, unended, other_order),
+    CASE(9, no_digit, other_order),
     CASE(9, unended, list_complete),
     CASE(9, unended, other_table),
     CASE(9, unended, page_falls),
     CASE(9, unended, room_of_3_items),
     CASE(10, ask_line, list_complete),
+    CASE(10, other_order, list_complete),
+    CASE(10, other_order, list_complete_as_255),
+    CASE(10, other_order, other_table),
+    CASE(10, other_order, page_falls),
+    CASE(10, other_order, room_of_3_items),
     CASE(10, byte_short, other_table),
     CASE(10, byte_short, page_falls),
     CASE(10, byte_short, room_of_3_items),

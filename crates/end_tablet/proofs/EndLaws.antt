@@ -15,22 +15,21 @@ use Rattle.paper.specs.declared.lines.Wrote.the-variants.{Refused}
 use Rattle.paper.specs.declared.lists.List as lists
 use Rattle.paper.specs.declared.lists.Opened.{Opened}
 use Rattle.paper.specs.declared.queries.Query as queries
-use Rattle.paper.specs.declared.orders.Order.{Order}
 use Rattle.paper.specs.declared.orders.Place.{Place}
-use Rattle.paper.specs.Orders.{Query, queryIn, snapshotOf}
+use Rattle.paper.specs.Orders.{Query, queryIn, sameOrder, snapshotOf}
 use Rattle.paper.specs.Outcomes.{Outcome, refused, gives, must, onto, number}
 use Rattle.paper.specs.Points.{inRange}
 use Rattle.paper.specs.Frames.{lineOf, frameOf}
 use Rattle.paper.specs.Frames as frames
 use Rattle.paper.specs.Fields.{queryInSlots, scopeOk}
-use Rattle.paper.specs.Lines.{answerKind, spoken, queryFits, Writes, bareLine, reading, askFrame, askRanges, askFits, answerOk, answerAt, anAnswer, noAnswer, readAsAnswer}
-use Rattle.paper.specs.Ends.{Listing, sizeHolds, opening, presentPlace, presentAsk, soundIn, asking, taken, taking}
+use Rattle.paper.specs.Lines.{queryFits, Writes, bareLine, reading, askFrame, askRanges, askFits, isAnswer, answerAt, anAnswer, noAnswer, readAsAnswer}
+use Rattle.paper.specs.Ends.{Answer, Listing, sizeHolds, opening, presentPlace, presentAsk, soundIn, asking, taken, ownKind, taking}
 use Rattle.paper.specs.Lists.{Takes, Held, held, listing, roomFor, heldWell, soundHeld, noList, openedAs, openingHeld, openedShown, askingHeld, takingHeld}
 use Rattle.lines.proofs.WritersReaders.{writes-refused, bare-fits}
 use Rattle.paper.specs.Codec.{scopeOf, askLine, answerMeant, lines}
 use Rattle.paper.proofs.Tests.{and-first, and-second, and-both}
 use Rattle.paper.proofs.Reading.{answer-by-refusal}
-use Rattle.lines.proofs.AnswerTests.{is-answer}
+use Rattle.lines.proofs.AnswerTests.{any-answer}
 use Rattle.end_tablet.specs.Holding.{AskReady}
 use Rattle.paper.proofs.Ranges.{range-is}
 use Rattle.paper.proofs.Outcomes.{must-stop, must-go}
@@ -48,38 +47,49 @@ module _ (s : Held) (sound : soundHeld s ≡ true) where
   unfolding soundHeld
   in-go = and-second (heldWell (s .list .query)) _ sound
 
-  abbrev order : Order
-  order = s .list .query .order
+  -- what becomes of an answer that was read
+  abbrev onward : Answer → Outcome Listing
+  onward y = must (ownKind (listing s) y) 10 (taken (roomFor s) (listing s) y)
 
-  module _ (line : List ℕ) (x : AnswerRead) (xe : x ≡ readAsAnswer order line) where
-    reads : takingHeld lines s line ≡ onto (must (eqb (x .refusal) 0) (x .refusal) (gives (answerMeant (x .answer)))) (λ y. taken (roomFor s) (listing s) y)
-    unfolding takingHeld taking listing
+  module _ (line : List ℕ) (x : AnswerRead) (xe : x ≡ readAsAnswer line) where
+    reads : takingHeld lines s line ≡ onto (must (eqb (x .refusal) 0) (x .refusal) (gives (answerMeant (x .answer)))) onward
+    unfolding takingHeld taking
     reads =
         must-go (heldWell (s .list .query)) 2 _ held-go
         ∙ must-go (soundIn (roomFor s) (listing s)) 2 _ in-go
-        ∙ ap (λ r. onto r (λ y. taken (roomFor s) (listing s) y))
-        (answer-by-refusal order line ∙ sym (ap (λ (u : AnswerRead). must (eqb (u .refusal) 0) (u .refusal) (gives (answerMeant (u .answer)))) xe))
+        ∙ ap (λ r. onto r onward)
+        (answer-by-refusal line ∙ sym (ap (λ (u : AnswerRead). must (eqb (u .refusal) 0) (u .refusal) (gives (answerMeant (u .answer)))) xe))
 
     pub take-unread : (x .refusal ≡ 0 → ⊥) → takingHeld lines s line ≡ refused (x .refusal)
-    take-unread h = reads ∙ ap (λ r. onto r (λ y. taken (roomFor s) (listing s) y)) (must-stop (eqb (x .refusal) 0) (x .refusal) _ (ne-eqb (x .refusal) 0 h))
+    take-unread h = reads ∙ ap (λ r. onto r onward) (must-stop (eqb (x .refusal) 0) (x .refusal) _ (ne-eqb (x .refusal) 0 h))
 
-    pub take-read : x .refusal ≡ 0 → takingHeld lines s line ≡ taken (roomFor s) (listing s) (answerMeant (x .answer))
-    take-read h = reads ∙ ap (λ r. onto r (λ y. taken (roomFor s) (listing s) y)) (must-go (eqb (x .refusal) 0) (x .refusal) _ (eq-eqb (x .refusal) 0 h))
+    module _ (h : x .refusal ≡ 0) (b : Bool) (be : b ≡ sameOrder (s .list .query .order) (x .answer .query .order)) where
+      take-any : takingHeld lines s line ≡ must b 10 (taken (roomFor s) (listing s) (answerMeant (x .answer)))
+      unfolding listing answerMeant
+      take-any =
+          reads ∙ ap (λ r. onto r onward) (must-go (eqb (x .refusal) 0) (x .refusal) _ (eq-eqb (x .refusal) 0 h))
+          ∙ ap (λ (u : Bool). must u 10 (taken (roomFor s) (listing s) (answerMeant (x .answer)))) (sym be)
+
+      pub take-other : not b ≡ true → takingHeld lines s line ≡ refused 10
+      take-other o = take-any ∙ must-stop b 10 _ (not-true b o)
+
+      pub take-read : not b ≡ false → takingHeld lines s line ≡ taken (roomFor s) (listing s) (answerMeant (x .answer))
+      take-read o = take-any ∙ must-go b 10 _ (not-false b o)
 
 -- what reads has at most a page of items
-pub read-few : (o : Order) (line : List ℕ) (x : AnswerRead) → x ≡ readAsAnswer o line → x .refusal ≡ 0 → x .answer .count ≤ mostPage
+pub read-few : (line : List ℕ) (x : AnswerRead) → x ≡ readAsAnswer line → x .refusal ≡ 0 → x .answer .count ≤ mostPage
 unfolding readAsAnswer reading
-read-few o line x xe h =
-    few (go (frames.isLine line) (answerOk (answerKind o) (frameOf line)) refl (sym (ap (λ (u : AnswerRead). u .refusal) xe) ∙ h)) (ap (λ (u : AnswerRead). u .answer .count) xe)
+read-few line x xe h =
+    few (go (frames.isLine line) (isAnswer (frameOf line)) refl (sym (ap (λ (u : AnswerRead). u .refusal) xe) ∙ h)) (ap (λ (u : AnswerRead). u .answer .count) xe)
   where
     few : {m n : ℕ} → n ≤ mostPage → m ≡ n → m ≤ mostPage
     few p q = omega arith
 
     read : Bool → Bool → AnswerRead
-    read a b = cond a (cond b (anAnswer (answerAt o (frameOf line))) (noAnswer 10)) (noAnswer 9)
+    read a b = cond a (cond b (anAnswer (answerAt (frameOf line))) (noAnswer 10)) (noAnswer 9)
 
-    go : (a b : Bool) → answerOk (answerKind o) (frameOf line) ≡ b → read a b .refusal ≡ 0 → read a b .answer .count ≤ mostPage
-    go true true e z = unfold anAnswer in unfold answerAt in is-answer (answerKind o) (frameOf line) e .few
+    go : (a b : Bool) → isAnswer (frameOf line) ≡ b → read a b .refusal ≡ 0 → read a b .answer .count ≤ mostPage
+    go true true e z = unfold anAnswer in unfold answerAt in any-answer (frameOf line) e .few
     go true false e z = absurd (let w : _≡_ {A = ℕ} 10 0 = unfold noAnswer in z in omega arith)
     go false b e z = absurd (let w : _≡_ {A = ℕ} 9 0 = unfold noAnswer in z in omega arith)
 
@@ -121,9 +131,8 @@ module _ (l : lists.List) (mem : List ℕ) (size : ℕ) (asks : AskReady l mem) 
     unfolding askFits queryFits
     fits-all =
         and-both (queryFits query) _
-        (and-both (spoken (l .query .order)) _ (asks .known)
         (and-both (inRange (l .query .measure) (l .query .d)) _ (asks .range)
-        (eq-eqb _ _ (length-take-le (l .query .d) (l .query .probe) (omega (arith, range-is (l .query .measure) (l .query .d) (asks .range) .narrow))))))
+        (eq-eqb _ _ (length-take-le (l .query .d) (l .query .probe) (omega (arith, range-is (l .query .measure) (l .query .d) (asks .range) .narrow)))))
         (scope-fits p e)
 
     line-is : lineOf (askFrame query p size) ≡ askLine (presentAsk (listing (held l mem)) size)

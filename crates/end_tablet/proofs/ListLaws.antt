@@ -18,7 +18,6 @@ use Rattle.paper.specs.Orders.{Item, follows}
 use Rattle.paper.specs.Points.{inRange}
 use Rattle.paper.proofs.Ranges.{range-is}
 use Rattle.paper.specs.Ends.{sameZ, sameProbe, every, rising, fitting, startedWell, soundIn}
-use Rattle.paper.specs.Lines.{spoken}
 use Rattle.paper.specs.Lists.{held, itemsIn, listing, unusedZero, heldWell, soundHeld}
 use Rattle.paper.proofs.Tests.{and-first, and-second, and-both, alike}
 use Rattle.orders.proofs.Rooms.{length-in}
@@ -68,44 +67,36 @@ same-take (suc d) n m p q h k =
 
 -- ---- the fields
 
-module _ (l : lists.List) (room : ℕ) (k : Bool) (ke : k ≡ spoken (l .query .order)) where
-  pub way-known : not k ≡ true → false ≡ fieldsHold l room
+module _ (l : lists.List) (room : ℕ) (a : Bool) (ae : a ≡ inRange (l .query .measure) (l .query .d)) where
+  pub way-range : not a ≡ true → false ≡ fieldsHold l room
   unfolding fieldsHold
-  way-known h = rw (← ke, not-true k h)
+  way-range h = rw (← ae, not-true a h)
 
-  module _ (hk : not k ≡ false) (a : Bool) (ae : a ≡ inRange (l .query .measure) (l .query .d)) where
-    pub way-range : not a ≡ true → false ≡ fieldsHold l room
+  pub range-d : not a ≡ false → l .query .d ≤ 8
+  range-d h = range-is (l .query .measure) (l .query .d) (sym ae ∙ not-false a h) .narrow
+
+  module _ (ha : not a ≡ false) (b : Bool) (be : b ≡ unusedZero (l .query .d) (l .query .probe)) where
+    pub way-unused : not b ≡ true → false ≡ fieldsHold l room
     unfolding fieldsHold
-    way-range h = rw (← ke, not-false k hk, ← ae, not-true a h)
+    way-unused h = rw (← ae, not-false a ha, ← be, not-true b h)
 
-    pub range-d : not a ≡ false → l .query .d ≤ 8
-    range-d h = range-is (l .query .measure) (l .query .d) (sym ae ∙ not-false a h) .narrow
-
-    module _ (ha : not a ≡ false) (b : Bool) (be : b ≡ unusedZero (l .query .d) (l .query .probe)) where
-      pub way-unused : not b ≡ true → false ≡ fieldsHold l room
+    module _ (hb : not b ≡ false) where
+      pub way-most-snapshot : mostClaims < l .snapshot → false ≡ fieldsHold l room
       unfolding fieldsHold
-      way-unused h = rw (← ke, not-false k hk, ← ae, not-false a ha, ← be, not-true b h)
+      way-most-snapshot h = rw (← ae, not-false a ha, ← be, not-false b hb, lt-leb (l .snapshot) mostClaims h)
 
-      module _ (hb : not b ≡ false) where
-        pub way-most-snapshot : mostClaims < l .snapshot → false ≡ fieldsHold l room
+      module _ (hs : l .snapshot ≤ mostClaims) where
+        pub way-room : room / 3 < l .count → false ≡ fieldsHold l room
         unfolding fieldsHold
-        way-most-snapshot h = rw (← ke, not-false k hk, ← ae, not-false a ha, ← be, not-false b hb, lt-leb (l .snapshot) mostClaims h)
+        way-room h = rw (← ae, not-false a ha, ← be, not-false b hb, le-leb (l .snapshot) mostClaims hs, lt-leb (l .count) (room / 3) h)
 
-        module _ (hs : l .snapshot ≤ mostClaims) where
-          pub way-room : room / 3 < l .count → false ≡ fieldsHold l room
-          unfolding fieldsHold
-          way-room h =
-              rw (← ke, not-false k hk, ← ae, not-false a ha, ← be, not-false b hb, le-leb (l .snapshot) mostClaims hs, lt-leb (l .count) (room / 3) h)
-
-          pub way-started : l .count ≤ room / 3 → (r : Bool) → r ≡ startedBy (l .started) (l .count) (l .snapshot) (l .complete) → r ≡ fieldsHold l room
-          unfolding fieldsHold
-          way-started h r e =
-              rw (← ke, not-false k hk, ← ae, not-false a ha, ← be, not-false b hb, le-leb (l .snapshot) mostClaims hs, le-leb (l .count) (room / 3) h) e
+        pub way-started : l .count ≤ room / 3 → (r : Bool) → r ≡ startedBy (l .started) (l .count) (l .snapshot) (l .complete) → r ≡ fieldsHold l room
+        unfolding fieldsHold
+        way-started h r e = rw (← ae, not-false a ha, ← be, not-false b hb, le-leb (l .snapshot) mostClaims hs, le-leb (l .count) (room / 3) h) e
 
 -- ---- the whole test
 
 pub record Fields (l : lists.List) (room : ℕ) : Type 0 where
-  pub known : spoken (l .query .order) ≡ true
   pub range : inRange (l .query .measure) (l .query .d) ≡ true
   pub unused : unusedZero (l .query .d) (l .query .probe) ≡ true
   pub snapshot : l .snapshot ≤ mostClaims
@@ -115,13 +106,11 @@ pub record Fields (l : lists.List) (room : ℕ) : Type 0 where
 pub fields-facts : (l : lists.List) (room : ℕ) → fieldsHold l room ≡ true → Fields l room
 unfolding fieldsHold
 fields-facts l room h =
-    let k = and-second (spoken (l .query .order)) _ h in
-    let a = and-second (inRange (l .query .measure) (l .query .d)) _ k in
+    let a = and-second (inRange (l .query .measure) (l .query .d)) _ h in
     let b = and-second (unusedZero (l .query .d) (l .query .probe)) _ a in
     let e = and-second (leb (l .snapshot) mostClaims) _ b in
     record {
-      known = and-first (spoken (l .query .order)) _ h;
-      range = and-first (inRange (l .query .measure) (l .query .d)) _ k;
+      range = and-first (inRange (l .query .measure) (l .query .d)) _ h;
       unused = and-first (unusedZero (l .query .d) (l .query .probe)) _ a;
       snapshot = leb-true (l .snapshot) mostClaims (and-first (leb (l .snapshot) mostClaims) _ b);
       few = leb-true (l .count) (room / 3) (and-first (leb (l .count) (room / 3)) _ e);
@@ -153,11 +142,10 @@ module _ (l : lists.List) (room : List ℕ) (eight : 7 < length (l .query .probe
       let well : startedBy (l .started) (l .count) (l .snapshot) (l .complete) ≡ true =
       rw (length-in (l .count) room) at (and-second (every (fitting (l .query .reach) (l .snapshot)) items) _ q₅) in
       and-both (fieldsHold l (length room)) (itemsHold o Start (l .query .reach) (l .snapshot) items)
-      (and-both (spoken o) _ (and-first (spoken o) _ w)
       (and-both (inRange (l .query .measure) (l .query .d)) _ range
-      (and-both (unusedZero (l .query .d) (l .query .probe)) _ (and-second (spoken o) _ w)
+      (and-both (unusedZero (l .query .d) (l .query .probe)) _ w
       (and-both (leb (l .snapshot) mostClaims) _ (and-first (leb (l .snapshot) mostClaims) _ q₂)
-      (and-both (leb (l .count) (length room / 3)) _ few well)))))
+      (and-both (leb (l .count) (length room / 3)) _ few well))))
       (pass-means o Start (l .query .reach) (l .snapshot) items
       ∙ and-both (rising o items) _ (and-first (rising o items) _ q₄)
       (and-both (every (follows o Start) items) _ (every-start o items) (and-first (every (fitting (l .query .reach) (l .snapshot)) items) _ q₅))))
@@ -168,7 +156,7 @@ module _ (l : lists.List) (room : List ℕ) (eight : 7 < length (l .query .probe
       let dim : l .query .d ≤ 8 = range-is (l .query .measure) (l .query .d) (f .range) .narrow in
       let few : leb (length items) (length room / 3) ≡ true = rw (length-in (l .count) room) (le-leb (l .count) (length room / 3) (f .few)) in
       let well : startedBy (l .started) (length items) (l .snapshot) (l .complete) ≡ true = rw (length-in (l .count) room) (f .start) in
-      and-both (heldWell (l .query)) _ (and-both (spoken o) _ (f .known) (f .unused))
+      and-both (heldWell (l .query)) _ (f .unused)
       (and-both (inRange (l .query .measure) (l .query .d)) _ (f .range)
       (and-both (eqb (length (take (l .query .d) (l .query .probe))) (l .query .d)) _ (eq-eqb _ _ (length-take-le (l .query .d) (l .query .probe) (omega arith)))
       (and-both (leb (l .snapshot) mostClaims) _ (le-leb (l .snapshot) mostClaims (f .snapshot))

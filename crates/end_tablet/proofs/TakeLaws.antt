@@ -16,7 +16,6 @@ use Rattle.paper.specs.declared.orders.Order.{Order}
 use Rattle.paper.specs.declared.orders.Place.{Place}
 use Rattle.paper.specs.Orders.{Item, noItem, follows, flat, fronted}
 use Rattle.paper.specs.Ends.{every, rising, fitting, toPresent, pageHolds, startedWell, soundIn, joinedTo, taken, Listing}
-use Rattle.paper.specs.Lines.{spoken}
 use Rattle.paper.specs.Lists.{Takes, takenShown, putItems, held, itemsIn, listing, heldWell, soundHeld}
 use Rattle.paper.specs.Codec.{placeIn, answerMeant}
 use Rattle.paper.specs.Outcomes.{Outcome, refused, gives, must}
@@ -124,7 +123,6 @@ module _ (l : lists.List) (room : List ℕ) (sound : soundHeld (held l room) ≡
       let some : l .started ≡ true → 1 ≤ l .count =
       λ s. let i : 1 ≤ length items = has-item (l .started) (l .complete) (length items) (l .snapshot) s open₀ well in omega (arith, length-in (l .count) room) in
       record {
-        known = and-first (spoken (l .query .order)) _ (and-first (heldWell (l .query)) _ sound);
         range = and-first (inRange (l .query .measure) (l .query .d)) _ parts;
         few = omega (arith, sound-few);
         snapshot = leb-true (l .snapshot) mostClaims (and-first (leb (l .snapshot) mostClaims) _ b);

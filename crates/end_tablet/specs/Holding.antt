@@ -12,7 +12,6 @@ use Rattle.paper.specs.declared.orders.Place.{Place}
 use Rattle.paper.specs.Orders.{Item, follows}
 use Rattle.paper.specs.Points.{inRange}
 use Rattle.paper.specs.Ends.{fitting, leads}
-use Rattle.paper.specs.Lines.{spoken}
 use Rattle.paper.specs.Lists.{unusedZero}
 use Rattle.paper.specs.Limits.{mostClaims}
 
@@ -33,16 +32,14 @@ startedBy started n snapshot complete = cond started (leb 1 n || complete) (eqb 
 -- [7.9] what soundness asks of a list's fields, in a room of so many numbers
 unfoldable pub fieldsHold : lists.List → ℕ → Bool
 fieldsHold l room =
-    spoken (l .query .order)
-    && (inRange (l .query .measure) (l .query .d)
+    inRange (l .query .measure) (l .query .d)
     && (unusedZero (l .query .d) (l .query .probe)
     && (leb (l .snapshot) mostClaims
     && (leb (l .count) (room / 3)
-    && startedBy (l .started) (l .count) (l .snapshot) (l .complete)))))
+    && startedBy (l .started) (l .count) (l .snapshot) (l .complete))))
 
 -- what a sound list that is not complete lends its next ask
 pub record AskReady (l : lists.List) (room : List ℕ) : Type 0 where
-  pub known : spoken (l .query .order) ≡ true
   pub range : inRange (l .query .measure) (l .query .d) ≡ true
   pub few : l .count * 3 ≤ length room
   pub snapshot : l .snapshot ≤ mostClaims

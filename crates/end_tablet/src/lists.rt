@@ -7,7 +7,6 @@ ghost use Rattle.end_tablet.specs.Holding.{startedBy, fieldsHold};
 ghost use Rattle.paper.specs.Limits.{mostCoordinates};
 use crate::items::items_hold;
 use crate::probes::unused_zero;
-use checks::has_lines;
 use checks::in_range;
 use paper::lists::List;
 use paper::orders::Place;
@@ -34,12 +33,8 @@ fn fields_hold(l: List, room: usize) -> bool
     ensures { λ r. ⌜ (r ≡ fieldsHold l room) × (mostCoordinates - 1 < length (l .query .probe)) ⌝ }
 {
     let q = l.query;
-    let order = q.order;
     let probe = q.probe;
     let d = q.d;
-    if !has_lines(order) {
-        return false;
-    }
     if !in_range(q.measure, d) {
         return false;
     }

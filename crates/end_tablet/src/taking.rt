@@ -8,12 +8,13 @@ ghost use Rattle.paper.specs.Ends.{sameProbe, sameQuery, samePlace, toPresent, 
 ghost use Rattle.paper.specs.Lists.{Takes, held, listing, roomFor, soundHeld, takingHeld};
 ghost use Rattle.paper.specs.Codec.{placeIn, answerMeant, lines};
 ghost use Rattle.end_tablet.specs.Holding.{AskReady, joinedFields};
-ghost use Rattle.paper.specs.Orders.{queryIn};
+ghost use Rattle.paper.specs.Orders.{queryIn, sameOrder};
 ghost use Rattle.paper.specs.Limits.{itemRoom, mostPage, mostCoordinates};
 use crate::asking::present;
 use crate::items::items_hold;
 use crate::probes::same_probe;
 use checks::place_of;
+use checks::same_order;
 use paper::lines::Answer;
 use paper::lines::Scope;
 use paper::lists::List;
@@ -161,18 +162,30 @@ pub fn take_answer(l: List, room: &mut [u64], y: Answer) -> Taken
     Taken { refusal: 0, list }
 }
 
-// [9.13] Takes an answer line, of the list's own order, into a sound list.
+// [8.10] Whether an answer is of the kind that the list expects: of its own order.
+fn own_kind(l: List, y: Answer) -> bool
+    ensures { λ r. ⌜ r ≡ sameOrder (l .query .order) (y .query .order) ⌝ }
+{
+    let asked = l.query;
+    let answered = y.query;
+    let own = asked.order;
+    let order = answered.order;
+    same_order(own, order)
+}
+
+// [9.13] Takes an answer line, of the list's own kind, into a sound list.
 pub fn take_line(l: List, room: &mut [u64], line: &[u8]) -> Taken
     requires { ⌜ soundHeld (held l (now room)) ≡ true ⌝ }
     ensures { λ r. ⌜ Takes l (takingHeld lines (held l (now (room .entry))) (now (line .entry))) (now (room .entry)) r (now (room .exit)) ⌝ }
 {
-    let query = l.query;
-    let order = query.order;
-    let read = lines::read_answer(order, line);
+    let read = lines::read_answer(line);
     let n = read.refusal;
     if n != 0 {
         return refused(n, l);
     }
     let y = read.answer;
+    if !own_kind(l, y) {
+        return refused(10, l);
+    }
     take_answer(l, room, y)
 }
