@@ -6,18 +6,20 @@
 
 typedef enum {
     JOURNEYS, RUNS, CLAIMS, OPENED, OF_OTHER_TABLES, LIKE_ANOTHER, ASKS, ANSWERS, CHARACTERS, LOST, REPEATED, OVERTAKEN, DAMAGED,
-    CARRIED_OVER, TAKEN, COMPLETED, ITEMS, SNAPSHOTS, COMPARISONS, MISSED, DIFFERENCES, EVENTS
+    CARRIED_OVER, TAKEN, OF_THE_OTHER_ORDER, COMPLETED, ITEMS, SNAPSHOTS, COMPARISONS, MISSED, DIFFERENCES, EVENTS
 } event;
 
+/* An event of a list or a line is counted by its order, any other without one. */
 void count_event(event what, size_t times);
+void count_in(uint8_t order, event what, size_t times);
 
-/* Counts a call as refused, or as what it did. */
-void count_call(call which, uint8_t refusal, event done);
+/* What a call gave: a refusal, or 0. */
+void count_call(call which, uint8_t refusal);
 
-/* Counts a line as refused, or as written with its characters. */
-void count_line(call which, nearby_written line, event written);
+/* Counts a line as refused, or as written in an order, with its characters. */
+void count_line(call which, nearby_written line, uint8_t order, event written);
 
-/* Everything happened often enough, every list of the office's table was completed, no claim was missed, and no list was other than
+/* Everything happened often enough, in each order where it has one, every list of the office's table was completed, no claim was missed, and no list was other than
  * it has to be. */
 void check_counts(void);
 

@@ -54,7 +54,8 @@ heard_line hear_line(seeded *from, wire *w)
 {
     size_t at = below(from, w->count);
     sent_line *line = &w->lines[at];
-    heard_line h = { .length = line->length, .is_ask = line->characters[1] == '1' };
+    uint8_t kind = line->characters[1];
+    heard_line h = { .length = line->length, .is_ask = kind == '1' || kind == '4', .order = kind >= '4' ? NEARBY_FAR : NEARBY_NEAR };
     memcpy(h.characters, line->characters, h.length);
     note_arrival(w, line);
     if (one_in(from, 2))

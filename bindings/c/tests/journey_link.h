@@ -22,11 +22,13 @@ typedef struct {
     size_t lost, repeated, overtaken, damaged;
 } wire;
 
-/* A line as it arrives, and what was sent: an ask or an answer, and the number that damage on the way has to be refused with, or 0. */
+/* A line as it arrives, and what was sent: an ask or an answer, its order, and the number that damage on the way has to be refused
+ * with, or 0. */
 typedef struct {
     uint8_t characters[NEARBY_ANSWER_LINE];
     size_t length;
     bool is_ask;
+    uint8_t order;
     uint8_t damage;
 } heard_line;
 

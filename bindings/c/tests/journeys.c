@@ -1,6 +1,6 @@
 /*
- * Generated journeys: an office that enters claims between any two lines, tablets with lists, and a link that loses, repeats, delays,
- * reorders and damages their lines. After every step each list stands beside a sort of the claims. In the end each list goes on over
+ * Generated journeys: an office that enters claims between any two lines, tablets with lists of both orders, and a link that loses,
+ * repeats, delays, reorders and damages their lines. After every step each list stands beside a sort of the claims. In the end each list goes on over
  * a link that loses nothing, until it is complete.
  */
 #include "journey_counts.h"
@@ -14,9 +14,10 @@
 /* 15 journeys for each measure, d and style. */
 enum { ROUNDS = 15 * 3 * NEARBY_MOST_COORDINATES * STYLES, STEPS = 240, TABLETS = 3, LARGEST_CAPACITY = 120, LONGEST_RUN = 10 };
 
-/* A list, the probe and reach that were drawn for it, and whether it names the office's table. */
+/* A list, the order, probe and reach that were drawn for it, and whether it names the office's table. */
 typedef struct {
     tablet t;
+    uint8_t order;
     int32_t probe[NEARBY_MOST_COORDINATES];
     uint64_t reach;
     bool ours;
@@ -60,8 +61,9 @@ static void enter_some(journey *j)
     put_coordinates(j->from, one_in(j->from, 8) ? (style)below(j->from, STYLES) : j->how, run, n * t->d + too_many);
     uint8_t refusal = try_enter(&j->office, given, n, (points){ run, n * t->d + too_many }).refusal;
     CHECK(refusal == (too_many ? 5 : n > left ? 3 : 0));
-    count_call(ENTER, refusal, RUNS);
+    count_call(ENTER, refusal);
     if (refusal == 0) {
+        count_event(RUNS, 1);
         keep_run(&j->handed_over, given, n, run);
         count_event(CLAIMS, n);
     }
@@ -70,13 +72,14 @@ static void enter_some(journey *j)
 static nearby_written answer_line(journey *j, text ask, output out)
 {
     nearby_written answer = try_answer(&j->office, ask, out);
-    count_line(ANSWER, answer, ANSWERS);
+    count_line(ANSWER, answer, answer.refusal == 0 && out.at[1] == '5', ANSWERS);
     return answer;
 }
 
 /* ---- The tablets ---- */
 
-/* Opens a list: sometimes with the probe and reach of another list, whose answers it may then take, and sometimes of another table. */
+/* Opens a list: sometimes with the probe and reach of another list, whose answers it may then take where it has its order, too, and
+ * sometimes of another table. */
 static drawn_list open_some(journey *j, const drawn_list *like)
 {
     const nearby_table *t = &j->office.table;
@@ -89,6 +92,7 @@ static drawn_list open_some(journey *j, const drawn_list *like)
         l.reach = any_reach(j->from, &j->office, l.probe);
     if (like != NULL)
         l = *like;
+    l.order = one_in(j->from, 2) ? NEARBY_NEAR : NEARBY_FAR;
     switch (below(j->from, 16)) {
     case 0: number++; break;
     case 1: measure = (uint8_t)(measure % 3 + 1); break;
@@ -96,8 +100,8 @@ static drawn_list open_some(journey *j, const drawn_list *like)
     default: break;
     }
     l.ours = number == t->number && measure == t->measure && d == t->d;
-    l.t = open_tablet(number, measure, (points){ l.probe, d }, l.reach, below(j->from, 9));
-    count_event(OPENED, 1);
+    l.t = open_tablet(l.order, number, measure, (points){ l.probe, d }, l.reach, below(j->from, 9));
+    count_in(l.order, OPENED, 1);
     count_event(LIKE_ANOTHER, like != NULL);
     count_event(OF_OTHER_TABLES, !l.ours);
     return l;
@@ -106,9 +110,9 @@ static drawn_list open_some(journey *j, const drawn_list *like)
 static void close_list(const drawn_list *l)
 {
     if (l->t.list.complete) {
-        count_event(COMPLETED, 1);
-        count_event(ITEMS, l->t.list.count);
-        count_event(SNAPSHOTS, l->t.list.snapshot);
+        count_in(l->order, COMPLETED, 1);
+        count_in(l->order, ITEMS, l->t.list.count);
+        count_in(l->order, SNAPSHOTS, l->t.list.snapshot);
     }
     free_room(l->t.items);
 }
@@ -116,7 +120,7 @@ static void close_list(const drawn_list *l)
 static nearby_written write_ask(const drawn_list *l, size_t size, output out)
 {
     nearby_written ask = try_write_ask(l->t.list, l->t.items, size, out);
-    count_line(WRITE_ASK, ask, ASKS);
+    count_line(WRITE_ASK, ask, l->order, ASKS);
     return ask;
 }
 
@@ -124,7 +128,8 @@ static nearby_written write_ask(const drawn_list *l, size_t size, output out)
 static uint8_t take_line(journey *j, drawn_list *l, text line)
 {
     nearby_listed taken = try_take(l->t.list, l->t.items, line);
-    count_call(TAKE, taken.refusal, TAKEN);
+    count_call(TAKE, taken.refusal);
+    count_in(l->order, TAKEN, taken.refusal == 0);
     if (taken.refusal == 15) {
         lengthen_room(&l->t, 1 + below(j->from, NEARBY_MOST_PAGE));
         return take_line(j, l, line);
@@ -133,18 +138,18 @@ static uint8_t take_line(journey *j, drawn_list *l, text line)
     return taken.refusal;
 }
 
-/* The list is the first so many of the claims within reach that the table held at the count that the list names; a complete one has
- * them all. One of another table never starts. */
+/* The list is the first so many, in its order, of the claims within reach that the table held at the count that the list names; a
+ * complete one has them all. One of another table never starts. */
 static void compare_list(const journey *j, const drawn_list *l)
 {
     const nearby_list *is = &l->t.list;
     uint64_t all[LARGEST_CAPACITY * NEARBY_ITEM];
-    count_event(COMPARISONS, 1);
-    if (is->snapshot > j->handed_over.table.count || (is->started && !l->ours)) {
+    count_in(l->order, COMPARISONS, 1);
+    if (is->order != l->order || is->snapshot > j->handed_over.table.count || (is->started && !l->ours)) {
         count_event(DIFFERENCES, 1);
         return;
     }
-    size_t within = model_near(&j->handed_over, l->probe, l->reach, is->snapshot, all);
+    size_t within = model_listed(&j->handed_over, l->order, l->probe, l->reach, is->snapshot, all);
     bool first = is->count <= within && memcmp(all, l->t.items.at, is->count * NEARBY_ITEM * sizeof(uint64_t)) == 0;
     count_event(DIFFERENCES, !first);
     if (first && is->complete)
@@ -170,22 +175,34 @@ static void ask_some(journey *j, drawn_list *l)
         send_line(j->from, j->link, out, ask.length);
 }
 
-static uint8_t arrive_at_office(journey *j, text line)
-{
-    uint8_t out[NEARBY_ANSWER_LINE];
-    nearby_written answer = answer_line(j, line, (output){ out, sizeof out });
-    if (answer.refusal == 0)
-        send_line(j->from, j->link, out, answer.length);
-    return answer.refusal;
-}
-
-/* A damaged line is seen to be damaged, and at the wrong end a line is of the wrong kind. At the right end an ask may be of another
+/* A damaged line is seen to be damaged, and where it does not belong a line is of the wrong kind. Otherwise an ask may be of another
  * table, and an answer may be late, repeated or another list's. */
-static bool may_be_given(uint8_t refusal, const heard_line *heard, bool astray)
+static bool may_be_given(uint8_t refusal, const heard_line *heard, bool wrong_kind)
 {
-    if (heard->damage != 0 || astray)
+    if (heard->damage != 0 || wrong_kind)
         return refusal == (heard->damage != 0 ? heard->damage : 10);
     return refusal == 0 || (heard->is_ask ? refusal == 11 : refusal == 13 || refusal == 16);
+}
+
+/* The office answers an ask in its order. */
+static void arrive_at_office(journey *j, const heard_line *heard)
+{
+    uint8_t out[NEARBY_ANSWER_LINE];
+    nearby_written answer = answer_line(j, (text){ heard->characters, heard->length }, (output){ out, sizeof out });
+    CHECK(may_be_given(answer.refusal, heard, !heard->is_ask));
+    if (answer.refusal == 0) {
+        CHECK(out[1] == (heard->order == NEARBY_NEAR ? '2' : '5'));
+        send_line(j->from, j->link, out, answer.length);
+    }
+}
+
+/* A list refuses an answer of the other order as a line of the wrong kind. */
+static void arrive_at_list(journey *j, const heard_line *heard, drawn_list *l)
+{
+    bool other_order = heard->order != l->order;
+    uint8_t refusal = take_line(j, l, (text){ heard->characters, heard->length });
+    CHECK(may_be_given(refusal, heard, heard->is_ask || other_order));
+    count_in(l->order, OF_THE_OTHER_ORDER, other_order && !heard->is_ask && heard->damage == 0);
 }
 
 /* Mostly an ask arrives at the office, and an answer at any of the tablets; some lines go astray. */
@@ -194,10 +211,11 @@ static void arrive(journey *j)
     if (j->link->count == 0)
         return;
     heard_line heard = hear_line(j->from, j->link);
-    text line = { heard.characters, heard.length };
     bool astray = one_in(j->from, 8);
-    uint8_t refusal = heard.is_ask != astray ? arrive_at_office(j, line) : take_line(j, &j->lists[below(j->from, TABLETS)], line);
-    CHECK(may_be_given(refusal, &heard, astray));
+    if (heard.is_ask != astray)
+        arrive_at_office(j, &heard);
+    else
+        arrive_at_list(j, &heard, &j->lists[below(j->from, TABLETS)]);
 }
 
 static void step(journey *j)

@@ -12,11 +12,13 @@ int main(void)
     line_vector_tests();
     line_refusal_tests();
     line_storm_tests();
+    list_example_tests();
     list_tests();
     list_refusal_tests();
     take_refusal_tests();
     journey_tests();
     many_tests();
+    many_answer_tests();
     edge_tests();
     thread_tests();
     refusal_tests();

@@ -1,5 +1,6 @@
-/* The calls that answer many questions at once, each beside the single call and the model. */
+/* The calls that answer many questions at once, each beside the single call and the model; many_answers.c has those on lines. */
 #include "stores.h"
+#include "tablets.h"
 #include "tests.h"
 
 #include <stdlib.h>
@@ -7,22 +8,12 @@
 
 enum { MOST = 12 };
 
-/* Questions for one table. */
+/* Questions for one table; the places with an order in front, as nearby_many_pages takes them. */
 typedef struct {
     size_t n;
     int32_t probes[8 * MOST];
-    uint64_t reaches[MOST], starts[4 * MOST];
+    uint64_t reaches[MOST], places[NEARBY_PLACE * MOST];
 } questions;
-
-static void put_start(seeded *from, const store *s, const int32_t *probe, uint64_t *start)
-{
-    const nearby_table *t = &s->table;
-    uint64_t claim = below(from, t->count + 1);
-    start[0] = below(from, 3);
-    start[1] = one_in(from, 4) ? t->count + 1 : below(from, t->count + 1);
-    start[2] = claim < t->count ? model_distance(t->measure, t->d, s->coordinates + claim * t->d, probe) : 0;
-    start[3] = claim;
-}
 
 static questions any_questions(seeded *from, const store *s, style how)
 {
@@ -31,27 +22,14 @@ static questions any_questions(seeded *from, const store *s, style how)
     put_coordinates(from, how, q.probes, LENGTH(q.probes));
     for (size_t i = 0; i < q.n; i++) {
         q.reaches[i] = any_reach(from, s, q.probes + i * d);
-        put_start(from, s, q.probes + i * d, q.starts + 4 * i);
+        put_place(from, s, q.probes + i * d, q.places + NEARBY_PLACE * i);
     }
     return q;
 }
 
 static points probes_of(const questions *q, const store *s) { return (points){ q->probes, q->n * s->table.d }; }
 static room reaches_of(questions *q) { return (room){ q->reaches, q->n }; }
-static room starts_of(questions *q) { return (room){ q->starts, 4 * q->n }; }
-
-static room lend_room(seeded *from, size_t length)
-{
-    room r = { brink(length * sizeof(uint64_t)), length };
-    for (size_t i = 0; i < length; i++)
-        r.at[i] = next_number(from);
-    return r;
-}
-
-static void free_room(room r)
-{
-    brink_free(r.at, r.length * sizeof(uint64_t));
-}
+static room places_of(questions *q) { return (room){ q->places, NEARBY_PLACE * q->n }; }
 
 static bool same_row(const uint64_t *row, nearby_item item)
 {
@@ -61,7 +39,7 @@ static bool same_row(const uint64_t *row, nearby_item item)
 static void ask_many_ends(seeded *from, const store *s, questions *q)
 {
     size_t d = s->table.d;
-    room out = lend_room(from, 4 * q->n + below(from, 5));
+    room out = noisy_room(from, 4 * q->n + below(from, 5));
     CHECK(try_many_nearest(s, probes_of(q, s), reaches_of(q), out) == 0);
     for (size_t i = 0; i < q->n; i++)
         CHECK(same_row(out.at + 4 * i, try_nearest(s, (points){ q->probes + i * d, d }, q->reaches[i])));
@@ -74,14 +52,14 @@ static void ask_many_ends(seeded *from, const store *s, questions *q)
 static void ask_many_pages(seeded *from, const store *s, questions *q)
 {
     size_t d = s->table.d, size = 1 + below(from, NEARBY_MOST_PAGE), width = size * NEARBY_ITEM;
-    room outcomes = lend_room(from, 3 * q->n + below(from, 4)), items = lend_room(from, width * q->n + below(from, 4));
+    room outcomes = noisy_room(from, 3 * q->n + below(from, 4)), items = noisy_room(from, width * q->n + below(from, 4));
     uint64_t *before = malloc((items.length + 1) * sizeof(uint64_t));
     memcpy(before, items.at, items.length * sizeof(uint64_t));
-    CHECK(try_many_pages(s, probes_of(q, s), reaches_of(q), starts_of(q), size, outcomes, items) == 0);
+    CHECK(try_many_pages(s, probes_of(q, s), reaches_of(q), places_of(q), size, outcomes, items) == 0);
     for (size_t i = 0; i < q->n; i++) {
-        const uint64_t *start = q->starts + 4 * i;
-        nearby_filled page = try_page(s, (points){ q->probes + i * d, d }, q->reaches[i],
-                                      (nearby_start){ start[0] != 0, start[1], start[2], start[3] }, size,
+        const uint64_t *place = q->places + NEARBY_PLACE * i;
+        nearby_filled page = try_page(s, place[0] != 0, (points){ q->probes + i * d, d }, q->reaches[i],
+                                      (nearby_start){ place[1] != 0, place[2], place[3], place[4] }, size,
                                       (room){ before + i * width, width });
         const uint64_t *outcome = outcomes.at + 3 * i;
         CHECK(outcome[0] == page.refusal && outcome[1] == page.count && outcome[2] == page.last);
@@ -92,18 +70,30 @@ static void ask_many_pages(seeded *from, const store *s, questions *q)
     free_room(items);
 }
 
+static bool orders_differ(const questions *q)
+{
+    for (size_t i = 1; i < q->n; i++)
+        if ((q->places[NEARBY_PLACE * i] != 0) != (q->places[0] != 0))
+            return true;
+    return false;
+}
+
+/* Most calls have questions of both orders. */
 static void many_equal_single(void)
 {
     seeded from = seed(41);
+    size_t differ = 0;
     for (int round = 0; round < 400; round++) {
         style how = (style)(round % STYLES);
         size_t n = below(&from, 60);
         store s = full_store(&from, (uint8_t)(1 + round % 3), 1 + below(&from, 8), n + 1, n, how);
         questions q = any_questions(&from, &s, how);
+        differ += orders_differ(&q);
         ask_many_ends(&from, &s, &q);
         ask_many_pages(&from, &s, &q);
         free_store(&s);
     }
+    CHECK(differ >= 200);
 }
 
 static void many_on_a_large_table(void)
@@ -113,28 +103,69 @@ static void many_on_a_large_table(void)
         store s = full_store(&from, (uint8_t)(1 + how % 3), 3, 4096, 4096, how);
         questions q = any_questions(&from, &s, how);
         q.n = q.n < 2 ? q.n : 2;
+        q.places[0] = NEARBY_NEAR;
+        q.places[NEARBY_PLACE] = NEARBY_FAR;
         ask_many_ends(&from, &s, &q);
         ask_many_pages(&from, &s, &q);
         free_store(&s);
     }
 }
 
-/* A high word of `from` counts as a flag too. */
-static void starts_with_any_flag(void)
+static const uint64_t flags[] = { 0, 1, 2, 255, 256, 1ull << 32, UINT64_MAX };
+
+/* Each flag is the order of a question, and the one that stands so far behind it is that question's `from`. */
+static void ask_with_flags(seeded *from, const store *s, size_t apart)
 {
-    seeded from = seed(43);
-    const uint64_t flags[] = { 0, 1, 2, 255, 256, 1ull << 32, UINT64_MAX };
-    store s = full_store(&from, 1, 2, 9, 9, TIED);
-    questions q = any_questions(&from, &s, TIED);
+    questions q = any_questions(from, s, TIED);
     q.n = LENGTH(flags);
     uint64_t outcomes[3 * LENGTH(flags)], items[6 * LENGTH(flags)] = { 0 };
     for (size_t i = 0; i < q.n; i++) {
-        put_start(&from, &s, q.probes + 2 * i, q.starts + 4 * i);
-        q.starts[4 * i] = flags[i];
+        put_place(from, s, q.probes + 2 * i, q.places + NEARBY_PLACE * i);
+        q.places[NEARBY_PLACE * i] = flags[i];
+        q.places[NEARBY_PLACE * i + 1] = flags[(i + apart) % LENGTH(flags)];
         q.reaches[i] = UINT64_MAX;
     }
-    CHECK(try_many_pages(&s, probes_of(&q, &s), reaches_of(&q), starts_of(&q), 2, (room){ outcomes, 3 * q.n }, (room){ items, 6 * q.n })
+    CHECK(try_many_pages(s, probes_of(&q, s), reaches_of(&q), places_of(&q), 2, (room){ outcomes, 3 * q.n }, (room){ items, 6 * q.n })
           == 0);
+}
+
+/* A high word of an order or of `from` counts as a flag too. */
+static void places_with_any_flag(void)
+{
+    seeded from = seed(43);
+    store s = full_store(&from, 1, 2, 9, 9, TIED);
+    for (size_t apart = 0; apart < LENGTH(flags); apart++)
+        ask_with_flags(&from, &s, apart);
+    free_store(&s);
+}
+
+/* The examples' first pages of 2 and those behind claim 1, in both orders in one call, worked by hand. */
+static void both_orders_in_one_call(void)
+{
+    seeded from = seed(40);
+    store s = marked_store(&from, 8);
+    const int32_t probes[] = { 4, 4, 4, 4 };
+    uint64_t reaches[] = { 5, 5, 5, 5 }, outcomes[12], items[24] = { 0 };
+    uint64_t places[] = { NEARBY_FAR, 0, 0, 0, 0, NEARBY_NEAR, 0, 0, 0, 0, NEARBY_NEAR, 1, 5, 1, 1, NEARBY_FAR, 1, 5, 1, 1 };
+    const uint64_t told[] = { 0, 2, 0, 0, 2, 0, 0, 2, 0, 0, 1, 1 };
+    const uint64_t pages[] = { 2, 103, 5, 0, 101, 2, 1, 102, 1, 4, 105, 1, 4, 105, 1, 0, 101, 2, 4, 105, 1, 0, 0, 0 };
+    CHECK(try_many_pages(&s, (points){ probes, 4 }, (room){ reaches, 4 }, (room){ places, 20 }, 2, (room){ outcomes, 12 },
+                         (room){ items, 24 }) == 0);
+    CHECK(memcmp(outcomes, told, sizeof told) == 0 && memcmp(items, pages, sizeof pages) == 0);
+    free_store(&s);
+}
+
+/* [4.18] A row is NEARBY_PLACE numbers, and neither one less nor one more, which some other number of questions would have. */
+static void places_of_four_and_six_numbers(void)
+{
+    seeded from = seed(50);
+    store s = full_store(&from, 1, 1, 9, 9, TIED);
+    int32_t probes[10] = { 0 };
+    uint64_t reaches[10] = { 0 }, places[60] = { 0 }, outcomes[30], items[30];
+    for (size_t n = 1; n <= 10; n++)
+        for (size_t each = NEARBY_PLACE - 1; each <= NEARBY_PLACE + 1; each++)
+            CHECK(try_many_pages(&s, (points){ probes, n }, (room){ reaches, n }, (room){ places, each * n }, 1,
+                                 (room){ outcomes, 3 * n }, (room){ items, 3 * n }) == (each == NEARBY_PLACE ? 0 : 5));
     free_store(&s);
 }
 
@@ -150,14 +181,16 @@ static size_t nearly(seeded *from, size_t length)
 static void ask_amiss(seeded *from, const store *s, size_t n)
 {
     const size_t sizes[] = { 0, 1, 2, 16, 17, SIZE_MAX / 3 + 1, SIZE_MAX };
-    uint64_t out[20] = { 0 }, outcomes[20] = { 0 }, items[40] = { 0 }, reaches[5] = { 0 }, starts[20] = { 0 };
+    uint64_t out[20] = { 0 }, outcomes[20] = { 0 }, items[40] = { 0 }, reaches[5] = { 0 }, places[NEARBY_PLACE * 5] = { 0 };
     int32_t probes[40] = { 0 };
     size_t size = one_in(from, 5) ? sizes[below(from, LENGTH(sizes))] : 3;
     points p = { probes, nearly(from, n * s->table.d) };
     room r = { reaches, n }, rows = { out, nearly(from, 4 * n) };
     try_many_nearest(s, p, r, rows);
     try_many_farthest(s, p, n, rows);
-    try_many_pages(s, p, r, (room){ starts, nearly(from, 4 * n) }, size, (room){ outcomes, nearly(from, 3 * n) },
+    for (size_t i = 0; i < n; i++)
+        places[NEARBY_PLACE * i] = any_order(from);
+    try_many_pages(s, p, r, (room){ places, nearly(from, NEARBY_PLACE * n) }, size, (room){ outcomes, nearly(from, 3 * n) },
                    (room){ items, nearly(from, 9 * n) });
 }
 
@@ -188,158 +221,13 @@ static void many_with_counts_too_large(void)
     }
 }
 
-/* ---- Ask lines one after another ---- */
-
-typedef struct {
-    uint8_t *at;
-    size_t length;
-} asks;
-
-/* Asks of every kind of fate: good ones, wrong places, other tables, other kinds, damaged ones, empty lines. */
-static size_t put_ask(seeded *from, const store *s, uint8_t *out)
-{
-    const nearby_table *t = &s->table;
-    int32_t probe[8];
-    uint64_t start[4];
-    put_coordinates(from, TIED, probe, 8);
-    put_start(from, s, probe, start);
-    nearby_scope scope = { any_reach(from, s, probe), start[0] != 0, (uint16_t)start[1], start[2], (uint16_t)start[3] };
-    if (scope.from == 0)
-        scope.snapshot = scope.distance = scope.number = 0;
-    uint32_t number = t->number ^ one_in(from, 9);
-    uint8_t line[NEARBY_ASK_LINE];
-    size_t length = model_ask_line(number, t->measure, (uint8_t)t->d, (points){ probe, t->d }, scope,
-                                   (uint8_t)(1 + below(from, 16)), (output){ line, sizeof line }).length;
-    if (one_in(from, 8))
-        line[below(from, length)] = (uint8_t)(one_in(from, 2) ? '\n' : 'g');
-    if (one_in(from, 12))
-        length = below(from, length + 1);
-    memcpy(out, line, length);
-    return length;
-}
-
-static asks any_asks(seeded *from, const store *s, size_t lines)
-{
-    uint8_t *all = malloc(lines * NEARBY_ASK_LINE + 1);
-    size_t length = 0;
-    for (size_t i = 0; i < lines; i++)
-        length += put_ask(from, s, all + length);
-    asks a = { brink(length), length };
-    memcpy(a.at, all, length);
-    free(all);
-    return a;
-}
-
-/* Calls again with what was not used, as a server does, until nothing is left. */
-static void serve(seeded *from, const store *s, asks a)
-{
-    size_t used = 0;
-    for (int turn = 0; turn < 1000 && used < a.length; turn++) {
-        room outcomes = lend_room(from, 2 + below(from, 20));
-        size_t length = NEARBY_ANSWER_LINE + below(from, 4 * NEARBY_ANSWER_LINE);
-        uint8_t *out = brink(length);
-        nearby_answered done = try_many_answers(s, (text){ a.at + used, a.length - used }, outcomes, (output){ out, length });
-        CHECK(done.refusal == 0 && done.used > 0);
-        used += done.used;
-        free_room(outcomes);
-        brink_free(out, length);
-    }
-    CHECK(used == a.length);
-}
-
-static void many_answers(void)
-{
-    seeded from = seed(45);
-    for (int round = 0; round < 150; round++) {
-        size_t n = below(&from, 50);
-        store s = full_store(&from, (uint8_t)(1 + round % 3), 1 + below(&from, 8), n + 1, n, TIED);
-        asks a = any_asks(&from, &s, below(&from, 40));
-        serve(&from, &s, a);
-        brink_free(a.at, a.length);
-        free_store(&s);
-    }
-}
-
-/* The i-th outcome is what the single call gives for the i-th line. */
-static void many_answers_equal_single(void)
-{
-    seeded from = seed(46);
-    store s = full_store(&from, 1, 2, 300, 300, TIED);
-    asks a = any_asks(&from, &s, 100);
-    room outcomes = lend_room(&from, 400);
-    size_t length = 200 * NEARBY_ANSWER_LINE, at = 0, read = 0;
-    uint8_t *out = brink(length), one[NEARBY_ANSWER_LINE];
-    nearby_answered done = try_many_answers(&s, (text){ a.at, a.length }, outcomes, (output){ out, length });
-    CHECK(done.used == a.length);
-    for (size_t i = 0; i < done.lines; i++) {
-        const uint8_t *end = memchr(a.at + at, '\n', a.length - at);
-        size_t line = end == NULL ? a.length - at : (size_t)(end - (a.at + at)) + 1;
-        nearby_written wrote = try_answer(&s, (text){ a.at + at, line }, (output){ one, sizeof one });
-        CHECK(outcomes.at[2 * i] == wrote.refusal && outcomes.at[2 * i + 1] == wrote.length);
-        CHECK(memcmp(out + read, one, wrote.length) == 0);
-        at += line;
-        read += wrote.length;
-    }
-    CHECK(at == a.length && read == done.written);
-    free_room(outcomes);
-    brink_free(out, length);
-    brink_free(a.at, a.length);
-    free_store(&s);
-}
-
-/* Rooms for outcomes and output of every small length. */
-static void many_answers_in_small_rooms(void)
-{
-    seeded from = seed(47);
-    store s = full_store(&from, 3, 2, 30, 30, TIED);
-    asks a = any_asks(&from, &s, 12);
-    const size_t lengths[] = { 0, 1, 572, 573, 574, 700, 1145, 1146, 1147, 4000 };
-    for (size_t told = 0; told < 9; told++)
-        for (size_t i = 0; i < LENGTH(lengths); i++) {
-            room outcomes = lend_room(&from, told);
-            uint8_t *out = brink(lengths[i]);
-            nearby_answered done = try_many_answers(&s, (text){ a.at, a.length }, outcomes, (output){ out, lengths[i] });
-            CHECK(done.refusal == (lengths[i] < NEARBY_ANSWER_LINE ? 12 : 0) && done.lines <= told / 2);
-            free_room(outcomes);
-            brink_free(out, lengths[i]);
-        }
-    brink_free(a.at, a.length);
-    free_store(&s);
-}
-
-/* A second line is answered where its longest answer has room behind the first answer, and not one character sooner. */
-static void many_answers_to_the_last_character(void)
-{
-    seeded from = seed(49);
-    store s = full_store(&from, 2, 3, 30, 30, TIED);
-    const int32_t probe[] = { 0, 1, 2 };
-    const nearby_scope scope = { .reach = UINT64_MAX };
-    uint8_t twice[2 * NEARBY_ASK_LINE], one[NEARBY_ANSWER_LINE];
-    for (uint8_t size = 1; size <= NEARBY_MOST_PAGE; size++) {
-        size_t length = try_ask_line(s.table.number, 2, 3, (points){ probe, 3 }, scope, size, (output){ twice, sizeof twice }).length;
-        memcpy(twice + length, twice, length);
-        size_t first = try_answer(&s, (text){ twice, length }, (output){ one, sizeof one }).length;
-        for (size_t behind = NEARBY_ANSWER_LINE - 2; behind <= NEARBY_ANSWER_LINE + 1; behind++) {
-            room outcomes = lend_room(&from, 4);
-            uint8_t *out = brink(first + behind);
-            nearby_answered done = try_many_answers(&s, (text){ twice, 2 * length }, outcomes, (output){ out, first + behind });
-            CHECK(done.lines == (behind < NEARBY_ANSWER_LINE ? 1 : 2) && done.used == done.lines * length);
-            free_room(outcomes);
-            brink_free(out, first + behind);
-        }
-    }
-    free_store(&s);
-}
-
 void many_tests(void)
 {
     run_test("many: equal to single calls", many_equal_single);
     run_test("many: a large table", many_on_a_large_table);
-    run_test("many: starts with any flag", starts_with_any_flag);
+    run_test("many: places with any flag", places_with_any_flag);
+    run_test("many: both orders in one call", both_orders_in_one_call);
+    run_test("many: places of four and six numbers", places_of_four_and_six_numbers);
     run_test("many: lengths amiss", many_with_lengths_amiss);
     run_test("many: counts too large", many_with_counts_too_large);
-    run_test("many: ask lines served to the last", many_answers);
-    run_test("many: answers equal to single calls", many_answers_equal_single);
-    run_test("many: answers in small rooms", many_answers_in_small_rooms);
-    run_test("many: answers to the last character", many_answers_to_the_last_character);
 }

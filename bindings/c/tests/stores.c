@@ -92,3 +92,14 @@ uint8_t any_order(seeded *from)
 {
     return one_in(from, 2) ? NEARBY_NEAR : one_in(from, 2) ? NEARBY_FAR : (uint8_t)(1 + below(from, UINT8_MAX));
 }
+
+void put_place(seeded *from, const store *s, const int32_t *probe, uint64_t *out)
+{
+    const nearby_table *t = &s->table;
+    uint64_t claim = below(from, t->count + 1);
+    out[0] = any_order(from);
+    out[1] = below(from, 3);
+    out[2] = one_in(from, 4) ? t->count + 1 : below(from, t->count + 1);
+    out[3] = claim < t->count ? model_distance(t->measure, t->d, s->coordinates + claim * t->d, probe) : 0;
+    out[4] = claim;
+}

@@ -28,4 +28,7 @@ uint64_t any_reach(seeded *from, const store *s, const int32_t *probe);
 /* An order as a flag: near as often as far, and far as any number but 0. */
 uint8_t any_order(seeded *from);
 
+/* An order and a place as NEARBY_PLACE numbers: the start, or a mark, right or nearly so. */
+void put_place(seeded *from, const store *s, const int32_t *probe, uint64_t *out);
+
 #endif

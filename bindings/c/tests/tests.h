@@ -11,11 +11,13 @@ void line_tests(void);
 void line_vector_tests(void);
 void line_refusal_tests(void);
 void line_storm_tests(void);
+void list_example_tests(void);
 void list_tests(void);
 void list_refusal_tests(void);
 void take_refusal_tests(void);
 void journey_tests(void);
 void many_tests(void);
+void many_answer_tests(void);
 void edge_tests(void);
 void thread_tests(void);
 /* Last: looks at what all the others reached. */

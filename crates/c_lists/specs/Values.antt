@@ -10,8 +10,8 @@ use Rattle.paper.specs.declared.lines.AnswerRead.{AnswerRead}
 use Rattle.paper.specs.declared.lists.List as lists
 use Rattle.paper.specs.declared.lists.Opened.{Opened}
 use Rattle.paper.specs.declared.lists.Taken.{Taken}
-use Rattle.paper.specs.declared.orders.Order.the-variants.{Near}
-use Rattle.paper.specs.Orders.{Query}
+use Rattle.paper.specs.declared.orders.Order.{Order}
+use Rattle.paper.specs.Orders.{Query, isFar, orderBy}
 use Rattle.paper.specs.Outcomes.{Outcome, Promise}
 use Rattle.paper.specs.Fields.{flagOf}
 use Rattle.paper.specs.Lists.{takenShown, putItems}
@@ -26,16 +26,23 @@ use Rattle.c_lists.specs.declared.Listed.{Listed}
 abbrev pub flagIn : ℕ → Bool
 flagIn n = not (eqb n 0)
 
--- [2.1] a query of C: its order is near
-abbrev pub nearQuery : ℕ → ℕ → ℕ → List ℤ → ℕ → Query
-nearQuery table measure d probe reach =
-    record { order = Near; table = table; measure = measure; d = d; probe = probe; reach = reach }
+-- [9.19] an order from C and to C: a flag, on for far
+abbrev pub orderIn : ℕ → Order
+orderIn n = orderBy (flagIn n)
+
+abbrev pub orderOut : Order → ℕ
+orderOut o = flagOf (isFar o)
+
+-- a query of C, in parts
+abbrev pub queryFrom : ℕ → ℕ → ℕ → ℕ → List ℤ → ℕ → Query
+queryFrom order table measure d probe reach =
+    record { order = orderIn order; table = table; measure = measure; d = d; probe = probe; reach = reach }
 
 abbrev pub listIn : Listing → lists.List
 listIn l =
     record {
       query = record {
-        order = Near;
+        order = orderIn (l .order);
         table = l .table;
         measure = l .measure;
         d = l .d;
@@ -52,6 +59,7 @@ abbrev pub listOut : lists.List → Listing
 listOut l =
     record {
       table = l .query .table;
+      order = orderOut (l .query .order);
       measure = l .query .measure;
       started = flagOf (l .started);
       complete = flagOf (l .complete);
@@ -75,6 +83,7 @@ askOut x =
       refusal = x .refusal;
       ask = record {
         table = x .ask .query .table;
+        order = orderOut (x .ask .query .order);
         measure = x .ask .query .measure;
         d = x .ask .query .d;
         probe = x .ask .query .probe;
@@ -89,6 +98,7 @@ answerOut x =
       refusal = x .refusal;
       answer = record {
         table = x .answer .query .table;
+        order = orderOut (x .answer .query .order);
         measure = x .answer .query .measure;
         d = x .answer .query .d;
         probe = x .answer .query .probe;

@@ -1,10 +1,12 @@
-// Lists, asks and answers as C has them: their fields side by side, flags as numbers, in near order. [9.19]
+// Orders, lists, asks and answers as C has them: their fields side by side, flags as numbers. [9.19]
 // Apart from `c_values`, so that a wrong conversion of either is tried in seconds.
 ghost use mathlib.Core.Path.{_≡_};
 ghost use Prim.Native.Nat.{_≤_};
 ghost use Rattle.paper.specs.Limits.{mostCoordinates};
-ghost use Rattle.c_lists.specs.Values.{listIn, listOut, openedOut, takenOut, scopeFrom, extentOut, askOut, answerOut};
+ghost use Rattle.c_lists.specs.Values.{orderIn, orderOut, listIn, listOut, openedOut, takenOut, scopeFrom, extentOut, askOut, answerOut};
 use checks::flag;
+use checks::is_far;
+use checks::order_by;
 use paper::limits::ITEM_ROOM;
 use paper::limits::MOST_COORDINATES;
 use paper::lines::AnswerRead;
@@ -30,6 +32,7 @@ pub struct Extent {
 #[repr(C)]
 pub struct AskFields {
     pub table: u32,
+    pub order: u8,
     pub measure: u8,
     pub d: u8,
     pub probe: [i32; MOST_COORDINATES],
@@ -41,6 +44,7 @@ pub struct AskFields {
 #[repr(C)]
 pub struct AnswerFields {
     pub table: u32,
+    pub order: u8,
     pub measure: u8,
     pub d: u8,
     pub probe: [i32; MOST_COORDINATES],
@@ -64,10 +68,11 @@ pub struct AnswerShown {
     pub answer: AnswerFields,
 }
 
-// A tablet's list: its query and its fields side by side, with flags as numbers. Its order is near.
+// A tablet's list: its query and its fields side by side, with flags as numbers. The order is a flag, on for far.
 #[repr(C)]
 pub struct Listing {
     pub table: u32,
+    pub order: u8,
     pub measure: u8,
     pub started: u8,
     pub complete: u8,
@@ -85,12 +90,24 @@ pub struct Listed {
     pub list: Listing,
 }
 
+pub fn order_in(order: u8) -> Order
+    ensures { λ r. ⌜ r ≡ orderIn order ⌝ }
+{
+    order_by(order != 0)
+}
+
+fn order_out(order: Order) -> u8
+    ensures { λ r. ⌜ r ≡ orderOut order ⌝ }
+{
+    flag(is_far(order))
+}
+
 pub fn list_in(l: Listing) -> List
     ensures { λ r. ⌜ r ≡ listIn l ⌝ }
 {
     let probe = l.probe;
     let query = Query {
-        order: Order::Near,
+        order: order_in(l.order),
         table: l.table,
         measure: l.measure,
         d: l.d,
@@ -110,9 +127,11 @@ fn list_out(l: List) -> Listing
     ensures { λ r. ⌜ r ≡ listOut l ⌝ }
 {
     let query = l.query;
+    let order = query.order;
     let probe = query.probe;
     Listing {
         table: query.table,
+        order: order_out(order),
         measure: query.measure,
         started: flag(l.started),
         complete: flag(l.complete),
@@ -173,10 +192,12 @@ pub fn ask_out(x: AskRead) -> AskShown
 {
     let a = x.ask;
     let query = a.query;
+    let order = query.order;
     let probe = query.probe;
     let scope = a.scope;
     let ask = AskFields {
         table: query.table,
+        order: order_out(order),
         measure: query.measure,
         d: query.d as u8,
         probe,
@@ -195,11 +216,13 @@ pub fn answer_out(x: AnswerRead) -> AnswerShown
 {
     let y = x.answer;
     let query = y.query;
+    let order = query.order;
     let probe = query.probe;
     let scope = y.scope;
     let items = y.items;
     let answer = AnswerFields {
         table: query.table,
+        order: order_out(order),
         measure: query.measure,
         d: query.d as u8,
         probe,

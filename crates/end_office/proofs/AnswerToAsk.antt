@@ -6,7 +6,7 @@ use mathlib.Core.List.{List}
 use native.Mathlib.Omega.{arith}
 use lib.Dec.{leb, eqb}
 use lib.ListN.{take, drop}
-use borrow.Author.Tests.{le-leb, leb-true, not-true, not-false}
+use borrow.Author.Tests.{leb-true, not-true, not-false}
 use Rattle.paper.specs.declared.lines.Ask as lines-Ask
 use Rattle.paper.specs.declared.lines.AskRead.{AskRead}
 use Rattle.paper.specs.declared.lines.Scope.{Scope}
@@ -106,7 +106,6 @@ ask-given f e =
     let a = and-second (scopeOk p) ((eqb (p .from) 1 || eqb (p .snapshot) 0) && (leb 1 n && leb n mostPage)) (i .rest) in
     let b = and-second (eqb (p .from) 1 || eqb (p .snapshot) 0) (leb 1 n && leb n mostPage) a in
     record {
-      known = le-leb 1 _ (i .headed .some);
       narrow = i .headed .range .narrow;
       scope = and-first (scopeOk p) ((eqb (p .from) 1 || eqb (p .snapshot) 0) && (leb 1 n && leb n mostPage)) (i .rest);
       some = leb-true 1 n (and-first (leb 1 n) (leb n mostPage) b);

@@ -150,7 +150,7 @@ module _ (s : Store) (q : queries.Query) (p : Scope) (size out : ℕ) (h : AskOu
     unfolding queryFits
     query-fits =
         subst (λ (x : Query). queryFits x ≡ true) (sym own-query)
-        (and-both _ _ (h .ask .known) (and-both _ _ (is-range (s .table .measure) (s .table .d) (h .isOpen .good .fit .range)) (eq-eqb _ _ aimed)))
+        (and-both _ _ (is-range (s .table .measure) (s .table .d) (h .isOpen .good .fit .range)) (eq-eqb _ _ aimed))
 
 -- ---- the page, written
 

@@ -10,7 +10,6 @@ use Rattle.paper.specs.Orders.{queryIn, snapshotOf, snapshotHolds, markHolds}
 use Rattle.paper.specs.Tree.{Store}
 use Rattle.paper.specs.Outcomes.{Outcome, must, gives}
 use Rattle.paper.specs.Fields.{scopeOk}
-use Rattle.paper.specs.Lines.{spoken}
 use Rattle.paper.specs.Ends.{Ask, tableOf, matches, answerOf}
 use Rattle.paper.specs.Ends as Ends
 use Rattle.paper.specs.Codec.{placeIn, answerLine}
@@ -19,7 +18,6 @@ use Rattle.paper.specs.Limits.{longestAnswer, mostPage, mostCoordinates}
 
 -- [5.8] [5.9] [5.10] an ask that a reader gives
 pub record Given (a : lines-Ask.Ask) : Type 0 where
-  pub known : spoken (a .query .order) ≡ true
   pub narrow : a .query .d ≤ mostCoordinates
   pub scope : scopeOk (a .scope) ≡ true
   pub some : 1 ≤ a .size

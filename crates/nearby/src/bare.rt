@@ -1,7 +1,7 @@
-// The bare writers and readers of the three kinds of line. Of a query's probe the first d slots are written.
+// The bare writers and readers of asks, answers and claims. A query's order tells the kind of its asks and answers, and the kind of a line its
+// order. Of a query's probe the first d slots are written.
 ghost use mathlib.Core.Path.{_≡_};
 ghost use lib.ListN.{length};
-ghost use Rattle.paper.specs.declared.orders.Order.the-variants.{Near};
 ghost use Rattle.paper.specs.Orders.{queryIn};
 ghost use Rattle.paper.specs.Lines.{Writes, bareLine, askFits, askFrame, readAsAsk, answerFits, answerFrame, readAsAnswer, claimFits, claimFrame, readAsClaim};
 ghost use Rattle.paper.specs.Limits.{longestAnswer, longestAsk, longestClaim};
@@ -10,7 +10,6 @@ use paper::lines::AskRead;
 use paper::lines::ClaimRead;
 use paper::lines::Scope;
 use paper::lines::Wrote;
-use paper::orders::Order;
 use paper::queries::Query;
 
 // [9.14] [5.5] Refusals 10, 12.
@@ -57,10 +56,9 @@ pub fn read_ask_line(line: &[u8]) -> AskRead
 
 // [9.15] [5.6] Refusals 9, 10.
 pub fn read_answer_line(line: &[u8]) -> AnswerRead
-    ensures { λ r. ⌜ r ≡ readAsAnswer Near (now (line .entry)) ⌝ }
+    ensures { λ r. ⌜ r ≡ readAsAnswer (now (line .entry)) ⌝ }
 {
-    let near = Order::Near;
-    lines::read_answer(near, line)
+    lines::read_answer(line)
 }
 
 // [9.15] [5.7] Refusals 9, 10.

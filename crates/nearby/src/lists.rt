@@ -1,7 +1,6 @@
-// A tablet's list: opened, asking, taking.
+// A tablet's list: opened in an order, asking and taking lines of that order's kinds.
 ghost use mathlib.Core.Path.{_≡_};
 ghost use lib.ListN.{length};
-ghost use Rattle.paper.specs.declared.orders.Order.the-variants.{Near};
 ghost use Rattle.paper.specs.Lists.{Takes, held, openingHeld, openedShown, askingHeld, takingHeld};
 ghost use Rattle.paper.specs.Codec.{lines};
 ghost use Rattle.paper.specs.Lines.{Writes};
@@ -12,11 +11,17 @@ use paper::lists::Taken;
 use paper::orders::Order;
 
 // [9.11] Refusals 1, 5.
-pub fn open_list(table: u32, measure: u8, d: usize, probe: &[i32], reach: u64) -> Opened
-    ensures { λ r. ⌜ r ≡ openedShown (openingHeld (record { order = Near; table = table; measure = measure; d = d; probe = now (probe .entry); reach = reach })) ⌝ }
+pub fn open_list(
+    order: Order,
+    table: u32,
+    measure: u8,
+    d: usize,
+    probe: &[i32],
+    reach: u64,
+) -> Opened
+    ensures { λ r. ⌜ r ≡ openedShown (openingHeld (record { order = order; table = table; measure = measure; d = d; probe = now (probe .entry); reach = reach })) ⌝ }
 {
-    let near = Order::Near;
-    end_tablet::open_list(near, table, measure, d, probe, reach)
+    end_tablet::open_list(order, table, measure, d, probe, reach)
 }
 
 // [9.12] Refusals 2, 16, 6, 12.

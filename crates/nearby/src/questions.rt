@@ -2,7 +2,6 @@
 ghost use mathlib.Core.Path.{_≡_};
 ghost use Prim.Native.Nat.{_*_};
 ghost use lib.ListN.{length, take};
-ghost use Rattle.paper.specs.declared.orders.Order.the-variants.{Near};
 ghost use Rattle.paper.specs.Outcomes.{Promise, Shows};
 ghost use Rattle.paper.specs.Tree.{lent};
 ghost use Rattle.paper.specs.Calls.{nearestCall, farthestCall, nearestShown, NothingJust, pageCall, pageShown, putPage};
@@ -64,13 +63,14 @@ pub fn page(
     references: &[u32],
     coordinates: &[i32],
     nodes: &[u64],
+    order: Order,
     probe: &[i32],
     reach: u64,
     place: Place,
     size: usize,
     room: &mut [u64],
 ) -> Page
-    ensures { λ r. ⌜ Promise pageShown putPage (pageCall (lent t (references .entry) (coordinates .entry) (nodes .entry)) Near (now (probe .entry)) reach place size (length (now (room .entry)))) (now (room .entry)) r (now (room .exit)) ⌝ }
+    ensures { λ r. ⌜ Promise pageShown putPage (pageCall (lent t (references .entry) (coordinates .entry) (nodes .entry)) order (now (probe .entry)) reach place size (length (now (room .entry)))) (now (room .entry)) r (now (room .exit)) ⌝ }
 {
     let why = table_refusal(t, references, coordinates, nodes);
     if why != 0 {
@@ -82,13 +82,12 @@ pub fn page(
     if !size_holds(size) {
         return Page::Refused(6);
     }
-    let near = Order::Near;
     walk_tested::page_here(
         t,
         references,
         coordinates,
         nodes,
-        near,
+        order,
         probe,
         reach,
         place,

@@ -8,7 +8,6 @@ use lib.ListN.{length}
 use borrow.Author.Tests.{le-leb, leb-true, eq-eqb, eqb-true, not-true, not-false}
 use Rattle.paper.specs.declared.lines.Scope.{Scope}
 use Rattle.paper.specs.declared.lines.Wrote.{Wrote}
-use Rattle.paper.specs.declared.orders.Order.{Order}
 use Rattle.paper.specs.declared.queries.Query as queries
 use Rattle.paper.specs.declared.lists.List as lists
 use Rattle.paper.specs.declared.lists.Taken.{Taken}
@@ -22,12 +21,12 @@ use Rattle.c_values.specs.Values.{writtenOut, WritesOut}
 use Rattle.paper.specs.Orders.{Query, queryIn}
 use Rattle.paper.specs.Fields.{queryInSlots}
 use Rattle.paper.specs.Frames.{frameOf, isLine}
-use Rattle.paper.specs.Lines.{Writes, wroteShown, putLine, reading, queryAt, answerKind, askFits, isAsk, askAt, anAsk, noAsk, readAsAsk, answerFits, answerOk, answerAt, anAnswer, noAnswer, readAsAnswer}
+use Rattle.paper.specs.Lines.{Writes, wroteShown, putLine, reading, queryAt, askFits, isAsk, askAt, anAsk, noAsk, readAsAsk, answerFits, isAnswer, answerAt, anAnswer, noAnswer, readAsAnswer}
 use Rattle.paper.specs.Limits.{mostCoordinates}
 use Rattle.paper.proofs.Tests.{and-first, and-second, and-both, refuted, never}
 use Rattle.lines.proofs.QueryTests.{QueryFits}
 use Rattle.lines.proofs.AskTests.{ask-fits, any-ask}
-use Rattle.lines.proofs.AnswerTests.{answer-fits, is-answer}
+use Rattle.lines.proofs.AnswerTests.{answer-fits, any-answer}
 use Rattle.orders.proofs.Rooms.{query-placed}
 
 -- ---- promises
@@ -91,12 +90,12 @@ ask-narrow l = go (isLine l) (isAsk (frameOf l)) refl
     go true false e = unfold noAsk in lit≤ tt
     go false b e = unfold noAsk in lit≤ tt
 
-pub answer-narrow : (o : Order) (l : List ℕ) → readAsAnswer o l .answer .query .d ≤ mostCoordinates
+pub answer-narrow : (l : List ℕ) → readAsAnswer l .answer .query .d ≤ mostCoordinates
 unfolding readAsAnswer reading
-answer-narrow o l = go (isLine l) (answerOk (answerKind o) (frameOf l)) refl
+answer-narrow l = go (isLine l) (isAnswer (frameOf l)) refl
   where
-    go : (a b : Bool) → answerOk (answerKind o) (frameOf l) ≡ b
-        → cond a (cond b (anAnswer (answerAt o (frameOf l))) (noAnswer 10)) (noAnswer 9) .answer .query .d ≤ mostCoordinates
-    go true true e = unfold anAnswer in unfold answerAt in unfold queryAt in is-answer (answerKind o) (frameOf l) e .headed .range .narrow
+    go : (a b : Bool) → isAnswer (frameOf l) ≡ b
+        → cond a (cond b (anAnswer (answerAt (frameOf l))) (noAnswer 10)) (noAnswer 9) .answer .query .d ≤ mostCoordinates
+    go true true e = unfold anAnswer in unfold answerAt in unfold queryAt in any-answer (frameOf l) e .headed .range .narrow
     go true false e = unfold noAnswer in lit≤ tt
     go false b e = unfold noAnswer in lit≤ tt

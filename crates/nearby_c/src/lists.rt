@@ -1,30 +1,33 @@
-// A tablet's list: opened, asking, taking.
+// A tablet's list: opened in an order, asking and taking lines of that order's kinds.
 ghost use mathlib.Core.Path.{_≡_};
 ghost use lib.ListN.{length};
 ghost use Rattle.paper.specs.Lists.{held, openingHeld, openedShown, askingHeld, takingHeld};
 ghost use Rattle.paper.specs.Codec.{lines};
-ghost use Rattle.c_lists.specs.Values.{nearQuery, listIn, openedOut, TakesOut};
+ghost use Rattle.c_lists.specs.Values.{queryFrom, listIn, openedOut, TakesOut};
 ghost use Rattle.c_values.specs.Values.{WritesOut};
 use c_lists::Listed;
 use c_lists::Listing;
 use c_lists::list_in;
 use c_lists::list_opened;
 use c_lists::list_taken;
+use c_lists::order_in;
 use c_values::Written;
 use c_values::line_of;
 
 // [9.11] Refusals 1, 5.
 #[no_mangle]
 pub extern "C" fn nearby_open_list(
+    order: u8,
     table: u32,
     measure: u8,
     d: usize,
     probe: &[i32],
     reach: u64,
 ) -> Listed
-    ensures { λ r. ⌜ r ≡ openedOut (openedShown (openingHeld (nearQuery table measure d (now (probe .entry)) reach))) ⌝ }
+    ensures { λ r. ⌜ r ≡ openedOut (openedShown (openingHeld (queryFrom order table measure d (now (probe .entry)) reach))) ⌝ }
 {
-    let opened = nearby::open_list(table, measure, d, probe, reach);
+    let own = order_in(order);
+    let opened = nearby::open_list(own, table, measure, d, probe, reach);
     list_opened(opened)
 }
 

@@ -1,11 +1,12 @@
 // The three questions to a table, each of which tests the table first.
 ghost use mathlib.Core.Path.{_≡_};
 ghost use lib.ListN.{length};
-ghost use Rattle.paper.specs.declared.orders.Order.the-variants.{Near};
 ghost use Rattle.paper.specs.Tree.{lent};
 ghost use Rattle.paper.specs.Outcomes.{Promise};
 ghost use Rattle.paper.specs.Calls.{nearestCall, farthestCall, nearestShown, pageCall, pageShown, putPage};
+ghost use Rattle.c_lists.specs.Values.{orderIn};
 ghost use Rattle.c_values.specs.Values.{itemOut, NothingOut, filledOut, placeOf};
+use c_lists::order_in;
 use c_values::Filled;
 use c_values::Item;
 use c_values::Start;
@@ -51,20 +52,23 @@ pub extern "C" fn nearby_page(
     references: &[u32],
     coordinates: &[i32],
     nodes: &[u64],
+    order: u8,
     probe: &[i32],
     reach: u64,
     start: Start,
     size: usize,
     room: &mut [u64],
 ) -> Filled
-    ensures { λ r. ⌜ Promise (λ o. filledOut (pageShown o)) putPage (pageCall (lent t (references .entry) (coordinates .entry) (nodes .entry)) Near (now (probe .entry)) reach (placeOf start) size (length (now (room .entry)))) (now (room .entry)) r (now (room .exit)) ⌝ }
+    ensures { λ r. ⌜ Promise (λ o. filledOut (pageShown o)) putPage (pageCall (lent t (references .entry) (coordinates .entry) (nodes .entry)) (orderIn order) (now (probe .entry)) reach (placeOf start) size (length (now (room .entry)))) (now (room .entry)) r (now (room .exit)) ⌝ }
 {
+    let own = order_in(order);
     let place = place_of(start);
     let page = nearby::page(
         t,
         references,
         coordinates,
         nodes,
+        own,
         probe,
         reach,
         place,

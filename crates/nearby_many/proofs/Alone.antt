@@ -11,7 +11,7 @@ use lib.IntN.{ℤ}
 use lib.ListN.{length, getD, take, drop, length-take, length-drop}
 use lib.Seq.{sets, sets-eq, length-take-le}
 use borrow.Author.Tests.{leb-true, eqb-true, eq-eqb}
-use Rattle.paper.specs.declared.orders.Order.the-variants.{Near}
+use Rattle.paper.specs.declared.orders.Order.{Order}
 use Rattle.paper.specs.declared.orders.Place.{Place}
 use Rattle.paper.specs.Points.{point}
 use Rattle.paper.specs.Orders.{Query, Found, foundShown, following, pageOf, snapshotHolds, markHolds}
@@ -23,7 +23,7 @@ use Rattle.tree.proofs.PointsInMemory.{before-next}
 use Rattle.orders.proofs.Rooms.{fronted-length}
 use Rattle.paper.proofs.Outcomes.{must-test, must-rest, must-go, same-given}
 use Rattle.rows.specs.Answers.{foundRow, pageRow}
-use Rattle.rows.specs.Places.{placeAt}
+use Rattle.rows.specs.Places.{placeNumbers, orderAt, placeAt}
 use Rattle.rows.proofs.AnswerRows.{found-wide, page-wide}
 use Rattle.nearby_many.specs.Rows.{row, each, putFound}
 use Rattle.nearby_many.specs.Many.{probeAt, nearestAt, farthestAt, firstsCall, nearestEach, farthestEach, RowAsAlone}
@@ -50,17 +50,17 @@ unfolding thePage pageOf
 page-fits q s place size l h =
     fronted-length (pageOf q (claimsIn s) place size) l (omega (arith, length-take size (following q (claimsIn s) place)))
 
-page-fills : (s : Store) (probe : List ℤ) (reach : ℕ) (place : Place) (size room : ℕ) (l : List ℕ) → length l ≡ size * 3
-    → length (leaves putPage (pageCall s Near probe reach place size room) l) ≡ length l
+page-fills : (s : Store) (order : Order) (probe : List ℤ) (reach : ℕ) (place : Place) (size room : ℕ) (l : List ℕ) → length l ≡ size * 3
+    → length (leaves putPage (pageCall s order probe reach place size room) l) ≡ length l
 unfolding pageCall
-page-fills s probe reach place size room l h =
+page-fills s order probe reach place size room l h =
     room-kept (fits s) 1 _ l
     (room-kept (sound s) 2 _ l
     (room-kept (eqb (length probe) (s .table .d)) 5 _ l
     (room-kept (sizeHolds size) 6 _ l
     (room-kept (snapshotHolds (claimsIn s) place) 7 _ l
-    (room-kept (markHolds (tableQuery (s .table) Near probe reach) (claimsIn s) place) 8 _ l
-    (room-kept (leb (size * 3) room) 12 _ l (page-fits (tableQuery (s .table) Near probe reach) s place size l h)))))))
+    (room-kept (markHolds (tableQuery (s .table) order probe reach) (claimsIn s) place) 8 _ l
+    (room-kept (leb (size * 3) room) 12 _ l (page-fits (tableQuery (s .table) order probe reach) s place size l h)))))))
 
 -- ---- the nearest and the farthest
 
@@ -148,7 +148,7 @@ module _ (s : Store) (probes : List ℤ) (reaches places : List ℕ) (size : ℕ
   unfolding pagesEach
   past-6 =
       must-rest (sizeHolds size) 6 _ after
-      (must-rest (eqb (length places) (4 * n)) 5 _ after
+      (must-rest (eqb (length places) (placeNumbers * n)) 5 _ after
       (must-rest (eqb (length probes) (s .table .d * n)) 5 _ after
       (must-rest (sound s) 2 _ after
       (must-rest (fits s) 1 _ after h))))
@@ -169,14 +169,14 @@ module _ (s : Store) (probes : List ℤ) (reaches places : List ℕ) (size : ℕ
       each-rowed (size * 3) (putPageItems page (size * 3)) (λ i l. leaves putPage (page i) l)
       (record {
         writes = λ i l k. refl;
-        fills = λ i l e. page-fills s (probeAt s probes i) (getD reaches i 0) (placeAt places i) size (size * 3) l e ∙ e;
+        fills = λ i l e. page-fills s (orderAt places i) (probeAt s probes i) (getD reaches i 0) (placeAt places i) size (size * 3) l e ∙ e;
       })
       n (before .items)
       (leb-true (n * (size * 3)) (length (before .items)) (must-test (leb (n * (size * 3)) (length (before .items))) 12 (gives (bothRooms Shown Items)) after past-12))
 
   -- row i is what the single call gives for question i
   pub page-as-alone : (i : ℕ) → i < length reaches
-      → PageAlone (pageCall s Near (probeAt s probes i) (getD reaches i 0) (placeAt places i) size (size * 3))
+      → PageAlone (pageCall s (orderAt places i) (probeAt s probes i) (getD reaches i 0) (placeAt places i) size (size * 3))
       (row 3 i (after .outcomes)) (row (size * 3) i (before .items)) (row (size * 3) i (after .items))
   page-as-alone i j =
       record {

@@ -22,7 +22,8 @@ use Rattle.tree.proofs.PointsInMemory.{before-next}
 use Rattle.paper.proofs.Outcomes.{must-stop, must-go, number-0, must-behind, stops, promise-refused, promise-given}
 use Rattle.walk_tested.specs.Askable.{Askable}
 use Rattle.rows.specs.Answers.{pageRow}
-use Rattle.rows.specs.Places.{placeAt}
+use Rattle.paper.specs.declared.orders.Order.{Order}
+use Rattle.rows.specs.Places.{placeNumbers, orderAt, placeAt}
 use Rattle.nearby_many.specs.Rows.{row, each, instead}
 use Rattle.nearby_many.specs.Counts.{manyRefusal}
 use Rattle.nearby_many.specs.Pages.{pageAt, putOutcome, putPageItems, PageRooms, bothRooms, onPages, pagesRefusal, pagesEach, OnePage, AllPages}
@@ -40,23 +41,23 @@ module _ (s : Store) (probes n places size outcomes items : ℕ) where
     unfolding pagesRefusal
     pages-many h = sym (ap number (many-refused s probes n why we _ h))
 
-    module _ (ok : why ≡ 0) (a : Bool) (ae : a ≡ eqb places (4 * n)) where
+    module _ (ok : why ≡ 0) (a : Bool) (ae : a ≡ eqb places (placeNumbers * n)) where
       abbrev from-5 : Outcome ℕ
-      from-5 = must (eqb places (4 * n)) 5 (must (sizeHolds size) 6 (must (leb (n * 3) outcomes) 12 (must (leb (n * (size * 3)) items) 12 (gives n))))
+      from-5 = must (eqb places (placeNumbers * n)) 5 (must (sizeHolds size) 6 (must (leb (n * 3) outcomes) 12 (must (leb (n * (size * 3)) items) 12 (gives n))))
 
       to-5 : whole ≡ number from-5
       unfolding pagesRefusal
       to-5 = ap number (many-goes s probes n why we ok from-5)
 
       pub pages-5 : not a ≡ true → 5 ≡ whole
-      pages-5 h = sym (to-5 ∙ ap number (must-stop (eqb places (4 * n)) 5 _ (sym ae ∙ not-true a h)))
+      pages-5 h = sym (to-5 ∙ ap number (must-stop (eqb places (placeNumbers * n)) 5 _ (sym ae ∙ not-true a h)))
 
       module _ (ha : not a ≡ false) (b : Bool) (be : b ≡ sizeHolds size) where
         abbrev from-6 : Outcome ℕ
         from-6 = must (sizeHolds size) 6 (must (leb (n * 3) outcomes) 12 (must (leb (n * (size * 3)) items) 12 (gives n)))
 
         to-6 : whole ≡ number from-6
-        to-6 = to-5 ∙ ap number (must-go (eqb places (4 * n)) 5 from-6 (sym ae ∙ not-false a ha))
+        to-6 = to-5 ∙ ap number (must-go (eqb places (placeNumbers * n)) 5 from-6 (sym ae ∙ not-false a ha))
 
         pub pages-6 : not b ≡ true → 6 ≡ whole
         pages-6 h = sym (to-6 ∙ ap number (must-stop (sizeHolds size) 6 _ (sym be ∙ not-true b h)))
@@ -98,19 +99,20 @@ pub row-askable : (s : Store) (probes : List ℤ) (i size places outcomes items 
 row-askable s probes i size places outcomes items h =
     record { tested = h .tested; aimed = part-length (s .table .d) i probes (h .aimed); size = h .size }
 
-module _ (f : List ℤ → Place → ℕ → Outcome ThePage) (d i w : ℕ) (probes : List ℤ) (places : List ℕ) (q : Place) (items outcomes : List ℕ)
-    (qe : q ≡ placeAt places i) (long : i * w + w ≤ length items) where
+module _ (f : Order → List ℤ → Place → ℕ → Outcome ThePage) (d i w : ℕ) (probes : List ℤ) (places : List ℕ) (o : Order) (q : Place) (items outcomes : List ℕ)
+    (oe : o ≡ orderAt places i) (qe : q ≡ placeAt places i) (long : i * w + w ≤ length items) where
   abbrev asked : Outcome ThePage
-  asked = f (take (i * d + d - i * d) (drop (i * d) probes)) q (length (take (i * w + w - i * w) (drop (i * w) items)))
+  asked = f o (take (i * d + d - i * d) (drop (i * d) probes)) q (length (take (i * w + w - i * w) (drop (i * w) items)))
 
   abbrev meant : Outcome ThePage
-  meant = f (point d probes i) (placeAt places i) w
+  meant = f (orderAt places i) (point d probes i) (placeAt places i) w
 
   asked-is : asked ≡ meant
   asked-is =
-      ap (λ (x : List ℤ). f x q (length (take (i * w + w - i * w) (drop (i * w) items)))) (part-point d i probes)
-      ∙ ap (λ (x : Place). f (point d probes i) x (length (take (i * w + w - i * w) (drop (i * w) items)))) qe
-      ∙ ap (f (point d probes i) (placeAt places i)) (part-length w i items long)
+      ap (λ (x : List ℤ). f o x q (length (take (i * w + w - i * w) (drop (i * w) items)))) (part-point d i probes)
+      ∙ ap (λ (x : Order). f x (point d probes i) q (length (take (i * w + w - i * w) (drop (i * w) items)))) oe
+      ∙ ap (λ (x : Place). f (orderAt places i) (point d probes i) x (length (take (i * w + w - i * w) (drop (i * w) items)))) qe
+      ∙ ap (f (orderAt places i) (point d probes i) (placeAt places i)) (part-length w i items long)
 
   pub page-row-is : (p : answers.Page) (after ys : List ℕ) → Promise pageShown putPage asked (take (i * w + w - i * w) (drop (i * w) items)) p ys
       → after ≡ sets outcomes (i * 3) (pageRow p)
@@ -148,7 +150,7 @@ then-pages s probes n places size outcomes items x =
     must-behind (fits s) 1 _ x _
     (must-behind (sound s) 2 _ x _
     (must-behind (eqb probes (s .table .d * n)) 5 _ x _
-    (must-behind (eqb places (4 * n)) 5 _ x _
+    (must-behind (eqb places (placeNumbers * n)) 5 _ x _
     (must-behind (sizeHolds size) 6 _ x _
     (must-behind (leb (n * 3) outcomes) 12 _ x _
     (must-behind (leb (n * (size * 3)) items) 12 x x (gives n) refl))))))
@@ -183,20 +185,20 @@ module _ (s : Store) (probes : List ℤ) (reaches places : List ℕ) (size : ℕ
         let p₁ = number-0 (fits s) 0 _ (sym we ∙ ok) in
         let p₂ = number-0 (sound s) 1 _ (p₁ .1) in
         let p₅ = number-0 (eqb (length probes) (s .table .d * n)) 4 _ (p₂ .1) in
-        let q₅ = number-0 (eqb (length places) (4 * n)) 4 _ (p₅ .1) in
+        let q₅ = number-0 (eqb (length places) (placeNumbers * n)) 4 _ (p₅ .1) in
         let p₆ = number-0 (sizeHolds size) 5 _ (q₅ .1) in
         let p₁₂ = number-0 (leb (n * 3) (length (before .outcomes))) 11 _ (p₆ .1) in
         let q₁₂ = number-0 (leb (n * (size * 3)) (length (before .items))) 11 (gives n) (p₁₂ .1) in (
           record {
             tested = rw (p₁ .0, p₂ .0);
             aimed = eqb-true (length probes) (s .table .d * n) (p₅ .0);
-            places = eqb-true (length places) (4 * n) (q₅ .0);
+            places = eqb-true (length places) (placeNumbers * n) (q₅ .0);
             size = p₆ .0;
             outcomes = leb-true (n * 3) (length (before .outcomes)) (p₁₂ .0);
             items = leb-true (n * (size * 3)) (length (before .items)) (q₁₂ .0);
           },
           must-go (fits s) 1 _ (p₁ .0) ∙ must-go (sound s) 2 _ (p₂ .0) ∙ must-go (eqb (length probes) (s .table .d * n)) 5 _ (p₅ .0)
-              ∙ must-go (eqb (length places) (4 * n)) 5 _ (q₅ .0) ∙ must-go (sizeHolds size) 6 _ (p₆ .0)
+              ∙ must-go (eqb (length places) (placeNumbers * n)) 5 _ (q₅ .0) ∙ must-go (sizeHolds size) 6 _ (p₆ .0)
               ∙ must-go (leb (n * 3) (length (before .outcomes))) 12 _ (p₁₂ .0)
               ∙ must-go (leb (n * (size * 3)) (length (before .items))) 12 (gives done) (q₁₂ .0),
         )

@@ -7,13 +7,12 @@ use lib.Dec.{leb, eqb}
 use lib.IntN.{ℤ}
 use lib.ListN.{length, getD, take, drop}
 use lib.Seq.{sets}
-use Rattle.paper.specs.declared.orders.Order.the-variants.{Near}
 use Rattle.paper.specs.Outcomes.{Outcome, gives, must, number, leaves}
 use Rattle.paper.specs.Tree.{Store}
 use Rattle.paper.specs.Ends.{sizeHolds}
 use Rattle.paper.specs.Calls.{ThePage, pageCall, pageShown, putPage, tableRefusal}
 use Rattle.rows.specs.Answers.{pageRow}
-use Rattle.rows.specs.Places.{placeAt}
+use Rattle.rows.specs.Places.{placeNumbers, orderAt, placeAt}
 use Rattle.nearby_many.specs.Counts.{onMany}
 use Rattle.nearby_many.specs.Rows.{row, each}
 use Rattle.nearby_many.specs.Many.{probeAt}
@@ -21,7 +20,7 @@ use Rattle.nearby_many.specs.Many.{probeAt}
 -- [4.16] what the single call gives for question i, in a room for one page
 abbrev pub pageAt : Store → List ℤ → List ℕ → List ℕ → ℕ → ℕ → Outcome ThePage
 pageAt s probes reaches places size i =
-    pageCall s Near (probeAt s probes i) (getD reaches i 0) (placeAt places i) size (size * 3)
+    pageCall s (orderAt places i) (probeAt s probes i) (getD reaches i 0) (placeAt places i) size (size * 3)
 
 -- its outcome in row i
 abbrev pub putOutcome : (ℕ → Outcome ThePage) → ℕ → List ℕ → List ℕ
@@ -39,12 +38,12 @@ pub record PageRooms : Type 0 where
 abbrev pub bothRooms : List ℕ → List ℕ → PageRooms
 bothRooms outcomes items = record { outcomes = outcomes; items = items }
 
--- [9.17] [8.5] [8.12] 5 where there are not d coordinates or not four numbers of a place for each question; 12 where there are under three
+-- [9.17] [8.5] [8.12] 5 where there are not d coordinates or not five numbers of order and place for each question; 12 where there are under three
 -- numbers of outcome or under a page of items for each
 abbrev pub onPages : {A : Type 0} → Store → (probes n places size outcomes items : ℕ) → Outcome A → Outcome A
 onPages s probes n places size outcomes items x =
     onMany s probes n
-    (must (eqb places (4 * n)) 5
+    (must (eqb places (placeNumbers * n)) 5
     (must (sizeHolds size) 6
     (must (leb (n * 3) outcomes) 12
     (must (leb (n * (size * 3)) items) 12 x))))
@@ -71,7 +70,7 @@ pub record PageAlone (single : Outcome ThePage) (shown before after : List ℕ) 
 pub record OnePage (s : Store) (probes places i n outcomes rest : ℕ) : Type 0 where
   pub tested : 0 ≡ tableRefusal s
   pub aimed : i * s .table .d + s .table .d ≤ probes
-  pub place : i * 4 + 4 ≤ places
+  pub place : i * placeNumbers + placeNumbers ≤ places
   pub size : sizeHolds n ≡ true
   pub outcome : i * 3 + 3 ≤ outcomes
   pub items : i * (n * 3) + n * 3 ≤ rest
@@ -80,7 +79,7 @@ pub record OnePage (s : Store) (probes places i n outcomes rest : ℕ) : Type 0 
 pub record AllPages (s : Store) (probes n spots k shown rest : ℕ) : Type 0 where
   pub tested : 0 ≡ tableRefusal s
   pub aimed : probes ≡ s .table .d * n
-  pub places : spots ≡ 4 * n
+  pub places : spots ≡ placeNumbers * n
   pub size : sizeHolds k ≡ true
   pub outcomes : n * 3 ≤ shown
   pub items : n * (k * 3) ≤ rest

@@ -1,21 +1,21 @@
-// Many pages.
+// Many pages, each in an order of its own.
 ghost use mathlib.Core.Path.{_≡_};
 ghost use Prim.Native.Nat.{_*_};
 ghost use lib.ListN.{length};
-ghost use Rattle.paper.specs.declared.orders.Order.the-variants.{Near};
 ghost use Rattle.paper.specs.Points.{point};
 ghost use Rattle.paper.specs.Outcomes.{Promise, number};
 ghost use Rattle.paper.specs.Tree.{lent};
 ghost use Rattle.paper.specs.Calls.{pageCall};
-ghost use Rattle.rows.specs.Places.{placeAt};
+ghost use Rattle.rows.specs.Places.{orderAt, placeAt};
 ghost use Rattle.nearby_many.specs.Rows.{each, instead};
 ghost use Rattle.nearby_many.specs.Pages.{pageAt, putOutcome, putPageItems, bothRooms, pagesRefusal, pagesEach, OnePage, AllPages};
 use crate::counts::many_refusal;
 use checks::is_whole;
 use checks::size_holds;
-use paper::orders::Order;
 use paper::tables::Table;
+use rows::PLACE_NUMBERS;
 use rows::has_rows;
+use rows::order_at;
 use rows::place_at;
 use rows::put_page;
 use walk_tested::page_here;
@@ -35,8 +35,8 @@ fn page_row(
     items: &mut [u64],
 )
     requires { ⌜ OnePage (lent t references coordinates nodes) (length (now probes)) (length (now places)) i size (length (now outcomes)) (length (now items)) ⌝ }
-    ensures shown { λ _. ⌜ now (outcomes .exit) ≡ putOutcome (λ k. pageCall (lent t (references .entry) (coordinates .entry) (nodes .entry)) Near (point (t .d) (now (probes .entry)) i) reach (placeAt (now (places .entry)) i) size (size * 3)) i (now (outcomes .entry)) ⌝ }
-    ensures filled { λ _. ⌜ now (items .exit) ≡ putPageItems (λ k. pageCall (lent t (references .entry) (coordinates .entry) (nodes .entry)) Near (point (t .d) (now (probes .entry)) i) reach (placeAt (now (places .entry)) i) size (size * 3)) (size * 3) i (now (items .entry)) ⌝ }
+    ensures shown { λ _. ⌜ now (outcomes .exit) ≡ putOutcome (λ k. pageCall (lent t (references .entry) (coordinates .entry) (nodes .entry)) (orderAt (now (places .entry)) i) (point (t .d) (now (probes .entry)) i) reach (placeAt (now (places .entry)) i) size (size * 3)) i (now (outcomes .entry)) ⌝ }
+    ensures filled { λ _. ⌜ now (items .exit) ≡ putPageItems (λ k. pageCall (lent t (references .entry) (coordinates .entry) (nodes .entry)) (orderAt (now (places .entry)) i) (point (t .d) (now (probes .entry)) i) reach (placeAt (now (places .entry)) i) size (size * 3)) (size * 3) i (now (items .entry)) ⌝ }
 {
     let d = t.d;
     let a = i * d;
@@ -44,14 +44,14 @@ fn page_row(
     let w = size * 3;
     let b = i * w;
     let f = b + w;
+    let order = order_at(places, i);
     let place = place_at(places, i);
-    let near = Order::Near;
     let page = page_here(
         t,
         references,
         coordinates,
         nodes,
-        near,
+        order,
         &probes[a..e],
         reach,
         place,
@@ -115,7 +115,7 @@ fn pages_refusal(
     if why != 0 {
         return why;
     }
-    if !is_whole(4, n, places) {
+    if !is_whole(PLACE_NUMBERS, n, places) {
         return 5;
     }
     if !size_holds(size) {
@@ -130,8 +130,8 @@ fn pages_refusal(
     0
 }
 
-// [9.17] [4.18] [4.19] Refusals 1, 2, 5, 6, 12, and 7, 8 of each question. For each reach there are a probe of d coordinates, a place of
-// four numbers, an outcome of three numbers and room for a page of items.
+// [9.17] [4.18] [4.19] Refusals 1, 2, 5, 6, 12, and 7, 8 of each question. For each reach there are a probe of d coordinates, five numbers of
+// order and place, an outcome of three numbers and room for a page of items.
 pub fn pages_each(
     t: Table,
     references: &[u32],

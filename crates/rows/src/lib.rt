@@ -12,4 +12,6 @@ pub use counts::has_rows;
 pub use fronts::front;
 pub use joining::join;
 pub use numbers::put_three;
+pub use places::PLACE_NUMBERS;
+pub use places::order_at;
 pub use places::place_at;

@@ -3,14 +3,17 @@ use borrow.Author.Needs.{needs}
 use Rattle.c_lists.proofs.answer_out.Statement.{statement}
 use Rattle.c_lists.proofs.answer_out.Tie as tie
 
-cast-t8 : tie.Need-cast-t8
-cast-t8 c = search needs
+order-out-requires : tie.Need-order-out-requires
+order-out-requires c κs = search needs
+
+cast-t10 : tie.Need-cast-t10
+cast-t10 c = search needs
 
 extent-of-requires : tie.Need-extent-of-requires
 extent-of-requires c κs = search needs
 
 returns : tie.Need-returns
-returns c = rw (c .extent-of .ensures)
+returns c = rw (c .before .before .order-out .ensures, c .extent-of .ensures)
 
 pub answer-out-spec : {M : Type 1} → statement M
-answer-out-spec = tie.close (tie.spec cast-t8 extent-of-requires returns)
+answer-out-spec = tie.close (tie.spec order-out-requires cast-t10 extent-of-requires returns)

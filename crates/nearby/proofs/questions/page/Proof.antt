@@ -1,6 +1,5 @@
 -- `nearby::questions::page` meets its contract: 1, 2, 5, 6, and then what a tested table gives. Assumes nothing.
 use lib.ListN.{length}
-use Rattle.paper.specs.declared.orders.Order.the-variants.{Near}
 use Rattle.paper.specs.Tree.{store}
 use Rattle.walk_tested.proofs.PageLaws.{page-refused, page-5, page-6, page-askable, page-refusal}
 use borrow.Author.Needs.{needs}
@@ -14,14 +13,14 @@ returns : tie.Need-returns
 returns c =
     let a = c .before .before .before .before .before .args in
     let s = store (a .t) (a .references .now) (a .coordinates .now) (a .nodes .now) in
-    page-refusal Near s (a .probe .now) (a .reach) (a .place) (a .size) (a .room .now) _ (page-refused Near s (a .probe .now) (a .reach) (a .place) (a .size) (length (a .room .now)) _ (c .before .table-refusal .ensures) (c .if1 .taken))
+    page-refusal (a .order) s (a .probe .now) (a .reach) (a .place) (a .size) (a .room .now) _ (page-refused (a .order) s (a .probe .now) (a .reach) (a .place) (a .size) (length (a .room .now)) _ (c .before .table-refusal .ensures) (c .if1 .taken))
 
 returns-2 : tie.Need-returns-2
 returns-2 c =
     let a = c .before .before .before .before .before .before .before .args in
     let s = store (a .t) (a .references .now) (a .coordinates .now) (a .nodes .now) in
-    page-refusal Near s (a .probe .now) (a .reach) (a .place) (a .size) (a .room .now) _
-    (page-5 Near s (a .probe .now) (a .reach) (a .place) (a .size) (length (a .room .now)) _ (c .before .before .before .table-refusal .ensures) (c .before .before .if1 .left) (c .if2 .taken))
+    page-refusal (a .order) s (a .probe .now) (a .reach) (a .place) (a .size) (a .room .now) _
+    (page-5 (a .order) s (a .probe .now) (a .reach) (a .place) (a .size) (length (a .room .now)) _ (c .before .before .before .table-refusal .ensures) (c .before .before .if1 .left) (c .if2 .taken))
 
 size-holds-requires : tie.Need-size-holds-requires
 size-holds-requires c κs = search needs
@@ -31,15 +30,15 @@ returns-3 c =
     let a = c .before .before .before .before .before .before .before .before .before .args in
     let table-refusal = c .before .before .before .before .before .table-refusal in
     let s = store (a .t) (a .references .now) (a .coordinates .now) (a .nodes .now) in
-    page-refusal Near s (a .probe .now) (a .reach) (a .place) (a .size) (a .room .now) _
-    (page-6 Near s (a .probe .now) (a .reach) (a .place) (a .size) (length (a .room .now)) _ (table-refusal .ensures) (c .before .before .before .before .if1 .left) (c .before .before .if2 .left) _ (c .before .size-holds .ensures) (c .if3 .taken))
+    page-refusal (a .order) s (a .probe .now) (a .reach) (a .place) (a .size) (a .room .now) _
+    (page-6 (a .order) s (a .probe .now) (a .reach) (a .place) (a .size) (length (a .room .now)) _ (table-refusal .ensures) (c .before .before .before .before .if1 .left) (c .before .before .if2 .left) _ (c .before .size-holds .ensures) (c .if3 .taken))
 
 page-here-requires : tie.Need-page-here-requires
 page-here-requires c κs =
     let a = c .before .before .before .before .before .before .before .before .before .before .args in
     let table-refusal = c .before .before .before .before .before .before .table-refusal in
     let if1 = c .before .before .before .before .before .if1 in
-    page-askable Near (store (a .t) (a .references .now) (a .coordinates .now) (a .nodes .now)) (a .probe .now) (a .reach) (a .place) (a .size)
+    page-askable (a .order) (store (a .t) (a .references .now) (a .coordinates .now) (a .nodes .now)) (a .probe .now) (a .reach) (a .place) (a .size)
     (length (a .room .now)) _ (table-refusal .ensures) (if1 .left) (c .before .before .before .if2 .left) _ (c .before .before .size-holds .ensures)
     (c .before .if3 .left)
 

@@ -2,7 +2,6 @@
 use Prim.Native.Nat.{_≤_}
 use mathlib.Core.Path.{ap, sym, subst, _∙_}
 use Rattle.paper.specs.declared.lines.AnswerRead.{AnswerRead}
-use Rattle.paper.specs.declared.orders.Order.the-variants.{Near}
 use Rattle.paper.specs.Limits.{mostCoordinates}
 use Rattle.c_lists.specs.Values.{answerOut}
 use Rattle.nearby_c.proofs.Exports.{answer-narrow}
@@ -14,7 +13,7 @@ read-answer-line-requires : tie.Need-read-answer-line-requires
 read-answer-line-requires c κs = search needs
 
 answer-out-requires : tie.Need-answer-out-requires
-answer-out-requires c κs = subst (λ (x : AnswerRead). x .answer .query .d ≤ mostCoordinates) (sym (c .read-answer-line .ensures)) (answer-narrow Near (c .before .before .args .line .now))
+answer-out-requires c κs = subst (λ (x : AnswerRead). x .answer .query .d ≤ mostCoordinates) (sym (c .read-answer-line .ensures)) (answer-narrow (c .before .before .args .line .now))
 
 returns : tie.Need-returns
 returns c = c .answer-out .ensures ∙ ap answerOut (c .before .read-answer-line .ensures)

@@ -5,7 +5,7 @@ use Rattle.paper.specs.Orders.{Query}
 use Rattle.paper.specs.declared.lines.Scope.{Scope}
 use Rattle.paper.specs.Lines.{wroteShown, putLine, bareLine, answerFits, answerFrame}
 use Rattle.paper.specs.Limits.{longestAnswer}
-use Rattle.c_lists.specs.Values.{nearQuery, scopeFrom}
+use Rattle.c_lists.specs.Values.{queryFrom, scopeFrom}
 use Rattle.c_values.specs.Values.{writtenOut}
 use Rattle.lines.proofs.WritersReaders.{refused-10}
 use Rattle.nearby_c.proofs.Exports.{shown-as, line-from, answer-misplaced, placed, placed-query}
@@ -23,13 +23,16 @@ returns : tie.Need-returns
 returns c =
     let a = c .before .before .before .before .before .args in
     shown-as writtenOut wroteShown putLine _ _ _ _ _
-    (refused-10 _ _ _ _ (answer-misplaced (nearQuery (a .table) (a .measure) (a .d) (a .probe .now) (a .p .reach)) (scopeFrom (a .p)) _ (c .before .before .placeable .ensures) (c .before .if1 .taken) (a .last) (a .count) (a .items .now)))
+    (refused-10 _ _ _ _ (answer-misplaced (queryFrom (a .order) (a .table) (a .measure) (a .d) (a .probe .now) (a .p .reach)) (scopeFrom (a .p)) _ (c .before .before .placeable .ensures) (c .before .if1 .taken) (a .last) (a .count) (a .items .now)))
     (c .line-of .ensures)
+
+order-in-requires : tie.Need-order-in-requires
+order-in-requires c κs = search needs
 
 query-of-requires : tie.Need-query-of-requires
 query-of-requires c κs =
     let a = c .before .before .before .before .args in
-    placed (nearQuery (a .table) (a .measure) (a .d) (a .probe .now) (a .p .reach)) (scopeFrom (a .p)) _ (c .before .placeable .ensures) (c .if1 .left)
+    placed (queryFrom (a .order) (a .table) (a .measure) (a .d) (a .probe .now) (a .p .reach)) (scopeFrom (a .p)) _ (c .before .placeable .ensures) (c .if1 .left)
 
 scope-in-requires : tie.Need-scope-in-requires
 scope-in-requires c κs = search needs
@@ -52,8 +55,8 @@ returns-2 c =
     let scope-in = c .before .before .before .before .before .scope-in in
     line-from
     (λ (q : Query) (p : Scope). bareLine (answerFits q p (a .last) (a .count) (a .items .now)) longestAnswer (answerFrame q p (a .last) (a .count) (a .items .now)) (length (a .out .now)))
-    (nearQuery (a .table) (a .measure) (a .d) (a .probe .now) (a .p .reach)) _ (scopeFrom (a .p)) _ _ _ _ _
-    (placed-query (nearQuery (a .table) (a .measure) (a .d) (a .probe .now) (a .p .reach)) (scopeFrom (a .p)) _ (placeable .ensures) (if1 .left) _ (query-of .ensures))
+    (queryFrom (a .order) (a .table) (a .measure) (a .d) (a .probe .now) (a .p .reach)) _ (scopeFrom (a .p)) _ _ _ _ _
+    (placed-query (queryFrom (a .order) (a .table) (a .measure) (a .d) (a .probe .now) (a .p .reach)) (scopeFrom (a .p)) _ (placeable .ensures) (if1 .left) _ (query-of .ensures))
     (scope-in .ensures) (c .before .before .before .write-answer-line .ensures) (c .line-of2 .ensures)
 
 pub nearby-write-answer-line-spec : {M : Type 1} → statement M
@@ -63,6 +66,7 @@ nearby-write-answer-line-spec =
     placeable-requires
     line-of-requires
     returns
+    order-in-requires
     query-of-requires
     scope-in-requires
     write-answer-line-requires

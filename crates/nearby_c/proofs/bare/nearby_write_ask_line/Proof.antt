@@ -5,7 +5,7 @@ use Rattle.paper.specs.Orders.{Query}
 use Rattle.paper.specs.declared.lines.Scope.{Scope}
 use Rattle.paper.specs.Lines.{wroteShown, putLine, bareLine, askFits, askFrame}
 use Rattle.paper.specs.Limits.{longestAsk}
-use Rattle.c_lists.specs.Values.{nearQuery, scopeFrom}
+use Rattle.c_lists.specs.Values.{queryFrom, scopeFrom}
 use Rattle.c_values.specs.Values.{writtenOut}
 use Rattle.lines.proofs.WritersReaders.{refused-10}
 use Rattle.nearby_c.proofs.Exports.{shown-as, line-from, ask-misplaced, placed, placed-query}
@@ -22,12 +22,15 @@ line-of-requires c κs = search needs
 returns : tie.Need-returns
 returns c =
     let a = c .before .before .before .before .args in
-    shown-as writtenOut wroteShown putLine _ _ _ _ _ (refused-10 _ _ _ _ (ask-misplaced (nearQuery (a .table) (a .measure) (a .d) (a .probe .now) (a .p .reach)) (scopeFrom (a .p)) _ (c .before .before .placeable .ensures) (c .before .if1 .taken) (a .size))) (c .line-of .ensures)
+    shown-as writtenOut wroteShown putLine _ _ _ _ _ (refused-10 _ _ _ _ (ask-misplaced (queryFrom (a .order) (a .table) (a .measure) (a .d) (a .probe .now) (a .p .reach)) (scopeFrom (a .p)) _ (c .before .before .placeable .ensures) (c .before .if1 .taken) (a .size))) (c .line-of .ensures)
+
+order-in-requires : tie.Need-order-in-requires
+order-in-requires c κs = search needs
 
 query-of-requires : tie.Need-query-of-requires
 query-of-requires c κs =
     let a = c .before .before .before .args in
-    placed (nearQuery (a .table) (a .measure) (a .d) (a .probe .now) (a .p .reach)) (scopeFrom (a .p)) _ (c .before .placeable .ensures) (c .if1 .left)
+    placed (queryFrom (a .order) (a .table) (a .measure) (a .d) (a .probe .now) (a .p .reach)) (scopeFrom (a .p)) _ (c .before .placeable .ensures) (c .if1 .left)
 
 scope-in-requires : tie.Need-scope-in-requires
 scope-in-requires c κs = search needs
@@ -49,8 +52,8 @@ returns-2 c =
     let query-of = c .before .before .before .before .before .before .query-of in
     let scope-in = c .before .before .before .before .before .scope-in in
     let a = args in
-    line-from (λ (q : Query) (p : Scope). bareLine (askFits q p (a .size)) longestAsk (askFrame q p (a .size)) (length (a .out .now))) (nearQuery (a .table) (a .measure) (a .d) (a .probe .now) (a .p .reach)) _ (scopeFrom (a .p)) _ _ _ _ _
-    (placed-query (nearQuery (a .table) (a .measure) (a .d) (a .probe .now) (a .p .reach)) (scopeFrom (a .p)) _ (placeable .ensures) (if1 .left) _ (query-of .ensures)) (scope-in .ensures) (c .before .before .before .write-ask-line .ensures) (c .line-of2 .ensures)
+    line-from (λ (q : Query) (p : Scope). bareLine (askFits q p (a .size)) longestAsk (askFrame q p (a .size)) (length (a .out .now))) (queryFrom (a .order) (a .table) (a .measure) (a .d) (a .probe .now) (a .p .reach)) _ (scopeFrom (a .p)) _ _ _ _ _
+    (placed-query (queryFrom (a .order) (a .table) (a .measure) (a .d) (a .probe .now) (a .p .reach)) (scopeFrom (a .p)) _ (placeable .ensures) (if1 .left) _ (query-of .ensures)) (scope-in .ensures) (c .before .before .before .write-ask-line .ensures) (c .line-of2 .ensures)
 
 pub nearby-write-ask-line-spec : {M : Type 1} → statement M
 nearby-write-ask-line-spec =
@@ -59,6 +62,7 @@ nearby-write-ask-line-spec =
     placeable-requires
     line-of-requires
     returns
+    order-in-requires
     query-of-requires
     scope-in-requires
     write-ask-line-requires

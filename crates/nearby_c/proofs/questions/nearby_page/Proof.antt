@@ -1,5 +1,4 @@
 -- `nearby_c::questions::nearby_page` meets its contract: what `nearby::page` gives. Assumes nothing.
-use Rattle.paper.specs.declared.orders.Order.the-variants.{Near}
 use lib.ListN.{length}
 use Rattle.paper.specs.Tree.{store}
 use Rattle.paper.specs.Calls.{pageCall, pageShown, putPage}
@@ -8,6 +7,9 @@ use Rattle.nearby_c.proofs.Exports.{shown-from}
 use borrow.Author.Needs.{needs}
 use Rattle.nearby_c.proofs.questions.nearby_page.Statement.{statement}
 use Rattle.nearby_c.proofs.questions.nearby_page.Tie as tie
+
+order-in-requires : tie.Need-order-in-requires
+order-in-requires c κs = search needs
 
 place-of-requires : tie.Need-place-of-requires
 place-of-requires c κs = search needs
@@ -31,4 +33,4 @@ returns c =
 
 pub nearby-page-spec : {M : Type 1} → statement M
 nearby-page-spec =
-    tie.close (tie.spec place-of-requires page-requires page-of-requires same-length returns)
+    tie.close (tie.spec order-in-requires place-of-requires page-requires page-of-requires same-length returns)

@@ -2,7 +2,7 @@
 use Prim.Native.Nat.{ℕ, _*_}
 use mathlib.Core.List.{List}
 use lib.IntN.{ℤ}
-use Rattle.paper.specs.declared.orders.Order.the-variants.{Near}
+use Rattle.paper.specs.declared.orders.Order.{Order}
 use Rattle.paper.specs.declared.orders.Place.{Place}
 use Rattle.paper.specs.Tree.{store}
 use Rattle.paper.specs.Calls.{pageCall}
@@ -25,6 +25,9 @@ mul-b c = search needs
 
 add-f : tie.Need-add-f
 add-f c = search needs
+
+order-at-requires : tie.Need-order-at-requires
+order-at-requires c κs = search needs
 
 place-at-requires : tie.Need-place-at-requires
 place-at-requires c κs = search needs
@@ -55,8 +58,8 @@ part-page-here-end-2 c = search needs
 
 page-here-requires : tie.Need-page-here-requires
 page-here-requires c κs =
-    let a = c .before .before .before .before .before .before .before .before .args in
-    row-askable (store (a .t) (a .references .now) (a .coordinates .now) (a .nodes .now)) (a .probes .now) (a .i) (a .size) _ _ _ (c .before .before .before .before .before .before .before .before .pre)
+    let a = c .before .before .before .before .before .before .before .before .before .args in
+    row-askable (store (a .t) (a .references .now) (a .coordinates .now) (a .nodes .now)) (a .probes .now) (a .i) (a .size) _ _ _ (c .before .before .before .before .before .before .before .before .before .pre)
 
 put-page-requires : tie.Need-put-page-requires
 put-page-requires c κs = search needs
@@ -69,13 +72,14 @@ same-length-2 c = search needs
 
 returns : tie.Need-returns
 returns c =
-    let a = c .before .before .before .before .before .before .before .before .before .before .before .before .before .before .before .args in
-    let pre = c .before .before .before .before .before .before .before .before .before .before .before .before .before .before .before .pre in
+    let a = c .before .before .before .before .before .before .before .before .before .before .before .before .before .before .before .before .args in
+    let pre = c .before .before .before .before .before .before .before .before .before .before .before .before .before .before .before .before .pre in
+    let order-at = c .before .before .before .before .before .before .before .before .before .before .order-at in
     let place-at = c .before .before .before .before .before .before .before .before .before .place-at in
     let page-here = c .before .before .before .before .before .before .page-here in
     let s = store (a .t) (a .references .now) (a .coordinates .now) (a .nodes .now) in
-    page-row-is (λ (p : List ℤ) (q : Place) (n : ℕ). pageCall s Near p (a .reach) q (a .size) n) (a .t .d) (a .i) (a .size * 3) (a .probes .now)
-    (a .places .now) _ (a .items .now) (a .outcomes .now) (place-at .ensures) (pre .items) _ _ _ (page-here .ensures)
+    page-row-is (λ (o : Order) (p : List ℤ) (q : Place) (n : ℕ). pageCall s o p (a .reach) q (a .size) n) (a .t .d) (a .i) (a .size * 3) (a .probes .now)
+    (a .places .now) _ _ (a .items .now) (a .outcomes .now) (order-at .ensures) (place-at .ensures) (pre .items) _ _ _ (page-here .ensures)
     (c .before .before .put-page .ensures)
 
 pub page-row-spec : {M : Type 1} → statement M
@@ -87,6 +91,7 @@ page-row-spec =
     mul-w
     mul-b
     add-f
+    order-at-requires
     place-at-requires
     mul-page-here
     sub-page-here

@@ -7,6 +7,9 @@ use Rattle.rows.proofs.places.place_at.Tie as tie
 mul-at : tie.Need-mul-at
 mul-at c = search needs
 
+add-if1 : tie.Need-add-if1
+add-if1 c = search needs
+
 mul-if1 : tie.Need-mul-if1
 mul-if1 c = search needs
 
@@ -19,11 +22,11 @@ returns c = let a = c .before .before .before .args in place-start (a .places .n
 add-t4 : tie.Need-add-t4
 add-t4 c = search needs
 
-mul-t8 : tie.Need-mul-t8
-mul-t8 c = search needs
+mul-t5 : tie.Need-mul-t5
+mul-t5 c = search needs
 
-shared-slice-read-t6 : tie.Need-shared-slice-read-t6
-shared-slice-read-t6 c = search needs
+shared-slice-read-t7 : tie.Need-shared-slice-read-t7
+shared-slice-read-t7 c = search needs
 
 add-at : tie.Need-add-at
 add-at c = search needs
@@ -54,12 +57,13 @@ place-at-spec =
     tie.close
     (tie.spec
     mul-at
+    add-if1
     mul-if1
     shared-slice-read-if1
     returns
     add-t4
-    mul-t8
-    shared-slice-read-t6
+    mul-t5
+    shared-slice-read-t7
     add-at
     mul-at-2
     shared-slice-read-at
