@@ -50,7 +50,7 @@ static const struct {
     [DAMAGED] = { "lines damaged", 4000, 0 },
     [CARRIED_OVER] = { "lines carried over to the next journey", 2500, 0 },
     [TAKEN] = { "answers taken", 12000, 6000 },
-    [OF_THE_OTHER_ORDER] = { "answers that came to a list of the other order", 20000, 10000 },
+    [OF_THE_OTHER_ORDER] = { "answers that came to a list of the other order", 15000, 7500 },
     [COMPLETED] = { "lists completed", 5000, 2500 },
     [ITEMS] = { "items in them", 80000, 40000 },
     [SNAPSHOTS] = { "sum of their snapshots", 90000, 45000 },
@@ -73,7 +73,7 @@ static const size_t stated_refused[CALLS][NUMBERS] = {
     [ENTER] = { [3] = 4000, [5] = 1500 },
     [ANSWER] = { [9] = 1000, [10] = 5000, [11] = 10000 },
     [WRITE_ASK] = { [6] = 4000, [16] = 600 },
-    [TAKE] = { [9] = 1000, [10] = 5000, [13] = 20000, [15] = 5000, [16] = 2500 },
+    [TAKE] = { [9] = 1000, [10] = 20000, [13] = 20000, [15] = 5000, [16] = 2500 },
 };
 
 void check_counts(void)

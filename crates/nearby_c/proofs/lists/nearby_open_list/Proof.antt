@@ -15,7 +15,7 @@ list-opened-requires : tie.Need-list-opened-requires
 list-opened-requires c κs = search needs
 
 returns : tie.Need-returns
-returns c = c .list-opened .ensures ∙ ap openedOut (c .before .open-list .ensures ∙ rw (c .before .before .order-in .ensures))
+returns c = c .list-opened .ensures ∙ ap openedOut (c .before .open-list .ensures) ∙ rw (c .before .before .order-in .ensures)
 
 pub nearby-open-list-spec : {M : Type 1} → statement M
 nearby-open-list-spec = tie.close (tie.spec order-in-requires open-list-requires list-opened-requires returns)

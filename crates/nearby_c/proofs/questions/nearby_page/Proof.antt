@@ -25,11 +25,13 @@ same-length c = search needs
 
 returns : tie.Need-returns
 returns c =
-    let args = c .before .before .before .before .before .before .before .before .before .args in
+    let args = c .before .before .before .before .before .before .before .before .before .before .args in
+    let order-in = c .before .before .before .before .before .before .order-in in
     let place-of = c .before .before .before .before .before .place-of in
-    shown-from filledOut pageShown putPage
-    (λ q. pageCall (store (args .t) (args .references .now) (args .coordinates .now) (args .nodes .now)) Near (args .probe .now) (args .reach) q (args .size) (length (args .room .now))) _ _ _ _ _ _
-    (place-of .ensures) (c .before .before .before .page .ensures) (c .page-of .ensures)
+    rw (← order-in .ensures)
+    (shown-from filledOut pageShown putPage
+    (λ q. pageCall (store (args .t) (args .references .now) (args .coordinates .now) (args .nodes .now)) (order-in .result) (args .probe .now) (args .reach) q (args .size) (length (args .room .now))) _ _ _ _ _ _
+    (place-of .ensures) (c .before .before .before .page .ensures) (c .page-of .ensures))
 
 pub nearby-page-spec : {M : Type 1} → statement M
 nearby-page-spec =
