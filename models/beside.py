@@ -1,4 +1,4 @@
-"""A model of scan_beside: the same tables and questions, answered from the rules by a sort; prints what the program has to print.
+"""A model of beside: the same tables and questions, answered from the rules by a sort; prints what the program has to print.
 
 Two ways that share only the distance: a sort of all claims, in near and in far order, and a neartree built and walked by the
 rules. The sort gives the counts; the last line counts where the neartree's answer is another one.
@@ -177,7 +177,7 @@ class Tree:
 
 
 class Counts:
-    pages = refused = items = lasts = firsts = nothing = wrong = 0
+    pages = far = refused = items = lasts = firsts = nothing = wrong = 0
 
 
 def drawn(table, probe, x):
@@ -212,6 +212,7 @@ def ask_page(table, tree, probe, x, c):
     far, reach, place, size = drawn(table, probe, x)
     answer = table.page(far, probe, reach, place, size, 16)
     c.pages += 1
+    c.far += far
     if isinstance(answer, int):
         c.refused += 1
         c.wrong += not (answer == 8 and place is not None and place[1][0] > reach)
@@ -263,7 +264,7 @@ def main():
     for i in range(96):
         one_table(i, c)
     for line in [
-        f"{c.pages} pages, of them refused for a mark beyond the reach {c.refused}",
+        f"{c.pages} pages, of them in far order {c.far}, refused for a mark beyond the reach {c.refused}",
         f"{c.items} items, {c.lasts} last pages",
         f"{c.firsts} nearest and farthest, of them nothing {c.nothing}",
         f"{c.wrong} not the scan's",

@@ -4,7 +4,7 @@ import collections
 # ns: median time of a question; called, alone: medians of the ratios to the library's time, with its call and without.
 Result = collections.namedtuple("Result", "n d measure spread task who ns called alone")
 
-QUESTIONS = ["nearest", "farthest", "first page", "fifth page", "office line"]
+QUESTIONS = ["nearest", "farthest", "first page", "fifth page", "far first page", "far fifth page", "office line"]
 TASKS = QUESTIONS + ["entering", "soundness test", "single nearest"]
 OTHERS = ["plain scan", "vector scan", "NearTree", "nanoflann"]
 SIZES = [64, 256, 1024, 4096]

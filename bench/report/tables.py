@@ -104,7 +104,7 @@ def main():
     print("### The plane: city block, uniform claims\n")
     print("Microseconds for each question, and in brackets the ratio to ours, as called / alone. Over 1, ours is ahead.\n")
     print(plane_table(results))
-    print("Office lines a second, first and fifth pages by turns:\n")
+    print("Office lines a second, first and fifth pages of both orders by turns:\n")
     print(office_table(results))
     for n in (4096, 64):
         print(f"### The whole grid at n = {n:,}\n")

@@ -65,19 +65,30 @@ static int compare_points(const void *a, const void *b)
     return 0;
 }
 
-/* The place behind the fourth page of question i, by four pages of the plain scan. */
-static void find_fifth_place(const struct cell *cell, const void *table, size_t i, uint64_t *place)
+/* Moves the place of question i behind its fourth page, by four pages of the plain scan. */
+static void pass_four_pages(const struct cell *cell, const void *table, size_t i, uint64_t *place)
 {
     uint64_t outcome[OUTCOME], items[ITEMS];
-    memset(place, 0, PLACE * sizeof *place);
     for (int page = 0; page < 4; page++) {
         scan_page(table, &cell->probes[i * cell->d], cell->reaches[i], place, NEARBY_MOST_PAGE, outcome, items);
         const uint64_t *last = &items[(outcome[1] - 1) * NEARBY_ITEM];
-        place[0] = 1;
-        place[1] = cell->n;
-        place[2] = last[2];
-        place[3] = last[0];
+        place[FROM] = 1;
+        place[SNAPSHOT] = cell->n;
+        place[MARK_DISTANCE] = last[2];
+        place[MARK_NUMBER] = last[0];
     }
+}
+
+/* The places of a kind of page; the second half of the questions repeats the first. */
+static void make_places(struct cell *cell, const void *table, enum question kind)
+{
+    uint64_t *places = cell->places[kind];
+    for (size_t i = 0; i < QUESTIONS; i++) {
+        places[i * NEARBY_PLACE + ORDER] = kind == FAR_FIRST_PAGE || kind == FAR_FIFTH_PAGE ? NEARBY_FAR : NEARBY_NEAR;
+        if (kind == FIFTH_PAGE || kind == FAR_FIFTH_PAGE)
+            pass_four_pages(cell, table, i, &places[i * NEARBY_PLACE]);
+    }
+    memcpy(&places[QUESTIONS * NEARBY_PLACE], places, QUESTIONS * NEARBY_PLACE * sizeof *places);
 }
 
 static void make_questions(struct source *s, struct cell *cell)
@@ -87,11 +98,10 @@ static void make_questions(struct source *s, struct cell *cell)
     void *table = plain_scan.enter(cell);
     for (size_t i = 0; i < ALL_QUESTIONS; i++)
         cell->reaches[i] = UINT64_MAX;
-    for (size_t i = 0; i < QUESTIONS; i++)
-        find_fifth_place(cell, table, i, &cell->fifth_places[i * PLACE]);
-    memcpy(&cell->fifth_places[QUESTIONS * PLACE], cell->fifth_places, QUESTIONS * PLACE * sizeof *cell->fifth_places);
+    for (enum question kind = 0; kind < PAGE_KINDS; kind++)
+        make_places(cell, table, kind);
     for (size_t i = 0; i < ALL_QUESTIONS; i++) {
-        const uint64_t *place = i % 2 == 0 ? &cell->first_places[i * PLACE] : &cell->fifth_places[i * PLACE];
+        const uint64_t *place = &cell->places[i % PAGE_KINDS][i * NEARBY_PLACE];
         cell->ask_length = write_ask(cell, i, place, &cell->asks[i * cell->ask_length]);
     }
     plain_scan.leave(table);

@@ -8,8 +8,17 @@
  * cost without what a call costs. */
 enum { QUESTIONS = 512, ALL_QUESTIONS = 2 * QUESTIONS };
 
-/* Numbers in a row: of a place, of what nearest and farthest find, of a page's outcome, of a page's items. */
-enum { PLACE = 4, FOUND = 4, OUTCOME = 3, ITEMS = NEARBY_MOST_PAGE * NEARBY_ITEM };
+/* The kinds of question, pages first. */
+enum question {
+    FIRST_PAGE, FIFTH_PAGE, FAR_FIRST_PAGE, FAR_FIFTH_PAGE, PAGE_KINDS,
+    NEAREST = PAGE_KINDS, FARTHEST, OFFICE, QUESTION_KINDS
+};
+
+/* Numbers in a row: of what nearest and farthest find, of a page's outcome, of a page's items. */
+enum { FOUND = 4, OUTCOME = 3, ITEMS = NEARBY_MOST_PAGE * NEARBY_ITEM };
+
+/* Where the numbers of a place stand in its row, which has NEARBY_PLACE. */
+enum { ORDER, FROM, SNAPSHOT, MARK_DISTANCE, MARK_NUMBER };
 
 enum spread { UNIFORM, CLUSTERED, SORTED, MILLION };
 
@@ -24,9 +33,8 @@ struct cell {
     int32_t probes[ALL_QUESTIONS * NEARBY_MOST_COORDINATES];
     uint64_t reaches[ALL_QUESTIONS];
     /* The places of first pages, all at the start, and of fifth pages, behind the last item of the fourth. */
-    uint64_t first_places[ALL_QUESTIONS * PLACE];
-    uint64_t fifth_places[ALL_QUESTIONS * PLACE];
-    /* Ask lines, first and fifth pages by turns, each of `ask_length` characters. */
+    uint64_t places[PAGE_KINDS][ALL_QUESTIONS * NEARBY_PLACE];
+    /* Ask lines, the kinds of page by turns, each of `ask_length` characters. */
     uint8_t asks[ALL_QUESTIONS * NEARBY_ASK_LINE];
     size_t ask_length;
 };

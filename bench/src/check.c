@@ -9,7 +9,8 @@ struct checked {
     const struct cell *cell;
 };
 
-static const char *const kinds[QUESTION_KINDS] = { "nearest", "farthest", "first page", "fifth page", "office line" };
+static const char *const kinds[QUESTION_KINDS] = { "first page", "fifth page", "far first page", "far fifth page", "nearest",
+                                                   "farthest", "office line" };
 
 static void wrong(const struct checked *c, enum question question, size_t i, const char *what)
 {
@@ -68,9 +69,9 @@ void check_answers(const struct contestant *who, const struct cell *cell, enum q
         return;
     }
     for (size_t i = 0; i < count; i++) {
-        if (question == NEAREST || question == FARTHEST)
-            check_found(&c, question, i, &given->found[i * FOUND], &right->found[i * FOUND]);
-        else
+        if (question < PAGE_KINDS)
             check_page(&c, question, i, given, right);
+        else
+            check_found(&c, question, i, &given->found[i * FOUND], &right->found[i * FOUND]);
     }
 }

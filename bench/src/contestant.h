@@ -8,8 +8,6 @@
 extern "C" {
 #endif
 
-enum question { NEAREST, FARTHEST, FIRST_PAGE, FIFTH_PAGE, OFFICE, QUESTION_KINDS };
-
 /* Answers as the library's calls for many questions give them. Every contestant gives whole items: number, reference, distance. */
 struct answers {
     uint64_t found[ALL_QUESTIONS * FOUND];

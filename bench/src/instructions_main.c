@@ -16,7 +16,7 @@ static const struct contestant *contestant_named(const char *name)
 
 static enum question question_named(const char *name)
 {
-    static const char *const names[] = { "nearest", "farthest", "first", "fifth" };
+    static const char *const names[] = { "first", "fifth", "far-first", "far-fifth", "nearest", "farthest" };
     for (size_t i = 0; i < sizeof names / sizeof *names; i++)
         if (strcmp(names[i], name) == 0)
             return (enum question)i;
@@ -28,7 +28,8 @@ int main(int argc, char **argv)
     static struct cell cell;
     static struct answers given, right;
     if (argc != 5)
-        fail("usage: instructions ours|'plain scan'|'plane scan' nearest|farthest|first|fifth full|million once|twice");
+        fail("usage: instructions ours|'plain scan'|'plane scan' nearest|farthest|first|fifth|far-first|far-fifth full|million "
+             "once|twice");
     const struct contestant *who = contestant_named(argv[1]);
     const enum question question = question_named(argv[2]);
     const size_t count = strcmp(argv[4], "twice") == 0 ? ALL_QUESTIONS : QUESTIONS;

@@ -1,5 +1,5 @@
 // nanoflann's tree of halved boxes, from Debian's libnanoflann. Its distances are sums over coordinates, so it has the city block and
-// no other measure here, and it has no farthest. Coordinates are doubles, in which every distance here is exact. Claims at equal
+// no other measure here, and it has no far order. Coordinates are doubles, in which every distance here is exact. Claims at equal
 // distances come in its own order.
 #include "contestant.h"
 
@@ -66,8 +66,9 @@ void leave(void *table)
 }
 
 // For the fifth page it finds five and drops four.
-void page(const Table &t, const double *probe, std::size_t skipped, uint64_t *outcome, uint64_t *items)
+void page(const Table &t, const double *probe, const uint64_t *place, uint64_t *outcome, uint64_t *items)
 {
+    const std::size_t skipped = place[FROM] != 0 ? 4 * NEARBY_MOST_PAGE : 0;
     uint32_t numbers[5 * NEARBY_MOST_PAGE];
     double distances[5 * NEARBY_MOST_PAGE];
     const std::size_t all = t.tree->first(probe, skipped + NEARBY_MOST_PAGE, numbers, distances);
@@ -102,14 +103,13 @@ void ask(void *table, const cell *cell, question question, std::size_t count, an
         if (question == NEAREST)
             nearest(t, probe, &answers->found[i * FOUND]);
         else
-            page(t, probe, question == FIFTH_PAGE ? 4 * NEARBY_MOST_PAGE : 0, &answers->outcomes[i * OUTCOME],
-                 &answers->items[i * ITEMS]);
+            page(t, probe, &cell->places[question][i * NEARBY_PLACE], &answers->outcomes[i * OUTCOME], &answers->items[i * ITEMS]);
     }
 }
 
 int can(const cell *cell, question question)
 {
-    return cell->measure == NEARBY_CITY_BLOCK && question != FARTHEST && question != OFFICE;
+    return cell->measure == NEARBY_CITY_BLOCK && (question == NEAREST || question == FIRST_PAGE || question == FIFTH_PAGE);
 }
 
 } // namespace

@@ -65,9 +65,13 @@ template <int D, int M> class FixedTree : public Tree {
     }
 
     // It has no places to go on from: for the fifth page it finds five and drops four.
-    void page(const P &probe, std::size_t skipped, std::vector<P> &found, uint64_t *outcome, uint64_t *items)
+    void page(const P &probe, const uint64_t *place, std::vector<P> &found, uint64_t *outcome, uint64_t *items)
     {
-        tree.FindK_NearestNeighbors(skipped + NEARBY_MOST_PAGE, DBL_MAX, found, probe);
+        const std::size_t skipped = place[FROM] != 0 ? 4 * NEARBY_MOST_PAGE : 0;
+        if (place[ORDER] == NEARBY_NEAR)
+            tree.FindK_NearestNeighbors(skipped + NEARBY_MOST_PAGE, DBL_MAX, found, probe);
+        else
+            tree.FindK_FarthestNeighbors(skipped + NEARBY_MOST_PAGE, found, probe);
         std::size_t count = 0;
         for (std::size_t i = skipped; i < found.size(); i++)
             put(found[i], probe, &items[NEARBY_ITEM * count++]);
@@ -99,7 +103,7 @@ public:
             else if (question == FARTHEST)
                 row[0] = tree.FarthestNeighbor(one, probe);
             else
-                page(probe, question == FIFTH_PAGE ? 4 * NEARBY_MOST_PAGE : 0, found, &answers->outcomes[i * OUTCOME],
+                page(probe, &cell->places[question][i * NEARBY_PLACE], found, &answers->outcomes[i * OUTCOME],
                      &answers->items[i * ITEMS]);
             if (question == NEAREST || question == FARTHEST)
                 put(one, probe, row + 1);

@@ -2,7 +2,10 @@
 
 #include <string.h>
 
-enum { ASK = 1, ANSWER = 2, LONGEST_LINE = NEARBY_ANSWER_LINE, LONGEST_FRAME = (LONGEST_LINE - 1) / 2 };
+/* The kinds of line in near order; those in far order are FAR_KINDS more. */
+enum { ASK = 1, ANSWER = 2, FAR_KINDS = 3 };
+
+enum { LONGEST_LINE = NEARBY_ANSWER_LINE, LONGEST_FRAME = (LONGEST_LINE - 1) / 2 };
 
 /* ---- Frames ---- */
 
@@ -65,29 +68,29 @@ struct ask {
     uint8_t measure, d;
     int32_t probe[NEARBY_MOST_COORDINATES];
     uint64_t reach;
-    uint64_t place[PLACE];
+    uint64_t place[NEARBY_PLACE];
     uint8_t size;
 };
 
 static void put_ask(struct frame *f, uint8_t kind, const struct ask *a)
 {
-    put(f, kind, 1);
+    put(f, kind + FAR_KINDS * a->place[ORDER], 1);
     put(f, a->table, 4);
     put(f, a->measure, 1);
     put(f, a->d, 1);
     for (size_t j = 0; j < a->d; j++)
         put(f, (uint32_t)a->probe[j], 4);
     put(f, a->reach, 8);
-    put(f, a->place[0], 1);
-    put(f, a->place[1], 2);
-    put(f, a->place[2], 8);
-    put(f, a->place[3], 2);
+    put(f, a->place[FROM], 1);
+    put(f, a->place[SNAPSHOT], 2);
+    put(f, a->place[MARK_DISTANCE], 8);
+    put(f, a->place[MARK_NUMBER], 2);
 }
 
 static uint8_t get_ask(const struct frame *f, struct ask *a)
 {
     size_t at = 7;
-    if (f->bytes[0] != ASK || f->length < at)
+    if ((f->bytes[0] != ASK && f->bytes[0] != ASK + FAR_KINDS) || f->length < at)
         return 10;
     a->measure = f->bytes[5];
     a->d = f->bytes[6];
@@ -96,16 +99,17 @@ static uint8_t get_ask(const struct frame *f, struct ask *a)
     for (size_t j = 0; j < a->d; j++)
         a->probe[j] = (int32_t)(uint32_t)get(f, &at, 4);
     a->reach = get(f, &at, 8);
-    a->place[0] = get(f, &at, 1);
-    a->place[1] = get(f, &at, 2);
-    a->place[2] = get(f, &at, 8);
-    a->place[3] = get(f, &at, 2);
+    a->place[ORDER] = f->bytes[0] == ASK ? NEARBY_NEAR : NEARBY_FAR;
+    a->place[FROM] = get(f, &at, 1);
+    a->place[SNAPSHOT] = get(f, &at, 2);
+    a->place[MARK_DISTANCE] = get(f, &at, 8);
+    a->place[MARK_NUMBER] = get(f, &at, 2);
     a->size = (uint8_t)get(f, &at, 1);
     at = 1;
     a->table = (uint32_t)get(f, &at, 4);
-    if (a->place[0] > 1 || a->place[1] > NEARBY_MOST_CLAIMS || a->place[3] >= NEARBY_MOST_CLAIMS)
+    if (a->place[FROM] > 1 || a->place[SNAPSHOT] > NEARBY_MOST_CLAIMS || a->place[MARK_NUMBER] >= NEARBY_MOST_CLAIMS)
         return 10;
-    if (a->place[0] == 0 && (a->place[1] | a->place[2] | a->place[3]) != 0)
+    if (a->place[FROM] == 0 && (a->place[SNAPSHOT] | a->place[MARK_DISTANCE] | a->place[MARK_NUMBER]) != 0)
         return 10;
     return a->size < 1 || a->size > NEARBY_MOST_PAGE ? 10 : 0;
 }
@@ -139,8 +143,8 @@ static uint8_t answer_line(page_function *page, const void *table, const struct 
     page(table, a.probe, a.reach, a.place, a.size, outcome, items);
     if (outcome[0] != 0)
         return (uint8_t)outcome[0];
-    if (a.place[0] == 0)
-        a.place[1] = cell->n;
+    if (a.place[FROM] == 0)
+        a.place[SNAPSHOT] = cell->n;
     f.length = 0;
     put_ask(&f, ANSWER, &a);
     put(&f, outcome[2], 1);

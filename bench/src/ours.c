@@ -38,14 +38,13 @@ static void ask(void *table, const struct cell *cell, enum question question, si
     case FARTHEST:
         refusal = nearby_many_farthest(OUR_TABLE(t), cell->probes, coordinates, count, answers->found, count * FOUND);
         break;
-    case FIRST_PAGE:
-    case FIFTH_PAGE:
-        refusal = nearby_many_pages(OUR_TABLE(t), cell->probes, coordinates, cell->reaches, count,
-                                    question == FIRST_PAGE ? cell->first_places : cell->fifth_places, count * PLACE,
-                                    NEARBY_MOST_PAGE, answers->outcomes, count * OUTCOME, answers->items, count * ITEMS);
+    case OFFICE:
+        many_answers(t, cell, count, answers);
         break;
     default:
-        many_answers(t, cell, count, answers);
+        refusal = nearby_many_pages(OUR_TABLE(t), cell->probes, coordinates, cell->reaches, count, cell->places[question],
+                                    count * NEARBY_PLACE, NEARBY_MOST_PAGE, answers->outcomes, count * OUTCOME, answers->items,
+                                    count * ITEMS);
     }
     if (refusal != 0)
         fail("a call for many questions was refused: %s", nearby_refusal_meaning(refusal));

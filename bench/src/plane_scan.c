@@ -7,17 +7,16 @@
 
 static void ask(void *table, const struct cell *cell, enum question question, size_t count, struct answers *answers)
 {
-    const uint64_t *places = question == FIFTH_PAGE ? cell->fifth_places : cell->first_places;
     for (size_t i = 0; i < count; i++) {
         const int32_t *probe = &cell->probes[i * 2];
         uint64_t *row = &answers->found[i * FOUND];
         if (question == NEAREST)
-            scan_nearest_by(table, NEARBY_CITY_BLOCK, 2, probe, cell->reaches[i], row);
+            scan_first_by(table, NEARBY_NEAR, NEARBY_CITY_BLOCK, 2, probe, cell->reaches[i], row);
         else if (question == FARTHEST)
-            scan_farthest_by(table, NEARBY_CITY_BLOCK, 2, probe, row);
+            scan_first_by(table, NEARBY_FAR, NEARBY_CITY_BLOCK, 2, probe, 0, row);
         else
-            scan_page_by(table, NEARBY_CITY_BLOCK, 2, probe, cell->reaches[i], &places[i * PLACE], NEARBY_MOST_PAGE,
-                         &answers->outcomes[i * OUTCOME], &answers->items[i * ITEMS]);
+            scan_page_by(table, NEARBY_CITY_BLOCK, 2, probe, cell->reaches[i], &cell->places[question][i * NEARBY_PLACE],
+                         NEARBY_MOST_PAGE, &answers->outcomes[i * OUTCOME], &answers->items[i * ITEMS]);
     }
 }
 

@@ -19,8 +19,8 @@ enum { SHORTEST = 20000, LONGEST = 5000000, FEWEST = 32, SINGLE_CALLS = 4 };
 #define LONGEST_CELL 1.5e9
 enum { FEWEST_REPETITIONS = 5 };
 
-static const char *const task_names[TASKS] = { "nearest", "farthest", "first page", "fifth page", "office line", "entering",
-                                               "soundness test", "single nearest" };
+static const char *const task_names[TASKS] = { "first page", "fifth page", "far first page", "far fifth page", "nearest", "farthest",
+                                               "office line", "entering", "soundness test", "single nearest" };
 static const char *const measure_names[] = { "", "city block", "maximum", "Hamming" };
 static const char *const spread_names[] = { "uniform", "clustered", "sorted" };
 

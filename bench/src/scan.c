@@ -19,21 +19,12 @@ static void *enter(const struct cell *cell)
     return t;
 }
 
-static void scan_nearest(const struct scan *t, const int32_t *probe, uint64_t reach, uint64_t *row)
+SCANNING void scan_first(const struct scan *t, uint8_t order, const int32_t *probe, uint64_t bound, uint64_t *row)
 {
     switch (t->measure) {
-    case NEARBY_CITY_BLOCK: scan_nearest_by(t, NEARBY_CITY_BLOCK, t->d, probe, reach, row); break;
-    case NEARBY_MAXIMUM: scan_nearest_by(t, NEARBY_MAXIMUM, t->d, probe, reach, row); break;
-    default: scan_nearest_by(t, NEARBY_HAMMING, t->d, probe, reach, row);
-    }
-}
-
-static void scan_farthest(const struct scan *t, const int32_t *probe, uint64_t *row)
-{
-    switch (t->measure) {
-    case NEARBY_CITY_BLOCK: scan_farthest_by(t, NEARBY_CITY_BLOCK, t->d, probe, row); break;
-    case NEARBY_MAXIMUM: scan_farthest_by(t, NEARBY_MAXIMUM, t->d, probe, row); break;
-    default: scan_farthest_by(t, NEARBY_HAMMING, t->d, probe, row);
+    case NEARBY_CITY_BLOCK: scan_first_by(t, order, NEARBY_CITY_BLOCK, t->d, probe, bound, row); break;
+    case NEARBY_MAXIMUM: scan_first_by(t, order, NEARBY_MAXIMUM, t->d, probe, bound, row); break;
+    default: scan_first_by(t, order, NEARBY_HAMMING, t->d, probe, bound, row);
     }
 }
 
@@ -54,15 +45,14 @@ static void ask(void *table, const struct cell *cell, enum question question, si
         answer_asks(scan_page, table, cell, count, answers);
         return;
     }
-    const uint64_t *places = question == FIFTH_PAGE ? cell->fifth_places : cell->first_places;
     for (size_t i = 0; i < count; i++) {
         const int32_t *probe = &cell->probes[i * cell->d];
         if (question == NEAREST)
-            scan_nearest(table, probe, cell->reaches[i], &answers->found[i * FOUND]);
+            scan_first(table, NEARBY_NEAR, probe, cell->reaches[i], &answers->found[i * FOUND]);
         else if (question == FARTHEST)
-            scan_farthest(table, probe, &answers->found[i * FOUND]);
+            scan_first(table, NEARBY_FAR, probe, 0, &answers->found[i * FOUND]);
         else
-            scan_page(table, probe, cell->reaches[i], &places[i * PLACE], NEARBY_MOST_PAGE,
+            scan_page(table, probe, cell->reaches[i], &cell->places[question][i * NEARBY_PLACE], NEARBY_MOST_PAGE,
                       &answers->outcomes[i * OUTCOME], &answers->items[i * ITEMS]);
     }
 }

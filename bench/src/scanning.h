@@ -1,4 +1,4 @@
-/* The plain scan, for a measure and d that the includer may fix: every claim is measured once, in the order of numbers. */
+/* The plain scan, for an order, measure and d that the includer may fix: every claim is measured once, in the order of numbers. */
 #ifndef BENCH_SCANNING_H
 #define BENCH_SCANNING_H
 
@@ -6,7 +6,7 @@
 
 #include <stdlib.h>
 
-/* Inlined at each use, so that a use with a fixed measure has a loop of its own for it, as a good scan would. */
+/* Inlined at each use, so that a use with a fixed order and measure has a loop of its own for them, as a good scan would. */
 #define SCANNING static inline __attribute__((always_inline))
 
 struct scan {
@@ -32,92 +32,105 @@ SCANNING uint64_t scan_distance(uint8_t measure, size_t d, const int32_t *a, con
     return distance;
 }
 
-SCANNING void put_found(const struct scan *t, size_t k, uint64_t distance, uint64_t *row)
+/* Whether distance x comes before distance y in an order. Numbers rise, so of two at equal distances the later claim is behind. */
+SCANNING int comes_before(uint8_t order, uint64_t x, uint64_t y)
 {
-    row[0] = 1;
-    row[1] = k;
-    row[2] = t->references[k];
-    row[3] = distance;
+    return order == NEARBY_NEAR ? x < y : x > y;
 }
 
-/* Numbers rise, so a claim at the distance of the best is after it. One compare passes over a claim that is farther than the best. */
-SCANNING void scan_nearest_by(const struct scan *t, uint8_t measure, size_t d, const int32_t *probe, uint64_t reach, uint64_t *row)
+/* The distance that no other comes before. */
+SCANNING uint64_t foremost(uint8_t order, uint8_t measure, size_t d)
 {
-    size_t best = t->n;
-    uint64_t least = reach;
-    for (size_t k = 0; k < t->n; k++) {
-        uint64_t x = scan_distance(measure, d, &t->coordinates[k * d], probe);
-        if (x <= least && (x < least || best == t->n)) {
-            best = k;
-            least = x;
-        }
-    }
-    if (best < t->n)
-        put_found(t, best, least, row);
+    if (order == NEARBY_NEAR)
+        return 0;
+    return measure == NEARBY_HAMMING ? d : measure == NEARBY_MAXIMUM ? UINT32_MAX : d * UINT32_MAX;
 }
 
-SCANNING void scan_farthest_by(const struct scan *t, uint8_t measure, size_t d, const int32_t *probe, uint64_t *row)
+SCANNING void put_item(const struct scan *t, size_t k, uint64_t distance, uint64_t *item)
+{
+    item[0] = k;
+    item[1] = t->references[k];
+    item[2] = distance;
+}
+
+/* The first claim in an order, none behind `bound`. One compare passes over a claim that is behind the best. */
+SCANNING void scan_first_by(const struct scan *t, uint8_t order, uint8_t measure, size_t d, const int32_t *probe, uint64_t bound,
+                            uint64_t *row)
 {
     size_t best = t->n;
-    uint64_t most = 0;
     for (size_t k = 0; k < t->n; k++) {
         uint64_t x = scan_distance(measure, d, &t->coordinates[k * d], probe);
-        if (x >= most && (x > most || best == t->n)) {
+        if (!comes_before(order, bound, x) && (x != bound || best == t->n)) {
             best = k;
-            most = x;
+            bound = x;
         }
     }
-    if (best < t->n)
-        put_found(t, best, most, row);
+    if (best < t->n) {
+        row[0] = 1;
+        put_item(t, best, bound, row + 1);
+    }
 }
 
 /* Puts claim k, at distance x, among the `count` items that are kept in order; the last falls out of a full page. */
-static inline size_t keep_item(const struct scan *t, size_t k, uint64_t x, size_t size, uint64_t *items, size_t count)
+SCANNING size_t keep_item(const struct scan *t, uint8_t order, size_t k, uint64_t x, size_t size, uint64_t *items, size_t count)
 {
     size_t at = count < size ? count : size - 1;
-    for (; at > 0 && x < items[(at - 1) * NEARBY_ITEM + 2]; at--)
+    for (; at > 0 && comes_before(order, x, items[(at - 1) * NEARBY_ITEM + 2]); at--)
         for (size_t j = 0; j < NEARBY_ITEM; j++)
             items[at * NEARBY_ITEM + j] = items[(at - 1) * NEARBY_ITEM + j];
-    items[at * NEARBY_ITEM] = k;
-    items[at * NEARBY_ITEM + 1] = t->references[k];
-    items[at * NEARBY_ITEM + 2] = x;
+    put_item(t, k, x, &items[at * NEARBY_ITEM]);
     return count < size ? count + 1 : size;
 }
 
+/* Whether claim k, at distance x, is on a later page than the mark of a place. */
+SCANNING int comes_after_mark(uint8_t order, const uint64_t *place, uint64_t x, size_t k)
+{
+    return comes_before(order, place[MARK_DISTANCE], x) || (x == place[MARK_DISTANCE] && k > place[MARK_NUMBER]);
+}
+
 /* The first `size` claims behind a place, kept in order during one pass. One compare passes over a claim that is behind a full page. */
+SCANNING size_t scan_items(const struct scan *t, uint8_t order, uint8_t measure, size_t d, const int32_t *probe, uint64_t reach,
+                           const uint64_t *place, size_t snapshot, size_t size, uint64_t *items)
+{
+    size_t count = 0;
+    /* Claims at `bound` may be on the page: in near order within reach, and in both before the last item of a full page. */
+    uint64_t bound = order == NEARBY_NEAR ? reach : 0;
+    for (size_t k = 0; k < snapshot; k++) {
+        uint64_t x = scan_distance(measure, d, &t->coordinates[k * d], probe);
+        if (comes_before(order, bound, x))
+            continue;
+        if ((order == NEARBY_FAR && x > reach) || (place[FROM] != 0 && !comes_after_mark(order, place, x, k)))
+            continue;
+        count = keep_item(t, order, k, x, size, items, count);
+        if (count < size)
+            continue;
+        bound = items[(size - 1) * NEARBY_ITEM + 2];
+        if (bound == foremost(order, measure, d))
+            break;
+        bound += order == NEARBY_NEAR ? -1 : 1;
+    }
+    return count;
+}
+
 SCANNING void scan_page_by(const struct scan *t, uint8_t measure, size_t d, const int32_t *probe, uint64_t reach,
                            const uint64_t *place, size_t size, uint64_t *outcome, uint64_t *items)
 {
-    const int from = place[0] != 0;
-    const size_t snapshot = from ? place[1] : t->n;
+    const size_t snapshot = place[FROM] != 0 ? place[SNAPSHOT] : t->n;
     outcome[0] = outcome[1] = outcome[2] = 0;
     if (snapshot > t->n) {
         outcome[0] = 7;
         return;
     }
-    if (from && (place[3] >= snapshot || place[2] > reach
-                 || scan_distance(measure, d, &t->coordinates[place[3] * d], probe) != place[2])) {
+    if (place[FROM] != 0 && (place[MARK_NUMBER] >= snapshot || place[MARK_DISTANCE] > reach
+                 || scan_distance(measure, d, &t->coordinates[place[MARK_NUMBER] * d], probe) != place[MARK_DISTANCE])) {
         outcome[0] = 8;
         return;
     }
-    size_t count = 0;
-    /* Claims at `bound` may be on the page: within reach, and nearer than the last item of a full page. */
-    uint64_t bound = reach;
-    for (size_t k = 0; k < snapshot; k++) {
-        uint64_t x = scan_distance(measure, d, &t->coordinates[k * d], probe);
-        if (x > bound)
-            continue;
-        if (from && (x < place[2] || (x == place[2] && k <= place[3])))
-            continue;
-        count = keep_item(t, k, x, size, items, count);
-        if (count < size)
-            continue;
-        if (items[(size - 1) * NEARBY_ITEM + 2] == 0)
-            break;
-        bound = items[(size - 1) * NEARBY_ITEM + 2] - 1;
-    }
-    outcome[1] = count;
-    outcome[2] = count < size;
+    if (place[ORDER] == NEARBY_NEAR)
+        outcome[1] = scan_items(t, NEARBY_NEAR, measure, d, probe, reach, place, snapshot, size, items);
+    else
+        outcome[1] = scan_items(t, NEARBY_FAR, measure, d, probe, reach, place, snapshot, size, items);
+    outcome[2] = outcome[1] < size;
 }
 
 #endif

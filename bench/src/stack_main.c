@@ -45,7 +45,7 @@ static void farthest(void)
 static void page(void)
 {
     nearby_start start = { 0, 0, 0, 0 };
-    if (nearby_page(OUR_TABLE(table), cell.probes, cell.d, UINT64_MAX, start, NEARBY_MOST_PAGE, given.items, ITEMS).count
+    if (nearby_page(OUR_TABLE(table), NEARBY_NEAR, cell.probes, cell.d, UINT64_MAX, start, NEARBY_MOST_PAGE, given.items, ITEMS).count
         != NEARBY_MOST_PAGE)
         _exit(2);
 }

@@ -1,5 +1,6 @@
 /* A scan that the compiler vectorizes: -O3 for the machine at hand, a column for each coordinate, no branch in the loops over claims.
- * A claim's distance and number are one number, its key, so that the least key is that of the first claim in order. */
+ * A claim's distance and number are one number, its key, so that the least key is that of the first claim in order; in far order the
+ * distance in a key is turned round. */
 #include "office.h"
 
 #include <stdlib.h>
@@ -10,6 +11,9 @@ enum { BLOCK = 64, NUMBER_BITS = 12, NUMBERS = 1 << NUMBER_BITS };
 
 /* Greater than every key. Keys are signed, since more machines compare these in vectors. */
 #define NONE INT64_MAX
+
+/* No distance is greater. All its bits are set, so that x ^ MOST is MOST - x. */
+#define MOST ((UINT64_C(1) << 36) - 1)
 
 struct columns {
     size_t n, d, stride;
@@ -73,10 +77,25 @@ static void block_distances(const struct columns *t, size_t from, const int32_t 
     }
 }
 
-/* What a question admits: claims with numbers below the snapshot and keys from `least` to `most`. */
+/* What a question admits: claims with numbers below the snapshot and keys from `least` to `most`. A key has the distance ^ `turn`. */
 struct admitted {
+    uint64_t turn;
     int64_t snapshot, least, most;
 };
+
+static inline int64_t key_of(uint64_t turn, uint64_t distance, uint64_t number)
+{
+    return (int64_t)((distance ^ turn) << NUMBER_BITS | number);
+}
+
+/* What an order admits within reach: the reach ends the keys in near order, and begins them in far order. */
+static struct admitted within(uint64_t order, uint64_t reach, size_t snapshot)
+{
+    const uint64_t edge = reach < MOST ? reach : MOST;
+    if (order == NEARBY_NEAR)
+        return (struct admitted){ 0, (int64_t)snapshot, 0, key_of(0, edge, NUMBERS - 1) };
+    return (struct admitted){ MOST, (int64_t)snapshot, key_of(MOST, edge, 0), NONE };
+}
 
 /* The keys of a block's claims, NONE for those that are not admitted. Gives the least. */
 static int64_t block_keys(const struct columns *t, size_t from, const int32_t *probe, struct admitted a, int64_t *restrict keys)
@@ -85,7 +104,7 @@ static int64_t block_keys(const struct columns *t, size_t from, const int32_t *p
     int64_t first = NONE;
     block_distances(t, from, probe, x);
     for (int64_t k = 0; k < BLOCK; k++) {
-        int64_t number = (int64_t)from + k, key = (int64_t)x[k] << NUMBER_BITS | number;
+        int64_t number = (int64_t)from + k, key = key_of(a.turn, x[k], (uint64_t)number);
         int out = (number >= a.snapshot) | (key < a.least) | (key > a.most);
         keys[k] = out ? NONE : key;
     }
@@ -94,48 +113,25 @@ static int64_t block_keys(const struct columns *t, size_t from, const int32_t *p
     return first;
 }
 
-/* The last key within reach. Every distance is under 2^36. */
-static int64_t last_key(uint64_t reach)
+static void put_item(const struct columns *t, uint64_t turn, int64_t key, uint64_t *item)
 {
-    return reach >> 36 != 0 ? NONE : (int64_t)(reach << NUMBER_BITS | (NUMBERS - 1));
+    item[0] = (uint64_t)(key % NUMBERS);
+    item[1] = t->references[key % NUMBERS];
+    item[2] = (uint64_t)(key >> NUMBER_BITS) ^ turn;
 }
 
-static void put_found(const struct columns *t, int64_t number, int64_t distance, uint64_t *row)
+/* The first claim in an order. */
+static void find_first(const struct columns *t, const int32_t *probe, struct admitted a, uint64_t *row)
 {
-    row[0] = 1;
-    row[1] = (uint64_t)number;
-    row[2] = t->references[number];
-    row[3] = (uint64_t)distance;
-}
-
-static void nearest(const struct columns *t, const int32_t *probe, uint64_t reach, uint64_t *row)
-{
-    const struct admitted all = { (int64_t)t->n, 0, last_key(reach) };
     int64_t keys[BLOCK], best = NONE;
     for (size_t from = 0; from < t->n; from += BLOCK) {
-        int64_t first = block_keys(t, from, probe, all, keys);
+        int64_t first = block_keys(t, from, probe, a, keys);
         best = first < best ? first : best;
     }
-    if (best != NONE)
-        put_found(t, best % NUMBERS, best >> NUMBER_BITS, row);
-}
-
-/* The farthest has the largest key, with numbers turned round for the smallest of equals. */
-static void farthest(const struct columns *t, const int32_t *probe, uint64_t *row)
-{
-    uint64_t x[BLOCK];
-    int64_t keys[BLOCK], best = -1;
-    for (size_t from = 0; from < t->n; from += BLOCK) {
-        block_distances(t, from, probe, x);
-        for (int64_t k = 0; k < BLOCK; k++) {
-            int64_t number = (int64_t)from + k, key = (int64_t)x[k] << NUMBER_BITS | (NUMBERS - 1 - number);
-            keys[k] = number < (int64_t)t->n ? key : -1;
-        }
-        for (size_t k = 0; k < BLOCK; k++)
-            best = keys[k] > best ? keys[k] : best;
+    if (best != NONE) {
+        row[0] = 1;
+        put_item(t, a.turn, best, row + 1);
     }
-    if (best >= 0)
-        put_found(t, NUMBERS - 1 - best % NUMBERS, best >> NUMBER_BITS, row);
 }
 
 /* The least keys so far, in order, and the least key that is out of the page. */
@@ -179,24 +175,23 @@ static void page(const void *table, const int32_t *probe, uint64_t reach, const 
                  uint64_t *outcome, uint64_t *items)
 {
     const struct columns *t = table;
-    const int from = place[0] != 0;
-    const size_t snapshot = from ? place[1] : t->n;
+    const int from = place[FROM] != 0;
+    const size_t snapshot = from ? place[SNAPSHOT] : t->n;
     struct kept kept = { .out = NONE, .count = 0, .size = size };
     outcome[0] = outcome[1] = outcome[2] = 0;
     if (snapshot > t->n)
         outcome[0] = 7;
-    else if (from && (place[3] >= snapshot || place[2] > reach || distance_of(t, place[3], probe) != place[2]))
+    else if (from && (place[MARK_NUMBER] >= snapshot || place[MARK_DISTANCE] > reach
+                      || distance_of(t, place[MARK_NUMBER], probe) != place[MARK_DISTANCE]))
         outcome[0] = 8;
     if (outcome[0] != 0)
         return;
-    const int64_t least = from ? (int64_t)(place[2] << NUMBER_BITS | place[3]) + 1 : 0;
-    const struct admitted a = { (int64_t)snapshot, least, last_key(reach) };
+    struct admitted a = within(place[ORDER], reach, snapshot);
+    if (from)
+        a.least = key_of(a.turn, place[MARK_DISTANCE], place[MARK_NUMBER]) + 1;
     keep_least(t, probe, a, &kept);
-    for (size_t i = 0; i < kept.count; i++) {
-        items[i * NEARBY_ITEM] = (uint64_t)(kept.keys[i] % NUMBERS);
-        items[i * NEARBY_ITEM + 1] = t->references[kept.keys[i] % NUMBERS];
-        items[i * NEARBY_ITEM + 2] = (uint64_t)(kept.keys[i] >> NUMBER_BITS);
-    }
+    for (size_t i = 0; i < kept.count; i++)
+        put_item(t, a.turn, kept.keys[i], &items[i * NEARBY_ITEM]);
     outcome[1] = kept.count;
     outcome[2] = kept.count < size;
 }
@@ -207,15 +202,14 @@ static void ask(void *table, const struct cell *cell, enum question question, si
         answer_asks(page, table, cell, count, answers);
         return;
     }
-    const uint64_t *places = question == FIFTH_PAGE ? cell->fifth_places : cell->first_places;
     for (size_t i = 0; i < count; i++) {
         const int32_t *probe = &cell->probes[i * cell->d];
         if (question == NEAREST)
-            nearest(table, probe, cell->reaches[i], &answers->found[i * FOUND]);
+            find_first(table, probe, within(NEARBY_NEAR, cell->reaches[i], cell->n), &answers->found[i * FOUND]);
         else if (question == FARTHEST)
-            farthest(table, probe, &answers->found[i * FOUND]);
+            find_first(table, probe, within(NEARBY_FAR, UINT64_MAX, cell->n), &answers->found[i * FOUND]);
         else
-            page(table, probe, cell->reaches[i], &places[i * PLACE], NEARBY_MOST_PAGE,
+            page(table, probe, cell->reaches[i], &cell->places[question][i * NEARBY_PLACE], NEARBY_MOST_PAGE,
                  &answers->outcomes[i * OUTCOME], &answers->items[i * ITEMS]);
     }
 }

@@ -1,5 +1,5 @@
 // Generated tables and questions beside a plain scan, which shares no code with the walk: its own distance, its own selection.
-// Prints how many pages were asked for, how many of them were refused for their mark, how many items and last pages came, how many
+// Prints how many pages were asked for, how many of them in far order and how many refused for their mark, how many items and last pages came, how many
 // nearest and farthest claims were asked for and how often there was none, and how many answers were not the scan's.
 mod checked;
 mod scan;
@@ -30,6 +30,7 @@ use walk::questions::page_of;
 // What was asked, and how much of it was not the scan's.
 struct Tally {
     pages: u64,
+    far: u64,
     refused: u64,
     items: u64,
     lasts: u64,
@@ -39,9 +40,10 @@ struct Tally {
 }
 
 impl Tally {
-    fn page(self, refused: bool, items: usize, last: bool, right: bool) -> Tally {
+    fn page(self, far: bool, refused: bool, items: usize, last: bool, right: bool) -> Tally {
         Tally {
             pages: wrapping_add_u64(self.pages, 1),
+            far: wrapping_add_u64(self.far, far as u64),
             refused: wrapping_add_u64(self.refused, refused as u64),
             items: wrapping_add_u64(self.items, items as u64),
             lasts: wrapping_add_u64(self.lasts, last as u64),
@@ -54,6 +56,7 @@ impl Tally {
     fn first(self, nothing: bool, right: bool) -> Tally {
         Tally {
             pages: self.pages,
+            far: self.far,
             refused: self.refused,
             items: self.items,
             lasts: self.lasts,
@@ -140,7 +143,7 @@ fn page_beside(
     let place = place_of(a);
     let reach = a.reach;
     if !mark_holds(t, coordinates, probe, reach, place) {
-        return tally.page(true, 0, false, reach < a.distance);
+        return tally.page(a.far, true, 0, false, reach < a.distance);
     }
     let paged = page_of(
         t,
@@ -155,6 +158,7 @@ fn page_beside(
         &mut room,
     );
     tally.page(
+        a.far,
         false,
         paged.count,
         paged.last,
@@ -280,7 +284,7 @@ fn ask(
     requires { ⌜ SmallTable t ⌝ }
 {
     if closed(t, references, coordinates, nodes, probe) != 0 {
-        return tally.page(true, 0, false, false);
+        return tally.page(false, true, 0, false, false);
     }
     let a = next(seed);
     let with = firsts_beside(
@@ -383,10 +387,8 @@ fn number(x: u64, end: &[u8]) {
 }
 
 fn show(t: Tally) {
-    number(
-        t.pages,
-        b" pages, of them refused for a mark beyond the reach ",
-    );
+    number(t.pages, b" pages, of them in far order ");
+    number(t.far, b", refused for a mark beyond the reach ");
     number(t.refused, b"\n");
     number(t.items, b" items, ");
     number(t.lasts, b" last pages\n");
@@ -430,6 +432,7 @@ fn one_table(i: u64, seed: u64, tally: Tally) -> Tally {
 fn main() {
     let mut sum = Tally {
         pages: 0,
+        far: 0,
         refused: 0,
         items: 0,
         lasts: 0,
