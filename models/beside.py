@@ -242,7 +242,7 @@ def one_table(i, c):
 
 
 def examples():
-    """Examples a to j of crates/paper/specs/Examples.antt, so that the model itself is checked."""
+    """Examples a to j of crates/paper/specs/Examples.antt and those in far order of FarExamples.antt, so that the model itself is checked."""
     t = Table(1, 1, 1024)
     assert t.enter([(101 + i, [v]) for i, v in enumerate([2, 3, 9, 6, 5])]) == 0
     tree = Tree(t)
@@ -255,6 +255,9 @@ def examples():
     assert t.page(False, [4], 5, (5, (2, 4)), 2, 16) == 8 and t.page(False, [4], 5, (6, (1, 4)), 2, 16) == 7
     assert distance(1, [-2**31], [2**31 - 1]) == 4294967295
     assert t.page(False, [4], 5, None, 5, 16)[1] is False and t.page(False, [4], 5, (5, (5, 2)), 5, 16) == ([], True)
+    pages = [t.page(True, [4], 5, p, 2, 16) for p in (None, (5, (2, 0)), (5, (1, 1)))]
+    assert [([i[0] for i in rows], last) for rows, last in pages] == [([2, 0], False), ([3, 1], False), ([4], True)]
+    assert [i[0] for i in t.page(True, [4], 2, None, 16, 16)[0]] == [0, 3, 1, 4]
     assert distance(2, [1, 2, 3], [4, 4, 4]) == 3 and distance(3, [1, 2, 3], [1, 3, 2]) == 2
 
 

@@ -118,15 +118,13 @@ static void ask_with_flags(seeded *from, const store *s, size_t apart)
 {
     questions q = any_questions(from, s, TIED);
     q.n = LENGTH(flags);
-    uint64_t outcomes[3 * LENGTH(flags)], items[6 * LENGTH(flags)] = { 0 };
     for (size_t i = 0; i < q.n; i++) {
         put_place(from, s, q.probes + 2 * i, q.places + NEARBY_PLACE * i);
         q.places[NEARBY_PLACE * i] = flags[i];
         q.places[NEARBY_PLACE * i + 1] = flags[(i + apart) % LENGTH(flags)];
         q.reaches[i] = UINT64_MAX;
     }
-    CHECK(try_many_pages(s, probes_of(&q, s), reaches_of(&q), places_of(&q), 2, (room){ outcomes, 3 * q.n }, (room){ items, 6 * q.n })
-          == 0);
+    ask_many_pages(from, s, &q);
 }
 
 /* A high word of an order or of `from` counts as a flag too. */

@@ -35,6 +35,41 @@ impl Measure {
     }
 }
 
+/// From which end claims are listed. The reach bounds both from above.
+///
+/// ```
+/// use nearby::Order;
+///
+/// assert_eq!((Order::Near.flag(), Order::Far.flag()), (0, 1));
+/// assert_eq!(Order::from_flag(255), Order::Far);
+/// ```
+#[derive(Clone, Copy, Debug, PartialEq, Eq, Hash)]
+#[repr(u8)]
+pub enum Order {
+    /// Smaller distance first, then smaller number.
+    Near = 0,
+    /// Larger distance first, then smaller number.
+    Far = 1,
+}
+
+impl Order {
+    /// Both, near first.
+    pub const ALL: [Order; 2] = [Order::Near, Order::Far];
+
+    /// The flag that the bare calls take for it.
+    pub fn flag(self) -> u8 {
+        self as u8
+    }
+
+    /// The order of a flag: anything but 0 is far.
+    pub fn from_flag(flag: u8) -> Order {
+        match flag {
+            0 => Order::Near,
+            _ => Order::Far,
+        }
+    }
+}
+
 /// A claim as a question finds it.
 #[derive(Clone, Copy, Debug, PartialEq, Eq, Hash)]
 pub struct Item {
@@ -47,7 +82,7 @@ pub struct Item {
 }
 
 impl Item {
-    /// The item as a mark: what comes after it in near order.
+    /// The item as a mark: a page after it goes on behind this item, in either order.
     pub fn mark(&self) -> Mark {
         Mark { distance: self.distance, number: self.number.into() }
     }
@@ -63,7 +98,7 @@ impl Item {
     }
 }
 
-/// A place in near order: smaller distance first, then smaller number.
+/// Where a claim stands, by its distance and number. Marks compare in near order: smaller distance first, then smaller number.
 #[derive(Clone, Copy, Debug, PartialEq, Eq, PartialOrd, Ord, Hash)]
 pub struct Mark {
     /// A distance from the probe.
@@ -95,7 +130,7 @@ impl Place {
     }
 }
 
-/// A page of claims, nearest first.
+/// A page of claims, in the order that was asked for.
 #[derive(Clone, Debug, PartialEq, Eq)]
 pub struct Page {
     /// The claims.
@@ -107,7 +142,7 @@ pub struct Page {
 }
 
 impl Page {
-    /// Where the next page starts, unless this one is the last.
+    /// Where the next page of the same order starts, unless this one is the last.
     pub fn next(&self) -> Option<Place> {
         let mark = self.items.last()?.mark();
         (!self.last).then_some(Place::After { snapshot: self.snapshot, mark })

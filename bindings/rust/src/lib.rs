@@ -1,17 +1,17 @@
 //! The nearby-claims cursor: tables of claims, lists of the claims near a probe, and the lines between the two.
 //!
-//! An office keeps a [`Table`] that grows all day. A tablet loads a [`List`] of the claims near a probe, nearest first, a page
-//! at a time, over a link that may lose, repeat, delay and reorder lines. Whatever the link does, the list is at every moment the
-//! first so many of the claims within reach that the table held at the list's snapshot, and it says complete only when none is
-//! missing. That is proved of the library behind this crate; the crate itself, which hands over memory and reads results, is tested.
+//! An office keeps a [`Table`] that grows all day. A tablet loads a [`List`] of the claims near a probe, nearest first or farthest
+//! first, a page at a time, over a link that may lose, repeat, delay and reorder lines. Whatever the link does, the list is at every
+//! moment the first so many, in its [`Order`], of the claims within reach that the table held at the list's snapshot, and it says
+//! complete only when none is missing. That is proved of the library behind this crate; the crate itself, which hands over memory and reads results, is tested.
 //!
 //! ```
-//! use nearby::{List, Measure, Table};
+//! use nearby::{List, Measure, Order, Table};
 //!
 //! let mut table = Table::new(7, Measure::CityBlock, 1, 1024)?;
 //! table.enter(&[0x65, 0x66, 0x67, 0x68, 0x69], &[2, 3, 9, 6, 5])?;
 //!
-//! let mut list = List::open(7, Measure::CityBlock, &[4], 5, 16)?;
+//! let mut list = List::open(Order::Near, 7, Measure::CityBlock, &[4], 5, 16)?;
 //! while !list.is_complete() {
 //!     let ask = list.write_ask(2)?; // goes to the office
 //!     let answer = table.answer(&ask)?; // comes back from it
@@ -43,7 +43,7 @@ mod table;
 
 pub mod raw;
 
-pub use items::{Item, Mark, Measure, Page, Place};
+pub use items::{Item, Mark, Measure, Order, Page, Place};
 pub use lines::{Answer, Ask, ClaimLine};
 pub use list::List;
 pub use refusal::Refusal;
@@ -65,3 +65,5 @@ pub const MOST_PAGE: usize = 16;
 pub const NODE: usize = 6;
 /// Numbers in an item of a list's or a page's memory.
 pub const ITEM: usize = 3;
+/// Numbers in a row of many pages: an order and a place.
+pub const PLACE: usize = 5;

@@ -1,22 +1,26 @@
-use crate::items::{Item, Mark, Measure, Place};
+use crate::items::{Item, Mark, Measure, Order, Place};
 use crate::refusal::{heeded, Refusal};
 use crate::{raw, ANSWER_LINE, ASK_LINE, CLAIM_LINE, ITEM};
 
-/// An ask line as a value: a page of a table's claims is wanted.
+/// An ask line as a value: a page of a table's claims is wanted. Its kind is 01 in near order and 04 in far order.
 ///
 /// ```
-/// use nearby::{Ask, Measure, Place};
+/// use nearby::{Ask, Measure, Order, Place};
 ///
-/// let ask = Ask { table: 7, measure: Measure::CityBlock, probe: vec![4], reach: 5, place: Place::Start, size: 2 };
+/// let (order, measure) = (Order::Near, Measure::CityBlock);
+/// let ask = Ask { table: 7, order, measure, probe: vec![4], reach: 5, place: Place::Start, size: 2 };
 /// let line = ask.to_line()?;
 /// assert_eq!(line, b"010000000701010000000400000000000000050000000000000000000000000002\n");
 /// assert_eq!(Ask::from_line(&line)?, ask);
+/// assert!(Ask { order: Order::Far, ..ask }.to_line()?.starts_with(b"04"));
 /// # Ok::<(), nearby::Refusal>(())
 /// ```
 #[derive(Clone, Debug, PartialEq, Eq)]
 pub struct Ask {
     /// The table's number.
     pub table: u32,
+    /// The order.
+    pub order: Order,
     /// The measure.
     pub measure: Measure,
     /// The probe, 1 to 8 coordinates.
@@ -29,13 +33,14 @@ pub struct Ask {
     pub size: usize,
 }
 
-/// An answer line as a value: a page of a table's claims.
+/// An answer line as a value: a page of a table's claims. Its kind is 02 in near order and 05 in far order.
 ///
 /// ```
-/// use nearby::{Answer, Item, Measure};
+/// use nearby::{Answer, Item, Measure, Order};
 ///
 /// let answer = Answer {
 ///     table: 7,
+///     order: Order::Near,
 ///     measure: Measure::CityBlock,
 ///     probe: vec![4],
 ///     reach: 5,
@@ -51,6 +56,8 @@ pub struct Ask {
 pub struct Answer {
     /// The table's number.
     pub table: u32,
+    /// The order.
+    pub order: Order,
     /// The measure.
     pub measure: Measure,
     /// The probe, 1 to 8 coordinates.
@@ -137,6 +144,7 @@ impl Ask {
         // Safety: the probe is alive and only read; `out` is borrowed mutably.
         let written = unsafe {
             raw::nearby_write_ask_line(
+                self.order.flag(),
                 self.table,
                 self.measure.number(),
                 byte(probe.len()),
@@ -163,6 +171,7 @@ impl Ask {
         };
         Ok(Ask {
             table: ask.table,
+            order: Order::from_flag(ask.order),
             measure: accepted(ask.measure),
             probe: ask.probe[..ask.d.into()].to_vec(),
             reach: ask.scope.reach,
@@ -180,6 +189,7 @@ impl Answer {
         // Safety: probe and items are alive and only read; `out` is borrowed mutably.
         let written = unsafe {
             raw::nearby_write_answer_line(
+                self.order.flag(),
                 self.table,
                 self.measure.number(),
                 byte(probe.len()),
@@ -206,6 +216,7 @@ impl Answer {
         let numbers = &answer.items[..usize::from(answer.count) * ITEM];
         Ok(Answer {
             table: answer.table,
+            order: Order::from_flag(answer.order),
             measure: accepted(answer.measure),
             probe: answer.probe[..answer.d.into()].to_vec(),
             reach: answer.scope.reach,

@@ -1,18 +1,18 @@
-use crate::items::{Item, Measure};
+use crate::items::{Item, Measure, Order};
 use crate::refusal::{heeded, Refusal};
 use crate::{raw, ASK_LINE, ITEM, MOST_CLAIMS};
 
-/// A tablet's list of the claims near a probe, with the room that its items lie in.
+/// A tablet's list of the claims near a probe, from the nearest on or from the farthest, with the room that its items lie in.
 ///
 /// Send what [`write_ask`](List::write_ask) gives to the office and [`take`](List::take) what comes back, in any order and as often
 /// as the link likes. A line that is not to the present ask is refused and changes nothing.
 ///
 /// ```
-/// use nearby::{List, Measure, Refusal, Table};
+/// use nearby::{List, Measure, Order, Refusal, Table};
 ///
 /// let mut table = Table::new(7, Measure::CityBlock, 1, 10)?;
 /// table.enter(&[0x65, 0x66, 0x67], &[2, 3, 9])?;
-/// let mut list = List::open(7, Measure::CityBlock, &[4], u64::MAX, 2)?;
+/// let mut list = List::open(Order::Near, 7, Measure::CityBlock, &[4], u64::MAX, 2)?;
 ///
 /// let answer = table.answer(&list.write_ask(2)?)?;
 /// assert_eq!(list.take(&answer)?, 2);
@@ -25,25 +25,33 @@ use crate::{raw, ASK_LINE, ITEM, MOST_CLAIMS};
 /// list.grow(16);
 /// assert_eq!(list.take(&answer)?, 1);
 /// assert!(list.is_complete());
+///
+/// // A list from the far end writes another kind of line, and takes no line of this one.
+/// let mut far = List::open(Order::Far, 7, Measure::CityBlock, &[4], u64::MAX, 3)?;
+/// assert_eq!(far.take(&answer), Err(Refusal::NotThisKind));
+/// far.take(&table.answer(&far.write_ask(3)?)?)?;
+/// assert!(far.items().map(|item| item.number).eq([2, 0, 1]));
 /// # Ok::<(), Refusal>(())
 /// ```
 #[derive(Clone, Debug)]
 pub struct List {
     list: raw::List,
+    order: Order,
     measure: Measure,
     room: Vec<u64>,
 }
 
 impl List {
-    /// Opens a list on a table for a probe, whose length is d, and a reach, with room for so many items. No list has more than 4,096
-    /// items, so more room is not kept; [`grow`](List::grow) makes more.
+    /// Opens a list on a table, in an order, for a probe, whose length is d, and a reach, with room for so many items. No list has
+    /// more than 4,096 items, so more room is not kept; [`grow`](List::grow) makes more.
     ///
     /// Refused with [`Refusal::OutOfRange`] where the probe has not 1 to 8 coordinates.
-    pub fn open(table: u32, measure: Measure, probe: &[i32], reach: u64, room: usize) -> Result<List, Refusal> {
+    pub fn open(order: Order, table: u32, measure: Measure, probe: &[i32], reach: u64, room: usize) -> Result<List, Refusal> {
+        let d = probe.len();
         // Safety: the probe is alive and only read.
-        let opened = unsafe { raw::nearby_open_list(table, measure.number(), probe.len(), probe.as_ptr(), probe.len(), reach) };
+        let opened = unsafe { raw::nearby_open_list(order.flag(), table, measure.number(), d, probe.as_ptr(), d, reach) };
         heeded(opened.refusal)?;
-        let mut list = List { list: opened.list, measure, room: Vec::new() };
+        let mut list = List { list: opened.list, order, measure, room: Vec::new() };
         list.grow(room);
         Ok(list)
     }
@@ -61,7 +69,7 @@ impl List {
         self.room.len() / ITEM
     }
 
-    /// The list's present ask line, for a page of `size` claims, 1 to 16.
+    /// The list's present ask line, of its order's kind, for a page of `size` claims, 1 to 16.
     ///
     /// Refused with [`Refusal::Complete`] and [`Refusal::PageSize`].
     pub fn write_ask(&self, size: usize) -> Result<Vec<u8>, Refusal> {
@@ -73,7 +81,7 @@ impl List {
         Ok(out[..written.length].to_vec())
     }
 
-    /// Takes an answer line and gives how many items were joined.
+    /// Takes an answer line of the list's order and gives how many items were joined.
     ///
     /// Refused with [`Refusal::NotALine`], [`Refusal::NotThisKind`], [`Refusal::Complete`], [`Refusal::NotToPresentAsk`],
     /// [`Refusal::PageDoesNotHold`] and [`Refusal::ListRoomTooSmall`].
@@ -86,7 +94,7 @@ impl List {
         Ok(joined)
     }
 
-    /// The items so far, nearest first.
+    /// The items so far, in the list's order.
     pub fn items(&self) -> impl ExactSizeIterator<Item = Item> + DoubleEndedIterator + '_ {
         self.room[..self.len() * ITEM].chunks_exact(ITEM).map(Item::from_numbers)
     }
@@ -114,6 +122,11 @@ impl List {
     /// The number of the table that the list is of.
     pub fn table(&self) -> u32 {
         self.list.table
+    }
+
+    /// The list's order.
+    pub fn order(&self) -> Order {
+        self.order
     }
 
     /// The list's measure.

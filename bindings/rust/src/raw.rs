@@ -114,9 +114,11 @@ pub struct Answered {
 pub struct List {
     /// The table's number.
     pub table: u32,
+    /// The order, 0 near and 1 far. Any other number goes in as 1 and comes back as 1.
+    pub order: u8,
     /// The measure, 1 to 3.
     pub measure: u8,
-    /// Whether a first answer was taken: 0 or 1. Any other number goes in as 1 and comes back as 1.
+    /// Whether a first answer was taken: 0 or 1, in the same way.
     pub started: u8,
     /// Whether the last page was taken, in the same way.
     pub complete: u8,
@@ -164,6 +166,8 @@ pub struct Scope {
 pub struct Ask {
     /// The table's number.
     pub table: u32,
+    /// The order, 0 near and 1 far.
+    pub order: u8,
     /// The measure.
     pub measure: u8,
     /// How many coordinates the probe has.
@@ -182,6 +186,8 @@ pub struct Ask {
 pub struct AnswerFields {
     /// The table's number.
     pub table: u32,
+    /// The order, 0 near and 1 far.
+    pub order: u8,
     /// The measure.
     pub measure: u8,
     /// How many coordinates the probe has.
@@ -266,9 +272,10 @@ on_table! {
     fn nearby_nearest(probe: *const i32, probe_length: usize, reach: u64) -> Found;
     /// The farthest claim. Refusals 1, 2, 5.
     fn nearby_farthest(probe: *const i32, probe_length: usize) -> Found;
-    /// A page of claims. Refusals 1, 2, 5, 6, 7, 8, 12.
+    /// A page of claims in an order. Refusals 1, 2, 5, 6, 7, 8, 12.
     fn nearby_page(
-        probe: *const i32, probe_length: usize, reach: u64, start: Start, size: usize, room: *mut u64, room_length: usize
+        order: u8, probe: *const i32, probe_length: usize, reach: u64, start: Start, size: usize, room: *mut u64,
+        room_length: usize
     ) -> Filled;
     /// One ask line in, its answer line out. Refusals 12, 1, 2, 9, 10, 11, 7, 8.
     fn nearby_answer(line: *const u8, line_length: usize, out: *mut u8, out_length: usize) -> Written;
@@ -278,7 +285,7 @@ on_table! {
     ) -> u8;
     /// Farthest for each of n probes, four numbers a row. Refusals 1, 2, 5, 12.
     fn nearby_many_farthest(probes: *const i32, probes_length: usize, n: usize, out: *mut u64, out_length: usize) -> u8;
-    /// A page for each reach. Refusals 1, 2, 5, 6, 12.
+    /// A page for each reach, five numbers a place, the order in front. Refusals 1, 2, 5, 6, 12.
     fn nearby_many_pages(
         probes: *const i32, probes_length: usize, reaches: *const u64, reaches_length: usize, places: *const u64,
         places_length: usize, size: usize, outcomes: *mut u64, outcomes_length: usize, items: *mut u64, items_length: usize
@@ -319,8 +326,16 @@ extern "C" {
         points_length: usize,
     ) -> Tabled;
 
-    /// Opens a list. Refusals 1, 5.
-    pub fn nearby_open_list(table: u32, measure: u8, d: usize, probe: *const i32, probe_length: usize, reach: u64) -> Listed;
+    /// Opens a list in an order. Refusals 1, 5.
+    pub fn nearby_open_list(
+        order: u8,
+        table: u32,
+        measure: u8,
+        d: usize,
+        probe: *const i32,
+        probe_length: usize,
+        reach: u64,
+    ) -> Listed;
 
     /// Writes the list's present ask. Refusals 2, 16, 6, 12.
     pub fn nearby_write_ask(
@@ -335,8 +350,9 @@ extern "C" {
     /// Takes an answer line. Refusals 2, 9, 10, 16, 13, 14, 15.
     pub fn nearby_take(list: List, room: *mut u64, room_length: usize, line: *const u8, line_length: usize) -> Listed;
 
-    /// Writes an ask line. Refusals 10, 12.
+    /// Writes an ask line of an order's kind. Refusals 10, 12.
     pub fn nearby_write_ask_line(
+        order: u8,
         table: u32,
         measure: u8,
         d: u8,
@@ -348,8 +364,9 @@ extern "C" {
         out_length: usize,
     ) -> Written;
 
-    /// Writes an answer line. Refusals 10, 12.
+    /// Writes an answer line of an order's kind. Refusals 10, 12.
     pub fn nearby_write_answer_line(
+        order: u8,
         table: u32,
         measure: u8,
         d: u8,
@@ -376,10 +393,10 @@ extern "C" {
         out_length: usize,
     ) -> Written;
 
-    /// Reads an ask line. Refusals 9, 10.
+    /// Reads an ask line of either order. Refusals 9, 10.
     pub fn nearby_read_ask_line(line: *const u8, line_length: usize) -> AskRead;
 
-    /// Reads an answer line. Refusals 9, 10.
+    /// Reads an answer line of either order. Refusals 9, 10.
     pub fn nearby_read_answer_line(line: *const u8, line_length: usize) -> AnswerRead;
 
     /// Reads a claim line. Refusals 9, 10.

@@ -40,12 +40,12 @@ refusals! {
     NotSound = 2, "the table is not sound, or the list is not";
     OverCapacity = 3, "the run has more claims than the capacity leaves free";
     NoRoomFree = 4, "the run has more claims than there are nodes left", "It never arises on a table of this crate.";
-    WrongLength = 5, "not d coordinates in a probe or for each claim of a run, or not four numbers for each place";
+    WrongLength = 5, "not d coordinates in a probe or for each claim of a run, or not five numbers for each place";
     PageSize = 6, "a page size that is not 1 to 16";
     SnapshotOverCount = 7, "a snapshot of more claims than there are";
     MarkNotHeld = 8, "a mark that no claim of the snapshot has within the reach";
     NotALine = 9, "not pairs of digits, one at least, with 0A behind them, or more than 573 characters";
-    NotThisKind = 10, "another kind of line, or a length or a field that this kind cannot have";
+    NotThisKind = 10, "another kind of line, or a length or a field that this kind cannot have", "A list gives it to lines of the other order, which is no fault.";
     NotThisTable = 11, "the line is for another table";
     OutputTooSmall = 12, "the output room is too short";
     NotToPresentAsk = 13, "the answer is not to the list's present ask", "The line is late, repeated or another list's, which is no fault.";

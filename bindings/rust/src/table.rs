@@ -1,6 +1,6 @@
-use crate::items::{Item, Measure, Page, Place};
+use crate::items::{Item, Measure, Order, Page, Place};
 use crate::refusal::{heeded, Refusal};
-use crate::{raw, ANSWER_LINE, ITEM, MOST_CLAIMS, MOST_COORDINATES, MOST_PAGE, NODE};
+use crate::{raw, ANSWER_LINE, ITEM, MOST_CLAIMS, MOST_COORDINATES, MOST_PAGE, NODE, PLACE};
 
 /// Ask lines that are answered in one call of the library: enough that the table's test costs little beside them.
 const LINES_AT_ONCE: usize = 4096;
@@ -199,34 +199,46 @@ impl Table {
         found(ask!(self, nearby_farthest, probe.as_ptr(), probe.len()))
     }
 
-    /// The first `size` claims (1 to 16) within reach from a place on, nearest first.
+    /// The first `size` claims (1 to 16) within reach from a place on, in an order.
     ///
     /// Refused with [`Refusal::WrongLength`], [`Refusal::PageSize`], [`Refusal::SnapshotOverCount`] and [`Refusal::MarkNotHeld`].
     /// It tests the table first: see [`pages`](Table::pages).
     ///
     /// ```
-    /// use nearby::{Measure, Place, Table};
+    /// use nearby::{Measure, Order, Place, Table};
     ///
     /// let mut table = Table::new(7, Measure::CityBlock, 1, 10)?;
     /// table.enter(&[0x65, 0x66, 0x67, 0x68, 0x69], &[2, 3, 9, 6, 5])?;
-    /// let (mut place, mut numbers) = (Some(Place::Start), vec![]);
-    /// while let Some(at) = place {
-    ///     let page = table.page(&[4], 5, at, 2)?;
-    ///     numbers.extend(page.items.iter().map(|item| item.number));
-    ///     place = page.next();
+    /// for (order, sorted) in [(Order::Near, [1, 4, 0, 3, 2]), (Order::Far, [2, 0, 3, 1, 4])] {
+    ///     let (mut place, mut numbers) = (Some(Place::Start), vec![]);
+    ///     while let Some(at) = place {
+    ///         let page = table.page(order, &[4], 5, at, 2)?;
+    ///         numbers.extend(page.items.iter().map(|item| item.number));
+    ///         place = page.next();
+    ///     }
+    ///     assert_eq!(numbers, sorted);
     /// }
-    /// assert_eq!(numbers, [1, 4, 0, 3, 2]);
     /// # Ok::<(), nearby::Refusal>(())
     /// ```
-    pub fn page(&self, probe: &[i32], reach: u64, place: Place, size: usize) -> Result<Page, Refusal> {
+    pub fn page(&self, order: Order, probe: &[i32], reach: u64, place: Place, size: usize) -> Result<Page, Refusal> {
         let mut room = [0; MOST_PAGE * ITEM];
-        let filled =
-            ask!(self, nearby_page, probe.as_ptr(), probe.len(), reach, place.start(), size, room.as_mut_ptr(), room.len());
+        let filled = ask!(
+            self,
+            nearby_page,
+            order.flag(),
+            probe.as_ptr(),
+            probe.len(),
+            reach,
+            place.start(),
+            size,
+            room.as_mut_ptr(),
+            room.len()
+        );
         heeded(filled.refusal)?;
         Ok(self.page_of(&room[..filled.count * ITEM], filled.last != 0, place))
     }
 
-    /// The answer line to an ask line.
+    /// The answer line to an ask line, in the order that its kind says.
     ///
     /// Refused with [`Refusal::NotALine`], [`Refusal::NotThisKind`], [`Refusal::NotThisTable`], [`Refusal::SnapshotOverCount`] and
     /// [`Refusal::MarkNotHeld`]. It tests the table first: see [`answers`](Table::answers).
@@ -283,18 +295,31 @@ impl Table {
         Ok(out.chunks_exact(4).map(found_row).collect())
     }
 
-    /// [`page`](Table::page) for each reach, with d coordinates of `probes` and a place for each; the table is tested once.
+    /// [`page`](Table::page) for each reach, with d coordinates of `probes` and an order with a place for each; the table is tested
+    /// once.
     ///
     /// Refused as a whole with [`Refusal::WrongLength`] where the probes are not d or the places not one for each reach, and with
     /// [`Refusal::PageSize`]. A page alone is refused with [`Refusal::SnapshotOverCount`] and [`Refusal::MarkNotHeld`].
+    ///
+    /// ```
+    /// use nearby::{Measure, Order, Place, Table};
+    ///
+    /// let mut table = Table::new(7, Measure::CityBlock, 1, 10)?;
+    /// table.enter(&[0x65, 0x66, 0x67, 0x68, 0x69], &[2, 3, 9, 6, 5])?;
+    /// let places = [(Order::Near, Place::Start), (Order::Far, Place::Start)];
+    /// let pages = table.pages(&[4, 4], &[5, 5], &places, 2)?;
+    /// let numbers = |at: usize| pages[at].as_ref().unwrap().items.iter().map(|item| item.number).collect::<Vec<_>>();
+    /// assert_eq!((numbers(0), numbers(1)), (vec![1, 4], vec![2, 0]));
+    /// # Ok::<(), nearby::Refusal>(())
+    /// ```
     pub fn pages(
         &self,
         probes: &[i32],
         reaches: &[u64],
-        places: &[Place],
+        places: &[(Order, Place)],
         size: usize,
     ) -> Result<Vec<Result<Page, Refusal>>, Refusal> {
-        let starts: Vec<u64> = places.iter().flat_map(|place| start_row(place.start())).collect();
+        let starts: Vec<u64> = places.iter().flat_map(|(order, place)| start_row(*order, place.start())).collect();
         // A size out of range is refused before the rooms are looked at.
         let width = size.min(MOST_PAGE) * ITEM;
         let mut outcomes = vec![0; reaches.len() * 3];
@@ -315,21 +340,24 @@ impl Table {
             items.len()
         ))?;
         let rows = outcomes.chunks_exact(3).zip(items.chunks_exact(width)).zip(places);
-        Ok(rows.map(|((outcome, row), place)| self.page_row(outcome, row, *place)).collect())
+        Ok(rows.map(|((outcome, row), (_, place))| self.page_row(outcome, row, *place)).collect())
     }
 
     /// [`answer`](Table::answer) for ask lines that stand one after another, each with its 0A; the table is tested once for every
     /// 4,096 lines. A last line without 0A is a line too, and is refused with [`Refusal::NotALine`].
     ///
     /// ```
-    /// use nearby::{List, Measure, Refusal, Table};
+    /// use nearby::{List, Measure, Order, Refusal, Table};
     ///
     /// let table = Table::new(7, Measure::CityBlock, 1, 10)?;
-    /// let mut asks = List::open(7, Measure::CityBlock, &[4], 5, 16)?.write_ask(2)?;
+    /// let mut asks = Vec::new();
+    /// for order in Order::ALL {
+    ///     asks.extend(List::open(order, 7, Measure::CityBlock, &[4], 5, 16)?.write_ask(2)?);
+    /// }
     /// asks.extend_from_slice(b"no line\n");
     /// let answers = table.answers(&asks)?;
-    /// assert!(answers[0].is_ok());
-    /// assert_eq!(answers[1], Err(Refusal::NotALine));
+    /// assert!(answers[0].is_ok() && answers[1].is_ok());
+    /// assert_eq!(answers[2], Err(Refusal::NotALine));
     /// # Ok::<(), Refusal>(())
     /// ```
     pub fn answers(&self, asks: &[u8]) -> Result<Vec<Result<Vec<u8>, Refusal>>, Refusal> {
@@ -385,6 +413,6 @@ fn found_row(row: &[u64]) -> Option<Item> {
     (row[0] != 0).then(|| Item::from_numbers(&row[1..]))
 }
 
-fn start_row(start: raw::Start) -> [u64; 4] {
-    [start.from.into(), start.snapshot, start.distance, start.number]
+fn start_row(order: Order, start: raw::Start) -> [u64; PLACE] {
+    [order.flag().into(), start.from.into(), start.snapshot, start.distance, start.number]
 }

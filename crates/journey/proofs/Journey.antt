@@ -2,7 +2,7 @@
 use Prim.Native.Nat.{ℕ, _+_, _<_, _≤_, _^_}
 use mathlib.Core.Path.{_≡_, refl, sym, ap, _∙_}
 use mathlib.Core.Logic.{_⊎_, inl, inr, ⊎-elim}
-use mathlib.Core.Bool.{true, not}
+use mathlib.Core.Bool.{not}
 use mathlib.Core.List.{List, [], _∷_, _++_, List·Memᴰ, List·Memᴰ·append-cases}
 use native.Mathlib.Omega.{arith}
 use lib.ListN.{length, length-append, length-set}
@@ -12,7 +12,7 @@ use Rattle.paper.specs.Points.{Claim}
 use Rattle.paper.specs.Orders.{Query}
 use Rattle.paper.specs.Points.{inRange}
 use Rattle.paper.specs.Outcomes.{Outcome, refused, gives}
-use Rattle.paper.specs.Ends.{Ask, Answer, Codec, Table, count, answerOf, answerTo, lineAnswered, answerRoom, office, Listing, fresh, opening, presentAsk, every, soundIn, sizeHolds, askRoom, asking, taking}
+use Rattle.paper.specs.Ends.{Ask, Answer, Codec, Table, count, answerTo, lineAnswered, answerRoom, office, Listing, fresh, opening, presentAsk, every, soundIn, sizeHolds, askRoom, asking, taking}
 use Rattle.paper.proofs.Tests.{and-first, and-second}
 use Rattle.paper.proofs.Outcomes.{must-test, must-rest, through, same-given}
 use Rattle.orders.proofs.Lists.{All, all-map, all-append, all-set, all-getD, all-mem}

@@ -8,7 +8,7 @@ use mathlib.Core.Bool.{true, _&&_, _||_}
 use mathlib.Core.List.{List, [], _∷_, _++_, append-assoc}
 use lib.ListN.{length, getD, drop, set, replicate, length-append}
 use lib.Seq.{drop-cons, drop-drop, set-at}
-use lib.Dec.{leb, eqb}
+use lib.Dec.{eqb}
 use lib.IntN.{ℤ, pos}
 use mir.Syntax.{w32}
 use mir.Val.{ofZ, toZ}
@@ -17,7 +17,7 @@ use Rattle.line_digits.specs.FrameBytes.{overlaid}
 use Rattle.line_digits.proofs.NumbersAndFrames.{Bytes, bytes-append, bytes-be, length-be}
 use Rattle.line_digits.proofs.WritingOver.{over-append}
 use Rattle.line_digits.proofs.LinesAndFrames.{and-both}
-use borrow.Author.Tests.{le-leb, leb-true, eqb-true, eq-eqb}
+use borrow.Author.Tests.{le-leb, eqb-true, eq-eqb}
 use Rattle.paper.specs.Points.{inRange, InRange}
 use Rattle.paper.specs.Orders.{Query}
 use Rattle.paper.proofs.Ranges.{range-is}

@@ -7,7 +7,6 @@ use mathlib.Core.Bool.{true}
 use mathlib.Core.List.{List, [], _++_, append-nil}
 use lib.ListN.{length, drop, take, length-drop, drop-of-length-le}
 use lib.IntN.{ℤ}
-use lib.Dec.{lit≤}
 use borrow.Author.Tests.{eq-eqb}
 use Rattle.paper.specs.Frames.{be, num, lineOf, frameOf, isLine}
 use Rattle.paper.specs.Fields.{head, coordBytes, coordsIn, inSlots}

@@ -35,8 +35,10 @@ fn page_row(
     items: &mut [u64],
 )
     requires { ⌜ OnePage (lent t references coordinates nodes) (length (now probes)) (length (now places)) i size (length (now outcomes)) (length (now items)) ⌝ }
-    ensures shown { λ _. ⌜ now (outcomes .exit) ≡ putOutcome (λ k. pageCall (lent t (references .entry) (coordinates .entry) (nodes .entry)) (orderAt (now (places .entry)) i) (point (t .d) (now (probes .entry)) i) reach (placeAt (now (places .entry)) i) size (size * 3)) i (now (outcomes .entry)) ⌝ }
-    ensures filled { λ _. ⌜ now (items .exit) ≡ putPageItems (λ k. pageCall (lent t (references .entry) (coordinates .entry) (nodes .entry)) (orderAt (now (places .entry)) i) (point (t .d) (now (probes .entry)) i) reach (placeAt (now (places .entry)) i) size (size * 3)) (size * 3) i (now (items .entry)) ⌝ }
+    ensures shown { λ _. ⌜ now (outcomes .exit) ≡ putOutcome (λ k. pageCall (lent t (references .entry) (coordinates .entry) (nodes .entry))
+        (orderAt (now (places .entry)) i) (point (t .d) (now (probes .entry)) i) reach (placeAt (now (places .entry)) i) size (size * 3)) i (now (outcomes .entry)) ⌝ }
+    ensures filled { λ _. ⌜ now (items .exit) ≡ putPageItems (λ k. pageCall (lent t (references .entry) (coordinates .entry) (nodes .entry))
+        (orderAt (now (places .entry)) i) (point (t .d) (now (probes .entry)) i) reach (placeAt (now (places .entry)) i) size (size * 3)) (size * 3) i (now (items .entry)) ⌝ }
 {
     let d = t.d;
     let a = i * d;

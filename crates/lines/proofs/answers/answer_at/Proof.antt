@@ -105,7 +105,8 @@ returns c =
     let number2 = c .number2 in
     let answer-order = c .before .before .before .before .before .before .answer-order in
     let kind = c .before .before .before .before .before .before .before .kind in
-    answer-value (frameIn (args .src .now)) (query-at .result) _ _ (number2 .result) (number .result) _ (query-at .ensures ∙ rw (answer-order .ensures, kind .ensures)) refl (c .before .before .before .scope-at .ensures) (number2 .ensures .value) (number .ensures .value) (c .before .items-at .ensures)
+    answer-value (frameIn (args .src .now)) (query-at .result) _ _ (number2 .result) (number .result) _ (query-at .ensures ∙ rw (answer-order .ensures, kind .ensures)) refl
+    (c .before .before .before .scope-at .ensures) (number2 .ensures .value) (number .ensures .value) (c .before .items-at .ensures)
 
 pub answer-at-spec : {M : Type 1} → statement M
 answer-at-spec =

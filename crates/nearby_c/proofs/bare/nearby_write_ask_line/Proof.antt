@@ -55,7 +55,8 @@ returns-2 c =
     let scope-in = c .before .before .before .before .before .scope-in in
     let a = args in
     line-from (λ (q : Query) (p : Scope). bareLine (askFits q p (a .size)) longestAsk (askFrame q p (a .size)) (length (a .out .now))) (queryFrom (a .order) (a .table) (a .measure) (a .d) (a .probe .now) (a .p .reach)) _ (scopeFrom (a .p)) _ _ _ _ _
-    (placed-query (queryFrom (a .order) (a .table) (a .measure) (a .d) (a .probe .now) (a .p .reach)) (scopeFrom (a .p)) _ (placeable .ensures) (if1 .left) _ (query-of .ensures ∙ rw (order-in .ensures))) (scope-in .ensures) (c .before .before .before .write-ask-line .ensures) (c .line-of2 .ensures)
+    (placed-query (queryFrom (a .order) (a .table) (a .measure) (a .d) (a .probe .now) (a .p .reach)) (scopeFrom (a .p)) _ (placeable .ensures) (if1 .left) _ (query-of .ensures ∙ rw (order-in .ensures)))
+    (scope-in .ensures) (c .before .before .before .write-ask-line .ensures) (c .line-of2 .ensures)
 
 pub nearby-write-ask-line-spec : {M : Type 1} → statement M
 nearby-write-ask-line-spec =
