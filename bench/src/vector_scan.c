@@ -15,6 +15,9 @@ enum { BLOCK = 64, NUMBER_BITS = 12, NUMBERS = 1 << NUMBER_BITS };
 /* No distance is greater. All its bits are set, so that x ^ MOST is MOST - x. */
 #define MOST ((UINT64_C(1) << 36) - 1)
 
+/* Inlined at each use, so that a use with a fixed order has a loop of its own for it. */
+#define FIXED static inline __attribute__((always_inline))
+
 struct columns {
     size_t n, d, stride;
     uint8_t measure;
@@ -83,13 +86,13 @@ struct admitted {
     int64_t snapshot, least, most;
 };
 
-static inline int64_t key_of(uint64_t turn, uint64_t distance, uint64_t number)
+FIXED int64_t key_of(uint64_t turn, uint64_t distance, uint64_t number)
 {
     return (int64_t)((distance ^ turn) << NUMBER_BITS | number);
 }
 
 /* What an order admits within reach: the reach ends the keys in near order, and begins them in far order. */
-static struct admitted within(uint64_t order, uint64_t reach, size_t snapshot)
+FIXED struct admitted within(uint64_t order, uint64_t reach, size_t snapshot)
 {
     const uint64_t edge = reach < MOST ? reach : MOST;
     if (order == NEARBY_NEAR)
@@ -98,7 +101,7 @@ static struct admitted within(uint64_t order, uint64_t reach, size_t snapshot)
 }
 
 /* The keys of a block's claims, NONE for those that are not admitted. Gives the least. */
-static int64_t block_keys(const struct columns *t, size_t from, const int32_t *probe, struct admitted a, int64_t *restrict keys)
+FIXED int64_t block_keys(const struct columns *t, size_t from, const int32_t *probe, struct admitted a, int64_t *restrict keys)
 {
     uint64_t x[BLOCK];
     int64_t first = NONE;
@@ -120,8 +123,7 @@ static void put_item(const struct columns *t, uint64_t turn, int64_t key, uint64
     item[2] = (uint64_t)(key >> NUMBER_BITS) ^ turn;
 }
 
-/* The first claim in an order. */
-static void find_first(const struct columns *t, const int32_t *probe, struct admitted a, uint64_t *row)
+FIXED void find_first(const struct columns *t, const int32_t *probe, struct admitted a, uint64_t *row)
 {
     int64_t keys[BLOCK], best = NONE;
     for (size_t from = 0; from < t->n; from += BLOCK) {
@@ -132,6 +134,16 @@ static void find_first(const struct columns *t, const int32_t *probe, struct adm
         row[0] = 1;
         put_item(t, a.turn, best, row + 1);
     }
+}
+
+static void nearest(const struct columns *t, const int32_t *probe, uint64_t reach, uint64_t *row)
+{
+    find_first(t, probe, within(NEARBY_NEAR, reach, t->n), row);
+}
+
+static void farthest(const struct columns *t, const int32_t *probe, uint64_t *row)
+{
+    find_first(t, probe, within(NEARBY_FAR, UINT64_MAX, t->n), row);
 }
 
 /* The least keys so far, in order, and the least key that is out of the page. */
@@ -205,9 +217,9 @@ static void ask(void *table, const struct cell *cell, enum question question, si
     for (size_t i = 0; i < count; i++) {
         const int32_t *probe = &cell->probes[i * cell->d];
         if (question == NEAREST)
-            find_first(table, probe, within(NEARBY_NEAR, cell->reaches[i], cell->n), &answers->found[i * FOUND]);
+            nearest(table, probe, cell->reaches[i], &answers->found[i * FOUND]);
         else if (question == FARTHEST)
-            find_first(table, probe, within(NEARBY_FAR, UINT64_MAX, cell->n), &answers->found[i * FOUND]);
+            farthest(table, probe, &answers->found[i * FOUND]);
         else
             page(table, probe, cell->reaches[i], &cell->places[question][i * NEARBY_PLACE], NEARBY_MOST_PAGE,
                  &answers->outcomes[i * OUTCOME], &answers->items[i * ITEMS]);

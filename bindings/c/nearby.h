@@ -38,7 +38,7 @@ extern "C" {
 #define NEARBY_NODE 6
 /* [2.6] Numbers in an item: its claim's number, its reference, its distance from the probe. */
 #define NEARBY_ITEM 3
-/* [4.18] Numbers in a row of nearby_many_pages: an order and a place. */
+/* [4.18] Numbers that nearby_many_pages takes for each page: an order and a place. */
 #define NEARBY_PLACE 5
 /* [1.3] [3.1] [4.3] The largest d, capacity and page size. */
 #define NEARBY_MOST_COORDINATES 8

@@ -223,7 +223,7 @@ static void example_f(void)
     free_store(&s);
 }
 
-/* g: [8.8] claim 4 is not at distance 2. h: [8.7] the sixth claim is not there. Claim 2 is no mark within 4, in far order either. */
+/* g: [8.8] claim 4 is not at distance 2. h: [8.7] the sixth claim is not there. Claim 2 is no mark within 4. */
 static void examples_g_and_h(void)
 {
     seeded from = seed(87);

@@ -19,8 +19,8 @@ void count_call(call which, uint8_t refusal);
 /* Counts a line as refused, or as written in an order, with its characters. */
 void count_line(call which, nearby_written line, uint8_t order, event written);
 
-/* Everything happened often enough, in each order where it has one, every list of the office's table was completed, no claim was missed, and no list was other than
- * it has to be. */
+/* Everything happened often enough, in each order where it has one, every list of the office's table was completed, no claim was
+ * missed, and no list was other than it has to be. */
 void check_counts(void);
 
 #endif

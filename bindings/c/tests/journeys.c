@@ -1,7 +1,7 @@
 /*
  * Generated journeys: an office that enters claims between any two lines, tablets with lists of both orders, and a link that loses,
- * repeats, delays, reorders and damages their lines. After every step each list stands beside a sort of the claims. In the end each list goes on over
- * a link that loses nothing, until it is complete.
+ * repeats, delays, reorders and damages their lines. After every step each list stands beside a sort of the claims. In the end each list
+ * goes on over a link that loses nothing, until it is complete.
  */
 #include "journey_counts.h"
 #include "journey_link.h"

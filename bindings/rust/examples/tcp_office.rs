@@ -1,8 +1,10 @@
 //! An office that serves tablets over TCP: lines ended by 0A, an answer line to each ask, nothing to a claim that is entered, and
-//! `refused N` to the rest, as the program `office` does. Tablets load lists while another connection enters claims.
+//! `refused N` to the rest, as the program `office` does. Tablets load lists, every other one from its far end, while another connection
+//! enters claims.
 //!
 //!     cargo run --example tcp_office [TABLETS [CLAIMS]]
 
+use std::cmp::Reverse;
 use std::env;
 use std::error::Error;
 use std::io::{self, BufRead, BufReader, Write};
@@ -12,7 +14,7 @@ use std::process::ExitCode;
 use std::sync::RwLock;
 use std::thread;
 
-use nearby::{ClaimLine, List, Measure, Refusal, Table, ANSWER_LINE, MOST_CLAIMS};
+use nearby::{ClaimLine, List, Measure, Order, Refusal, Table, ANSWER_LINE, MOST_CLAIMS};
 
 type Outcome<T> = Result<T, Box<dyn Error + Send + Sync>>;
 
@@ -115,7 +117,7 @@ fn adjuster(mut stream: TcpStream, claims: Range<usize>) -> Outcome<usize> {
 /// Loads a list to its end; gives it with the number of its pages.
 fn tablet(mut stream: TcpStream, at: usize) -> Outcome<(List, usize)> {
     let mut reader = BufReader::new(stream.try_clone()?);
-    let mut list = List::open(NUMBER, MEASURE, &[50 * at as i32, -30 * at as i32], 400, MOST_CLAIMS)?;
+    let mut list = List::open(Order::ALL[at % 2], NUMBER, MEASURE, &[50 * at as i32, -30 * at as i32], 400, MOST_CLAIMS)?;
     let mut pages = 0;
     while !list.is_complete() {
         stream.write_all(&list.write_ask(1 + at % 16)?)?;
@@ -135,7 +137,10 @@ fn holds(table: &Table, list: &List) -> bool {
         place.iter().zip(list.probe()).map(|(a, b)| u64::from(a.abs_diff(*b))).max().expect("d is not 0")
     };
     let mut within: Vec<(u64, usize)> = (0..snapshot).map(|n| (apart(n), n)).filter(|(far, _)| *far <= list.reach()).collect();
-    within.sort_unstable();
+    match list.order() {
+        Order::Near => within.sort_unstable(),
+        Order::Far => within.sort_unstable_by_key(|&(far, n)| (Reverse(far), n)),
+    }
     list.items().map(|item| (item.distance, item.number.into())).eq(within)
 }
 
@@ -181,8 +186,12 @@ fn report(table: &Table, loaded: &[(List, usize)], refused: usize) -> Outcome<()
             return Err(format!("the list of tablet {at} is not what measuring every claim gives").into());
         }
         let snapshot = list.snapshot().expect("a complete list has its snapshot");
+        let first = match list.order() {
+            Order::Near => "nearest",
+            Order::Far => "farthest",
+        };
         println!(
-            "tablet {at}: {} claims within {}, of the first {snapshot}, in {pages} pages; complete",
+            "tablet {at}: {} claims within {}, of the first {snapshot}, {first} first, in {pages} pages; complete",
             list.len(),
             list.reach()
         );

@@ -3,7 +3,8 @@
 //! An office keeps a [`Table`] that grows all day. A tablet loads a [`List`] of the claims near a probe, nearest first or farthest
 //! first, a page at a time, over a link that may lose, repeat, delay and reorder lines. Whatever the link does, the list is at every
 //! moment the first so many, in its [`Order`], of the claims within reach that the table held at the list's snapshot, and it says
-//! complete only when none is missing. That is proved of the library behind this crate; the crate itself, which hands over memory and reads results, is tested.
+//! complete only when none is missing. That is proved of the library behind this crate; the crate itself, which hands over memory
+//! and reads results, is tested.
 //!
 //! ```
 //! use nearby::{List, Measure, Order, Table};
@@ -65,5 +66,5 @@ pub const MOST_PAGE: usize = 16;
 pub const NODE: usize = 6;
 /// Numbers in an item of a list's or a page's memory.
 pub const ITEM: usize = 3;
-/// Numbers in a row of many pages: an order and a place.
+/// Numbers that many pages take for each: an order and a place.
 pub const PLACE: usize = 5;

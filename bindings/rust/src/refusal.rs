@@ -45,7 +45,7 @@ refusals! {
     SnapshotOverCount = 7, "a snapshot of more claims than there are";
     MarkNotHeld = 8, "a mark that no claim of the snapshot has within the reach";
     NotALine = 9, "not pairs of digits, one at least, with 0A behind them, or more than 573 characters";
-    NotThisKind = 10, "another kind of line, or a length or a field that this kind cannot have", "A list gives it to lines of the other order, which is no fault.";
+    NotThisKind = 10, "another kind of line, or a length or a field that this kind cannot have", "To a list, so is the other order's answer.";
     NotThisTable = 11, "the line is for another table";
     OutputTooSmall = 12, "the output room is too short";
     NotToPresentAsk = 13, "the answer is not to the list's present ask", "The line is late, repeated or another list's, which is no fault.";

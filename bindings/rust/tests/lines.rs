@@ -1,11 +1,19 @@
-//! The three kinds of line beside an independent writer and reader.
+//! Asks and answers of both orders, and claims, beside an independent writer and reader.
 
 mod common;
 
 use common::{drawn, Seeded, Style};
-use nearby::{Answer, Ask, ClaimLine, Item, Mark, Measure, Place, Refusal};
+use nearby::{Answer, Ask, ClaimLine, Item, Mark, Measure, Order, Place, Refusal};
 
 // ---- an independent writer
+
+/// The kind of an ask or an answer: the one in near order, or the one in far order.
+fn kind(order: Order, near: u8, far: u8) -> u8 {
+    match order {
+        Order::Near => near,
+        Order::Far => far,
+    }
+}
 
 fn head(kind: u8, table: u32, measure: Measure, coordinates: &[i32]) -> String {
     format!("{kind:02x}{table:08x}{:02x}{:02x}", measure.number(), coordinates.len())
@@ -25,13 +33,14 @@ fn ask_text(ask: &Ask) -> String {
         Place::Start => scope(ask.reach, 0, None),
         Place::After { snapshot, mark } => scope(ask.reach, snapshot, Some(mark)),
     };
-    format!("{}{}{behind}{:02x}\n", head(1, ask.table, ask.measure, &ask.probe), coordinates(&ask.probe), ask.size)
+    let front = head(kind(ask.order, 1, 4), ask.table, ask.measure, &ask.probe) + &coordinates(&ask.probe);
+    format!("{front}{behind}{:02x}\n", ask.size)
 }
 
 fn answer_text(answer: &Answer) -> String {
     let items: String =
         answer.items.iter().map(|item| format!("{:04x}{:08x}{:016x}", item.number, item.reference, item.distance)).collect();
-    let front = head(2, answer.table, answer.measure, &answer.probe) + &coordinates(&answer.probe);
+    let front = head(kind(answer.order, 2, 5), answer.table, answer.measure, &answer.probe) + &coordinates(&answer.probe);
     let behind = scope(answer.reach, answer.snapshot, answer.after);
     format!("{front}{behind}{:02x}{:02x}{items}\n", u8::from(answer.last), answer.items.len())
 }
@@ -71,9 +80,17 @@ impl Fields {
         (0..d).map(|_| self.next(4).map(|value| value as u32 as i32)).collect()
     }
 
-    /// Kind, table, measure and d.
-    fn head(&mut self, kind: u64) -> Option<(u32, Measure, u64)> {
-        self.within(1, kind..=kind)?;
+    /// The order of an ask or an answer, by its kind.
+    fn order(&mut self, near: u64, far: u64) -> Option<Order> {
+        match self.next(1)? {
+            kind if kind == near => Some(Order::Near),
+            kind if kind == far => Some(Order::Far),
+            _ => None,
+        }
+    }
+
+    /// Table, measure and d, behind the kind.
+    fn head(&mut self) -> Option<(u32, Measure, u64)> {
         let table = self.next(4)? as u32;
         let measure = Measure::ALL[self.within(1, 1..=3)? as usize - 1];
         Some((table, measure, self.within(1, 1..=8)?))
@@ -95,7 +112,8 @@ impl Fields {
 }
 
 fn ask_fields(mut fields: Fields) -> Option<Ask> {
-    let (table, measure, d) = fields.head(1)?;
+    let order = fields.order(1, 4)?;
+    let (table, measure, d) = fields.head()?;
     let probe = fields.coordinates(d)?;
     let (reach, snapshot, mark) = fields.scope()?;
     let size = fields.within(1, 1..=16)? as usize;
@@ -105,11 +123,12 @@ fn ask_fields(mut fields: Fields) -> Option<Ask> {
         None => Place::Start,
         Some(mark) => Place::After { snapshot, mark },
     };
-    Some(Ask { table, measure, probe, reach, place, size })
+    Some(Ask { table, order, measure, probe, reach, place, size })
 }
 
 fn answer_fields(mut fields: Fields) -> Option<Answer> {
-    let (table, measure, d) = fields.head(2)?;
+    let order = fields.order(2, 5)?;
+    let (table, measure, d) = fields.head()?;
     let probe = fields.coordinates(d)?;
     let (reach, snapshot, after) = fields.scope()?;
     let last = fields.within(1, 0..=1)? == 1;
@@ -120,11 +139,12 @@ fn answer_fields(mut fields: Fields) -> Option<Answer> {
     };
     let items = (0..count).map(|_| item()).collect::<Option<Vec<Item>>>()?;
     fields.end()?;
-    Some(Answer { table, measure, probe, reach, snapshot, after, last, items })
+    Some(Answer { table, order, measure, probe, reach, snapshot, after, last, items })
 }
 
 fn claim_fields(mut fields: Fields) -> Option<ClaimLine> {
-    let (table, measure, d) = fields.head(3)?;
+    fields.within(1, 3..=3)?;
+    let (table, measure, d) = fields.head()?;
     let reference = fields.next(4)? as u32;
     let coordinates = fields.coordinates(d)?;
     fields.end()?;
@@ -161,6 +181,7 @@ fn some_ask(from: &mut Seeded) -> Ask {
     };
     Ask {
         table: from.next() as u32,
+        order: from.pick(&Order::ALL),
         measure: from.pick(&Measure::ALL),
         probe: some_coordinates(from),
         reach: from.next() >> from.below(64),
@@ -173,6 +194,7 @@ fn some_answer(from: &mut Seeded) -> Answer {
     let count = from.below(17);
     Answer {
         table: from.next() as u32,
+        order: from.pick(&Order::ALL),
         measure: from.pick(&Measure::ALL),
         probe: some_coordinates(from),
         reach: from.next(),
@@ -216,25 +238,35 @@ fn lines_are_written_as_told_and_read_back() {
 
 #[test]
 fn the_longest_lines() {
-    let probe = vec![-1; 8];
+    let (table, measure, probe, reach) = (u32::MAX, Measure::Hamming, vec![-1; 8], u64::MAX);
     let mark = Mark { distance: u64::MAX, number: 4095 };
     let place = Place::After { snapshot: 4096, mark };
-    let ask = Ask { table: u32::MAX, measure: Measure::Hamming, probe: probe.clone(), reach: u64::MAX, place, size: 16 };
-    assert_eq!(ask.to_line().unwrap().len(), nearby::ASK_LINE);
     let items = vec![Item { number: 4095, reference: u32::MAX, distance: u64::MAX }; 16];
-    let answer = Answer {
-        table: u32::MAX,
-        measure: Measure::Hamming,
-        probe: probe.clone(),
-        reach: u64::MAX,
-        snapshot: 4096,
-        after: Some(mark),
-        last: true,
-        items,
-    };
-    assert_eq!(answer.to_line().unwrap().len(), nearby::ANSWER_LINE);
-    let claim = ClaimLine { table: u32::MAX, measure: Measure::Hamming, reference: u32::MAX, coordinates: probe };
+    for order in Order::ALL {
+        let ask = Ask { table, order, measure, probe: probe.clone(), reach, place, size: 16 };
+        assert_eq!(ask.to_line().unwrap().len(), nearby::ASK_LINE);
+        let (after, items) = (Some(mark), items.clone());
+        let answer = Answer { table, order, measure, probe: probe.clone(), reach, snapshot: 4096, after, last: true, items };
+        assert_eq!(answer.to_line().unwrap().len(), nearby::ANSWER_LINE);
+    }
+    let claim = ClaimLine { table, measure, reference: u32::MAX, coordinates: probe };
     assert_eq!(claim.to_line().unwrap().len(), nearby::CLAIM_LINE);
+}
+
+/// The number of a kind in front of the fields of each kind: only its own reader takes it, and tells the order by it.
+#[test]
+fn every_kind_before_every_reader() {
+    let from = &mut Seeded(36);
+    let lines: [Vec<u8>; 3] = some_lines(from);
+    for kind in 0..=255u8 {
+        let numbered = lines.clone().map(|line| [format!("{kind:02x}").as_bytes(), &line[2..]].concat());
+        numbered.iter().for_each(|line| read_all(line));
+        let [ask, answer, claim] = numbered;
+        let order = |near, far| Order::ALL.into_iter().zip([near, far]).find(|(_, own)| *own == kind).map(|(order, _)| order);
+        assert_eq!(Ask::from_line(&ask).ok().map(|ask| ask.order), order(1, 4));
+        assert_eq!(Answer::from_line(&answer).ok().map(|answer| answer.order), order(2, 5));
+        assert_eq!(ClaimLine::from_line(&claim).is_ok(), kind == 3);
+    }
 }
 
 #[test]
@@ -310,7 +342,8 @@ fn fields_at_their_edges() {
     let from = &mut Seeded(35);
     for _ in 0..4000 {
         for mut line in some_lines(from) {
-            let edge = from.pick(&["00", "01", "02", "03", "04", "08", "09", "10", "11", "1000", "1001", "0fff", "ffff"]);
+            let edge =
+                from.pick(&["00", "01", "02", "03", "04", "05", "06", "08", "09", "10", "11", "1000", "1001", "0fff", "ffff"]);
             let at = 2 * from.below((line.len() - 1 - edge.len()) / 2 + 1);
             line[at..at + edge.len()].copy_from_slice(edge.as_bytes());
             read_all(&line);
@@ -331,4 +364,9 @@ fn the_sample_lines() {
                   0001000000660000000000000001\
                   0004000000690000000000000001\n";
     assert_eq!(table.answer(ask).unwrap(), answer.as_bytes());
+    let from_the_far_end = b"040000000701010000000400000000000000050000000000000000000000000002\n";
+    let farthest = "05000000070101000000040000000000000005000005000000000000000000000002\
+                    0002000000670000000000000005\
+                    0000000000650000000000000002\n";
+    assert_eq!(table.answer(from_the_far_end).unwrap(), farthest.as_bytes());
 }

@@ -6,7 +6,7 @@ use std::sync::Arc;
 use std::thread;
 
 use common::{drawn, filled, Claims, Seeded, Style, STYLES};
-use nearby::{Ask, Item, Mark, Measure, Page, Place, Refusal, Table};
+use nearby::{Ask, Item, Mark, Measure, Order, Page, Place, Refusal, Table};
 
 const EVERYWHERE: u64 = u64::MAX;
 
@@ -25,10 +25,18 @@ fn on_tables(seed: u64, counts: &[usize], mut ask: impl FnMut(&mut Seeded, &Tabl
     }
 }
 
-fn page_as_sorted(table: &Table, claims: &Claims, probe: &[i32], reach: u64, place: Place, size: usize) -> Result<Page, Refusal> {
-    let page = table.page(probe, reach, place, size);
+fn page_as_sorted(
+    table: &Table,
+    claims: &Claims,
+    order: Order,
+    probe: &[i32],
+    reach: u64,
+    place: Place,
+    size: usize,
+) -> Result<Page, Refusal> {
+    let page = table.page(order, probe, reach, place, size);
     let told = page.as_ref().map(|p| (p.items.clone(), p.last)).map_err(|r| *r);
-    assert_eq!(told, claims.page(probe, reach, place, size), "{place:?} size {size} reach {reach}");
+    assert_eq!(told, claims.page(order, probe, reach, place, size), "{order:?} {place:?} size {size} reach {reach}");
     page
 }
 
@@ -38,7 +46,7 @@ fn nearest_and_farthest_are_those_of_a_sort() {
         for _ in 0..6 {
             let probe = drawn(from, style, claims.d);
             let reach = claims.some_reach(from, &probe);
-            let near = claims.near(&probe, reach, claims.all.len());
+            let near = claims.listed(Order::Near, &probe, reach, claims.all.len());
             assert_eq!(table.nearest(&probe, reach), Ok(near.first().copied()));
             assert_eq!(table.farthest(&probe), Ok(claims.farthest(&probe)));
         }
@@ -50,13 +58,15 @@ fn pages_to_the_end_are_the_sorted_claims() {
     on_tables(12, &[0, 1, 16, 17, 50], |from, table, claims, style| {
         let probe = drawn(from, style, claims.d);
         let reach = claims.some_reach(from, &probe);
-        let (size, mut place, mut seen) = (1 + from.below(16), Some(Place::Start), Vec::new());
-        while let Some(at) = place {
-            let page = page_as_sorted(table, claims, &probe, reach, at, size).unwrap();
-            seen.extend_from_slice(&page.items);
-            place = page.next();
+        for order in Order::ALL {
+            let (size, mut place, mut seen) = (1 + from.below(16), Some(Place::Start), Vec::new());
+            while let Some(at) = place {
+                let page = page_as_sorted(table, claims, order, &probe, reach, at, size).unwrap();
+                seen.extend_from_slice(&page.items);
+                place = page.next();
+            }
+            assert_eq!(seen, claims.listed(order, &probe, reach, claims.all.len()));
         }
-        assert_eq!(seen, claims.near(&probe, reach, claims.all.len()));
     });
 }
 
@@ -66,8 +76,8 @@ fn pages_after_any_mark_in_any_snapshot() {
         for _ in 0..12 {
             let probe = drawn(from, style, claims.d);
             let reach = claims.some_reach(from, &probe);
-            let place = claims.some_place(from, &probe);
-            let _ = page_as_sorted(table, claims, &probe, reach, place, 1 + from.below(16));
+            let (order, place) = (from.pick(&Order::ALL), claims.some_place(from, &probe));
+            let _ = page_as_sorted(table, claims, order, &probe, reach, place, 1 + from.below(16));
         }
     });
 }
@@ -76,14 +86,36 @@ fn pages_after_any_mark_in_any_snapshot() {
 fn marks_far_out_are_refused() {
     let from = &mut Seeded(14);
     let (table, claims) = filled(from, Measure::CityBlock, 1, 9, 9, Style::Tied);
-    let first = claims.near(&[0], EVERYWHERE, 9)[0].mark();
-    for snapshot in [10, 4097, u64::MAX] {
-        assert_eq!(table.page(&[0], EVERYWHERE, Place::After { snapshot, mark: first }, 3), Err(Refusal::SnapshotOverCount));
+    for order in Order::ALL {
+        let first = claims.listed(order, &[0], EVERYWHERE, 9)[0].mark();
+        for snapshot in [10, 4097, u64::MAX] {
+            let place = Place::After { snapshot, mark: first };
+            assert_eq!(table.page(order, &[0], EVERYWHERE, place, 3), Err(Refusal::SnapshotOverCount));
+        }
+        for number in [9, 4096, 1 << 32, u64::MAX] {
+            let place = Place::After { snapshot: 9, mark: Mark { distance: first.distance, number } };
+            assert_eq!(table.page(order, &[0], EVERYWHERE, place, 3), Err(Refusal::MarkNotHeld));
+        }
     }
-    for number in [9, 4096, 1 << 32, u64::MAX] {
-        let mark = Mark { distance: first.distance, number };
-        assert_eq!(table.page(&[0], EVERYWHERE, Place::After { snapshot: 9, mark }, 3), Err(Refusal::MarkNotHeld));
-    }
+}
+
+/// The five claims of the examples in far order, worked by hand: a claim that is entered between two pages is on none of them.
+#[test]
+fn pages_from_the_far_end() {
+    let mut table = Table::new(7, Measure::CityBlock, 1, 8).unwrap();
+    table.enter(&[101, 102, 103, 104, 105], &[2, 3, 9, 6, 5]).unwrap();
+    let page = |table: &Table, reach, place| {
+        let page = table.page(Order::Far, &[4], reach, place, 2).unwrap();
+        (page.items.iter().map(|item| (item.number, item.distance)).collect::<Vec<_>>(), page.last)
+    };
+    let after = |distance, number| Place::After { snapshot: 5, mark: Mark { distance, number } };
+    assert_eq!(page(&table, 5, Place::Start), (vec![(2, 5), (0, 2)], false));
+    assert_eq!(page(&table, 2, Place::Start), (vec![(0, 2), (3, 2)], false));
+    table.enter(&[106], &[4]).unwrap();
+    assert_eq!(page(&table, 5, after(2, 0)), (vec![(3, 2), (1, 1)], false));
+    assert_eq!(page(&table, 5, after(1, 1)), (vec![(4, 1)], true));
+    assert_eq!(page(&table, 2, after(2, 3)), (vec![(1, 1), (4, 1)], false));
+    assert_eq!(page(&table, 2, after(1, 4)), (vec![], true));
 }
 
 #[test]
@@ -92,13 +124,15 @@ fn large_tables() {
     for (round, style) in STYLES.into_iter().enumerate() {
         let (table, claims) = filled(from, Measure::ALL[round % 3], 2, 4096, 4096, style);
         let probe = drawn(from, style, 2);
-        let near = claims.near(&probe, EVERYWHERE, 4096);
-        assert_eq!(table.nearest(&probe, EVERYWHERE), Ok(near.first().copied()));
-        assert_eq!(table.farthest(&probe), Ok(claims.farthest(&probe)));
-        let middle = Place::After { snapshot: 4096, mark: near[2000].mark() };
-        page_as_sorted(&table, &claims, &probe, EVERYWHERE, middle, 16).unwrap();
-        let late = Place::After { snapshot: 4096, mark: near[4090].mark() };
-        assert!(page_as_sorted(&table, &claims, &probe, EVERYWHERE, late, 16).unwrap().last);
+        let both = Order::ALL.map(|order| (order, claims.listed(order, &probe, EVERYWHERE, 4096)));
+        assert_eq!(table.nearest(&probe, EVERYWHERE), Ok(both[0].1.first().copied()));
+        assert_eq!(table.farthest(&probe), Ok(both[1].1.first().copied()));
+        for (order, sorted) in both {
+            let middle = Place::After { snapshot: 4096, mark: sorted[2000].mark() };
+            page_as_sorted(&table, &claims, order, &probe, EVERYWHERE, middle, 16).unwrap();
+            let late = Place::After { snapshot: 4096, mark: sorted[4090].mark() };
+            assert!(page_as_sorted(&table, &claims, order, &probe, EVERYWHERE, late, 16).unwrap().last);
+        }
     }
 }
 
@@ -114,8 +148,10 @@ fn probes_and_sizes_amiss() {
             assert_eq!(table.farthest(&probe).err(), amiss);
             for size in [0, 1, 16, 17, 256, 257, usize::MAX] {
                 let sized = (!(1..=16).contains(&size)).then_some(Refusal::PageSize);
-                assert_eq!(table.page(&probe, 5, Place::Start, size).err(), amiss.or(sized));
-                assert_eq!(table.pages(&probe, &[5], &[Place::Start], size).err(), amiss.or(sized));
+                for order in Order::ALL {
+                    assert_eq!(table.page(order, &probe, 5, Place::Start, size).err(), amiss.or(sized));
+                    assert_eq!(table.pages(&probe, &[5], &[(order, Place::Start)], size).err(), amiss.or(sized));
+                }
             }
         }
     }
@@ -128,7 +164,7 @@ fn many_are_what_single_ones_are() {
         let probes = drawn(from, style, n * claims.d);
         let each = || probes.chunks_exact(claims.d);
         let reaches: Vec<u64> = each().map(|probe| claims.some_reach(from, probe)).collect();
-        let starts: Vec<Place> = each().map(|probe| claims.some_place(from, probe)).collect();
+        let starts: Vec<(Order, Place)> = each().map(|probe| (from.pick(&Order::ALL), claims.some_place(from, probe))).collect();
         let size = 1 + from.below(16);
 
         let near: Vec<Option<Item>> = each().zip(&reaches).map(|(probe, &reach)| table.nearest(probe, reach).unwrap()).collect();
@@ -136,8 +172,9 @@ fn many_are_what_single_ones_are() {
         let far: Vec<Option<Item>> = each().map(|probe| table.farthest(probe).unwrap()).collect();
         assert_eq!(table.farthest_many(&probes).unwrap(), far);
         let single = each().zip(&reaches).zip(&starts);
-        let pages: Vec<_> =
-            single.map(|((probe, &reach), &place)| page_as_sorted(table, claims, probe, reach, place, size)).collect();
+        let pages: Vec<_> = single
+            .map(|((probe, &reach), &(order, place))| page_as_sorted(table, claims, order, probe, reach, place, size))
+            .collect();
         assert_eq!(table.pages(&probes, &reaches, &starts, size).unwrap(), pages);
     });
 }
@@ -146,7 +183,7 @@ fn many_are_what_single_ones_are() {
 fn many_with_lengths_amiss() {
     let from = &mut Seeded(18);
     let (table, _) = filled(from, Measure::Hamming, 3, 9, 9, Style::Tied);
-    let start = [Place::Start; 3];
+    let start = [Order::Near, Order::Far, Order::Near].map(|order| (order, Place::Start));
     for length in 0..12 {
         let probes = vec![0; length];
         let amiss = (length != 6).then_some(Refusal::WrongLength);
@@ -165,6 +202,7 @@ fn some_asks(from: &mut Seeded, claims: &Claims, lines: usize) -> Vec<u8> {
         let probe = drawn(from, Style::Tied, claims.d);
         let ask = Ask {
             table: claims.number ^ u32::from(from.one_in(9)),
+            order: from.pick(&Order::ALL),
             measure: claims.measure,
             reach: claims.some_reach(from, &probe),
             place: claims.some_place(from, &probe),
@@ -211,15 +249,18 @@ fn more_answers_than_go_into_one_call() {
 fn answer_into_a_room() {
     let from = &mut Seeded(21);
     let (table, claims) = filled(from, Measure::CityBlock, 2, 9, 9, Style::Tied);
-    let ask = Ask { table: claims.number, measure: claims.measure, probe: vec![0, 0], reach: 9, place: Place::Start, size: 4 };
-    let line = ask.to_line().unwrap();
-    let mut out = [0xa5; 600];
-    assert_eq!(table.answer_into(&line, &mut out[..572]), Err(Refusal::OutputTooSmall));
-    assert_eq!(table.answer_into(b"", &mut out), Err(Refusal::NotALine));
-    assert_eq!(out, [0xa5; 600]);
-    let length = table.answer_into(&line, &mut out).unwrap();
-    assert_eq!(out[..length], table.answer(&line).unwrap());
-    assert!(out[length..].iter().all(|&c| c == 0xa5));
+    let (number, measure) = (claims.number, claims.measure);
+    for order in Order::ALL {
+        let ask = Ask { table: number, order, measure, probe: vec![0, 0], reach: 9, place: Place::Start, size: 4 };
+        let line = ask.to_line().unwrap();
+        let mut out = [0xa5; 600];
+        assert_eq!(table.answer_into(&line, &mut out[..572]), Err(Refusal::OutputTooSmall));
+        assert_eq!(table.answer_into(b"", &mut out), Err(Refusal::NotALine));
+        assert_eq!(out, [0xa5; 600]);
+        let length = table.answer_into(&line, &mut out).unwrap();
+        assert_eq!(out[..length], table.answer(&line).unwrap());
+        assert!(out[length..].iter().all(|&c| c == 0xa5));
+    }
 }
 
 #[test]
@@ -233,7 +274,9 @@ fn threads_share_a_table() {
             let shared = Arc::clone(&shared);
             thread::spawn(move || {
                 let (table, claims) = &*shared;
-                page_as_sorted(table, claims, &[probe], EVERYWHERE, Place::Start, 16).unwrap();
+                for order in Order::ALL {
+                    page_as_sorted(table, claims, order, &[probe], EVERYWHERE, Place::Start, 16).unwrap();
+                }
                 assert_eq!(table.farthest(&[probe]), Ok(claims.farthest(&[probe])));
             })
         })

@@ -15,8 +15,14 @@ fn layouts() {
     assert_eq!((size_of::<raw::Filled>(), offset_of!(raw::Filled, count)), (16, 8));
     assert_eq!((size_of::<raw::Written>(), size_of::<raw::Answered>()), (16, 32));
     assert_eq!((size_of::<raw::List>(), offset_of!(raw::List, probe), offset_of!(raw::List, reach)), (72, 16, 48));
+    assert_eq!((offset_of!(raw::List, order), offset_of!(raw::List, measure)), (4, 5));
+    assert_eq!((offset_of!(raw::List, started), offset_of!(raw::List, complete), offset_of!(raw::List, d)), (6, 7, 8));
     assert_eq!((size_of::<raw::Listed>(), size_of::<raw::Scope>(), size_of::<raw::Ask>()), (80, 32, 80));
+    assert_eq!((offset_of!(raw::Ask, order), offset_of!(raw::Ask, measure), offset_of!(raw::Ask, d)), (4, 5, 6));
+    assert_eq!((offset_of!(raw::Ask, probe), offset_of!(raw::Ask, scope), offset_of!(raw::Ask, size)), (8, 40, 72));
     assert_eq!((size_of::<raw::AnswerFields>(), offset_of!(raw::AnswerFields, items)), (464, 80));
+    assert_eq!((offset_of!(raw::AnswerFields, order), offset_of!(raw::AnswerFields, measure)), (4, 5));
+    assert_eq!((offset_of!(raw::AnswerFields, d), offset_of!(raw::AnswerFields, probe)), (6, 8));
     assert_eq!((size_of::<raw::Claim>(), size_of::<raw::ClaimRead>(), align_of::<raw::ClaimRead>()), (44, 48, 4));
     assert_eq!((size_of::<raw::AskRead>(), size_of::<raw::AnswerRead>()), (88, 472));
 }
@@ -34,7 +40,7 @@ fn null_with_length_0() {
         assert_eq!(entered, raw::Tabled { refusal: 1, ..Default::default() });
         assert_eq!(raw::nearby_nearest(table, r, 0, c, 0, m, 0, null(), 0, 5).refusal, 1);
         assert_eq!(raw::nearby_farthest(table, r, 0, c, 0, m, 0, null(), 0).refusal, 1);
-        assert_eq!(raw::nearby_page(table, r, 0, c, 0, m, 0, null(), 0, 5, zeros, 1, null_mut(), 0).refusal, 1);
+        assert_eq!(raw::nearby_page(table, r, 0, c, 0, m, 0, 1, null(), 0, 5, zeros, 1, null_mut(), 0).refusal, 1);
         assert_eq!(raw::nearby_answer(table, r, 0, c, 0, m, 0, null(), 0, null_mut(), 0).refusal, 12);
         assert_eq!(raw::nearby_many_nearest(table, r, 0, c, 0, m, 0, null(), 0, null(), 0, null_mut(), 0), 1);
         assert_eq!(raw::nearby_many_farthest(table, r, 0, c, 0, m, 0, null(), 0, 0, null_mut(), 0), 1);
@@ -42,16 +48,53 @@ fn null_with_length_0() {
             raw::nearby_many_pages(table, r, 0, c, 0, m, 0, null(), 0, null(), 0, null(), 0, 1, null_mut(), 0, null_mut(), 0);
         assert_eq!(paged, 1);
         assert_eq!(raw::nearby_many_answers(table, r, 0, c, 0, m, 0, null(), 0, null_mut(), 0, null_mut(), 0).refusal, 12);
-        assert_eq!(raw::nearby_open_list(1, 1, 1, null(), 0, 5), raw::Listed { refusal: 5, ..Default::default() });
+        assert_eq!(raw::nearby_open_list(1, 1, 1, 1, null(), 0, 5), raw::Listed { refusal: 5, ..Default::default() });
         assert_eq!(raw::nearby_write_ask(raw::List::default(), null(), 0, 1, null_mut(), 0).refusal, 2);
         assert_eq!(raw::nearby_take(raw::List::default(), null_mut(), 0, null(), 0).refusal, 2);
         assert_eq!(raw::nearby_read_ask_line(null(), 0).refusal, 9);
         assert_eq!(raw::nearby_read_answer_line(null(), 0).refusal, 9);
         assert_eq!(raw::nearby_read_claim_line(null(), 0).refusal, 9);
         let scope = raw::Scope::default();
-        assert_eq!(raw::nearby_write_ask_line(1, 1, 1, null(), 0, scope, 1, null_mut(), 0).refusal, 10);
-        assert_eq!(raw::nearby_write_answer_line(1, 1, 1, null(), 0, scope, 0, 0, null(), 0, null_mut(), 0).refusal, 10);
+        assert_eq!(raw::nearby_write_ask_line(1, 1, 1, 1, null(), 0, scope, 1, null_mut(), 0).refusal, 10);
+        assert_eq!(raw::nearby_write_answer_line(1, 1, 1, 1, null(), 0, scope, 0, 0, null(), 0, null_mut(), 0).refusal, 10);
         assert_eq!(raw::nearby_write_claim_line(1, 1, 1, 1, null(), 0, null_mut(), 0).refusal, 10);
+    }
+}
+
+/// Flags of an order, each with what it comes back as: any but 0 is far.
+const ORDERS: [(u8, u8); 5] = [(0, 0), (1, 1), (2, 1), (128, 1), (255, 1)];
+
+#[test]
+fn orders_of_lists_are_flags() {
+    let (probe, mut out) = ([3], [0; 123]);
+    for (flag, order) in ORDERS {
+        // Safety: every pointer is that of an array, with its length, or null with length 0.
+        unsafe {
+            let opened = raw::nearby_open_list(flag, 7, 1, 1, probe.as_ptr(), 1, 9);
+            assert_eq!((opened.refusal, opened.list.order), (0, order));
+            let list = raw::List { order: flag, ..opened.list };
+            let asked = raw::nearby_write_ask(list, null(), 0, 4, out.as_mut_ptr(), out.len());
+            assert_eq!((asked.refusal, &out[..2]), (0, if order == 0 { b"01" } else { b"04" }.as_slice()));
+            let taken = raw::nearby_take(list, null_mut(), 0, out.as_ptr(), asked.length);
+            assert_eq!(taken, raw::Listed { refusal: 10, list: opened.list });
+        }
+    }
+}
+
+#[test]
+fn orders_of_lines_are_flags() {
+    let (probe, mut out, scope) = ([3], [0; 573], raw::Scope::default());
+    for (flag, order) in ORDERS {
+        let room = out.as_mut_ptr();
+        // Safety: every pointer is that of an array, with its length, or null with length 0.
+        unsafe {
+            let asked = raw::nearby_write_ask_line(flag, 7, 1, 1, probe.as_ptr(), 1, scope, 4, room, 573);
+            let read = raw::nearby_read_ask_line(room, asked.length);
+            assert_eq!((asked.refusal, read.refusal, read.ask.order), (0, 0, order));
+            let answered = raw::nearby_write_answer_line(flag, 7, 1, 1, probe.as_ptr(), 1, scope, 1, 0, null(), 0, room, 573);
+            let read = raw::nearby_read_answer_line(room, answered.length);
+            assert_eq!((answered.refusal, read.refusal, read.answer.order), (0, 0, order));
+        }
     }
 }
 
@@ -60,7 +103,7 @@ fn unsound_lists() {
     let probe = [3];
     // Safety: every pointer is that of an array, with its length.
     unsafe {
-        let list = raw::nearby_open_list(7, 1, 1, probe.as_ptr(), 1, 9).list;
+        let list = raw::nearby_open_list(0, 7, 1, 1, probe.as_ptr(), 1, 9).list;
         let mut room = [0; 6];
         for amiss in [
             raw::List { measure: 4, ..list },
@@ -73,6 +116,8 @@ fn unsound_lists() {
             raw::List { started: 1, snapshot: 9, count: 3, ..list },
             raw::List { started: 1, snapshot: 4097, complete: 1, ..list },
             raw::List { probe: [3, 0, 0, 0, 0, 0, 0, 1], ..list },
+            raw::List { order: 1, complete: 2, ..list },
+            raw::List { order: 1, started: 1, snapshot: 9, count: 2, ..list },
         ] {
             let mut out = [0xa5; 200];
             let wrote = raw::nearby_write_ask(amiss, room.as_ptr(), 6, 1, out.as_mut_ptr(), 200);

@@ -12,10 +12,10 @@ ghost use Rattle.paper.specs.Tree.{lent};
 ghost use Rattle.walk.specs.Asking.{Answerable};
 ghost use Rattle.beside.specs.Questions.{SmallTable, Drawn};
 use checked::closed;
+use checks::order_by;
 use paper::limits::ITEM_ROOM;
 use paper::orders::Found;
 use paper::orders::Mark;
-use paper::orders::Order;
 use paper::orders::Paged;
 use paper::orders::Place;
 use paper::tables::Table;
@@ -65,13 +65,6 @@ impl Tally {
             wrong: wrapping_add_u64(self.wrong, !right as u64),
         }
     }
-}
-
-fn order_of(far: bool) -> Order {
-    if far {
-        return Order::Far;
-    }
-    Order::Near
 }
 
 fn place_of(a: Asking) -> Place
@@ -150,7 +143,7 @@ fn page_beside(
         references,
         coordinates,
         nodes,
-        order_of(a.far),
+        order_by(a.far),
         probe,
         reach,
         place,

@@ -1,34 +1,8 @@
-// Orders as flags, which kinds of line an order has, and which order a kind.
+// Which kinds of line an order has, and which order a kind.
 ghost use mathlib.Core.Path.{_≡_};
 ghost use Rattle.paper.specs.Lines.{askKind, answerKind, askOrder, answerOrder};
-ghost use Rattle.paper.specs.Orders.{isFar, orderBy, sameOrder};
+use crate::orders::order_by;
 use paper::orders::Order;
-
-// [9.19] An order as a flag, and a flag as an order.
-pub fn is_far(order: Order) -> bool
-    ensures { λ r. ⌜ r ≡ isFar order ⌝ }
-{
-    match order {
-        Order::Near => false,
-        Order::Far => true,
-    }
-}
-
-pub fn order_by(far: bool) -> Order
-    ensures { λ r. ⌜ r ≡ orderBy far ⌝ }
-{
-    if far { Order::Far } else { Order::Near }
-}
-
-// Whether two orders are the same.
-pub fn same_order(a: Order, b: Order) -> bool
-    ensures { λ r. ⌜ r ≡ sameOrder a b ⌝ }
-{
-    match a {
-        Order::Near => !is_far(b),
-        Order::Far => is_far(b),
-    }
-}
 
 // [5.5] The kind of an ask in an order.
 pub fn ask_kind(order: Order) -> u8

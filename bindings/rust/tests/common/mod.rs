@@ -3,7 +3,9 @@
 // Each test file uses its own part of this.
 #![allow(dead_code)]
 
-use nearby::{Item, Mark, Measure, Place, Refusal, Table};
+use std::cmp::Reverse;
+
+use nearby::{Item, Mark, Measure, Order, Place, Refusal, Table};
 
 /// splitmix64: the same seed gives the same run.
 pub struct Seeded(pub u64);
@@ -76,19 +78,22 @@ impl Claims {
         Item { number: number as u16, reference: *reference, distance: distance(self.measure, place, probe) }
     }
 
-    /// The claims within reach among the first so many, in near order.
-    pub fn near(&self, probe: &[i32], reach: u64, snapshot: usize) -> Vec<Item> {
+    /// The claims within reach among the first so many, in an order.
+    pub fn listed(&self, order: Order, probe: &[i32], reach: u64, snapshot: usize) -> Vec<Item> {
         let mut items: Vec<Item> = (0..snapshot).map(|i| self.item(i, probe)).filter(|item| item.distance <= reach).collect();
-        items.sort_by_key(|item| (item.distance, item.number));
+        match order {
+            Order::Near => items.sort_by_key(|item| (item.distance, item.number)),
+            Order::Far => items.sort_by_key(|item| (Reverse(item.distance), item.number)),
+        }
         items
     }
 
     pub fn farthest(&self, probe: &[i32]) -> Option<Item> {
-        (0..self.all.len()).map(|i| self.item(i, probe)).max_by_key(|item| (item.distance, std::cmp::Reverse(item.number)))
+        (0..self.all.len()).map(|i| self.item(i, probe)).max_by_key(|item| (item.distance, Reverse(item.number)))
     }
 
     /// What a page has, by its refusals 7 and 8.
-    pub fn page(&self, probe: &[i32], reach: u64, place: Place, size: usize) -> Result<(Vec<Item>, bool), Refusal> {
+    pub fn page(&self, order: Order, probe: &[i32], reach: u64, place: Place, size: usize) -> Result<(Vec<Item>, bool), Refusal> {
         let (snapshot, mark) = match place {
             Place::Start => (self.all.len(), None),
             Place::After { snapshot, mark } => (snapshot as usize, Some(mark)),
@@ -96,12 +101,12 @@ impl Claims {
         if snapshot > self.all.len() {
             return Err(Refusal::SnapshotOverCount);
         }
-        let near = self.near(probe, reach, snapshot);
-        if let Some(mark) = mark {
-            near.iter().find(|item| item.mark() == mark).ok_or(Refusal::MarkNotHeld)?;
-        }
-        let behind = near.into_iter().filter(|item| mark.is_none_or(|mark| item.mark() > mark));
-        let items: Vec<Item> = behind.take(size).collect();
+        let all = self.listed(order, probe, reach, snapshot);
+        let behind = match mark {
+            None => 0,
+            Some(mark) => 1 + all.iter().position(|item| item.mark() == mark).ok_or(Refusal::MarkNotHeld)?,
+        };
+        let items: Vec<Item> = all[behind..].iter().copied().take(size).collect();
         let last = items.len() < size;
         Ok((items, last))
     }
