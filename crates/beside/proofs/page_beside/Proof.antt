@@ -17,8 +17,8 @@ page-requires c κs = tt
 returns : tie.Need-returns
 returns c = tt
 
-order-of-requires : tie.Need-order-of-requires
-order-of-requires c κs = tt
+order-by-requires : tie.Need-order-by-requires
+order-by-requires c κs = tt
 
 slice-aggregate-page-of : tie.Need-slice-aggregate-page-of
 slice-aggregate-page-of c = search needs
@@ -36,4 +36,4 @@ returns-2 : tie.Need-returns-2
 returns-2 c = tt
 
 pub page-beside-spec : {M : Type 1} → statement M
-page-beside-spec = tie.close (tie.spec place-of-requires mark-holds-requires page-requires returns order-of-requires slice-aggregate-page-of page-of-requires same-page-requires page-requires-2 returns-2)
+page-beside-spec = tie.close (tie.spec place-of-requires mark-holds-requires page-requires returns order-by-requires slice-aggregate-page-of page-of-requires same-page-requires page-requires-2 returns-2)
