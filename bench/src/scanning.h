@@ -82,9 +82,11 @@ SCANNING size_t keep_item(const struct scan *t, uint8_t order, size_t k, uint64_
     return count < size ? count + 1 : size;
 }
 
-/* Whether claim k, at distance x, is on a later page than the mark of a place. */
-SCANNING int comes_after_mark(uint8_t order, const uint64_t *place, uint64_t x, size_t k)
+/* Whether claim k, at distance x, is behind a place; in far order the start is at the reach. */
+SCANNING int comes_after(uint8_t order, uint64_t reach, const uint64_t *place, uint64_t x, size_t k)
 {
+    if (place[FROM] == 0)
+        return order == NEARBY_NEAR || x <= reach;
     return comes_before(order, place[MARK_DISTANCE], x) || (x == place[MARK_DISTANCE] && k > place[MARK_NUMBER]);
 }
 
@@ -93,13 +95,11 @@ SCANNING size_t scan_items(const struct scan *t, uint8_t order, uint8_t measure,
                            const uint64_t *place, size_t snapshot, size_t size, uint64_t *items)
 {
     size_t count = 0;
-    /* Claims at `bound` may be on the page: in near order within reach, and in both before the last item of a full page. */
+    /* Claims at `bound` may be on the page: within reach in near order, and before the last item of a full page in both. */
     uint64_t bound = order == NEARBY_NEAR ? reach : 0;
     for (size_t k = 0; k < snapshot; k++) {
         uint64_t x = scan_distance(measure, d, &t->coordinates[k * d], probe);
-        if (comes_before(order, bound, x))
-            continue;
-        if ((order == NEARBY_FAR && x > reach) || (place[FROM] != 0 && !comes_after_mark(order, place, x, k)))
+        if (comes_before(order, bound, x) || !comes_after(order, reach, place, x, k))
             continue;
         count = keep_item(t, order, k, x, size, items, count);
         if (count < size)
@@ -115,13 +115,14 @@ SCANNING size_t scan_items(const struct scan *t, uint8_t order, uint8_t measure,
 SCANNING void scan_page_by(const struct scan *t, uint8_t measure, size_t d, const int32_t *probe, uint64_t reach,
                            const uint64_t *place, size_t size, uint64_t *outcome, uint64_t *items)
 {
-    const size_t snapshot = place[FROM] != 0 ? place[SNAPSHOT] : t->n;
+    const int from = place[FROM] != 0;
+    const size_t snapshot = from ? place[SNAPSHOT] : t->n;
     outcome[0] = outcome[1] = outcome[2] = 0;
     if (snapshot > t->n) {
         outcome[0] = 7;
         return;
     }
-    if (place[FROM] != 0 && (place[MARK_NUMBER] >= snapshot || place[MARK_DISTANCE] > reach
+    if (from && (place[MARK_NUMBER] >= snapshot || place[MARK_DISTANCE] > reach
                  || scan_distance(measure, d, &t->coordinates[place[MARK_NUMBER] * d], probe) != place[MARK_DISTANCE])) {
         outcome[0] = 8;
         return;
