@@ -99,7 +99,10 @@ SCANNING size_t scan_items(const struct scan *t, uint8_t order, uint8_t measure,
     uint64_t bound = order == NEARBY_NEAR ? reach : 0;
     for (size_t k = 0; k < snapshot; k++) {
         uint64_t x = scan_distance(measure, d, &t->coordinates[k * d], probe);
-        if (comes_before(order, bound, x) || !comes_after(order, reach, place, x, k))
+        /* The compiler is told that few claims come past here, so that it keeps what all of them need in registers. */
+        if (__builtin_expect_with_probability(comes_before(order, bound, x), 1, 0.97))
+            continue;
+        if (!comes_after(order, reach, place, x, k))
             continue;
         count = keep_item(t, order, k, x, size, items, count);
         if (count < size)

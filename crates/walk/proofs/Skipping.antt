@@ -15,7 +15,7 @@ use Rattle.paper.specs.Orders.{rank, before}
 use Rattle.paper.specs.Tree.{apart}
 use Rattle.measure.proofs.Metric.{distance-sym, distance-triangle}
 use Rattle.walk_keep.specs.declared.Asked.{Asked}
-use Rattle.walk_keep.specs.Skips.{admitted, capOf, halfOf, beyondOf, passedOf}
+use Rattle.walk_keep.specs.Skips.{admitted, capOf, halfOf, beyondOf, frontOf, firstWanted, passedOf}
 use Rattle.paper.proofs.Tests.{no-way}
 use Rattle.walk.specs.Walking.{distOf, distBy, apartBy, rankBy, Metric}
 
@@ -105,17 +105,24 @@ admitted-is ask x k = go (ltb k (ask .snapshot)) (leb x (ask .reach)) refl refl
     go true false p q h = absurd (no-way (sym h))
     go true true p q h = record { below = ltb-true k (ask .snapshot) p; within = leb-true x (ask .reach) q; after = λ a. rw a at h }
 
--- [4.15] where all below comes before the mark, none is admitted
+-- [4.15] no admitted claim's rank is under the first one wanted
+fronted : (o : Order) (x reach : ℕ) → x ≤ reach → frontOf o reach ≤ rank o x
+unfolding rank frontOf
+fronted Near x reach h = omega arith
+fronted Far x reach h = omega arith
+
+from-first : (ask : Asked) (x k : ℕ) → admitted ask x k ≡ true → firstWanted ask ≤ rank (ask .order) x
+unfolding firstWanted
+from-first ask x k y = go (ask .after) refl (admitted-is ask x k y)
+  where
+    go : (u : Bool) → ask .after ≡ u → Is ask x k → cond u (rank (ask .order) (ask .mark .distance)) (frontOf (ask .order) (ask .reach)) ≤ rank (ask .order) x
+    go true p is = before-rank (ask .order) (ask .mark .distance) (ask .mark .number) x k (is .after p)
+    go false p is = fronted (ask .order) x (ask .reach) (is .within)
+
+-- [4.15] so where all below comes before it, none is admitted
 pub passed-skips : (ask : Asked) (x far z j : ℕ) → passedOf ask x far ≡ true → rank (ask .order) z ≤ x + far → admitted ask z j ≡ true → ⊥
 unfolding passedOf
-passed-skips ask x far z j test h y = go (ask .after) (ltb (x + far) (rank (ask .order) (ask .mark .distance))) refl refl test
-  where
-    go : (u v : Bool) → ask .after ≡ u → ltb (x + far) (rank (ask .order) (ask .mark .distance)) ≡ v → (u && v) ≡ true → ⊥
-    go false v p q t = no-way (sym t)
-    go true false p q t = no-way (sym t)
-    go true true p q t =
-        let b = before-rank (ask .order) (ask .mark .distance) (ask .mark .number) z j (admitted-is ask z j y .after p) in
-        omega (arith, ltb-true (x + far) (rank (ask .order) (ask .mark .distance)) q)
+passed-skips ask x far z j test h y = omega (arith, from-first ask z j y, ltb-true (x + far) (firstWanted ask) test)
 
 -- ---- the cap
 

@@ -1,6 +1,6 @@
 -- One law for each way through the leaves. Assumes nothing.
 use Prim.Native.Nat.{ℕ, _+_, _-_, _*_, _<_, _≤_}
-use mathlib.Core.Path.{_≡_, refl, sym}
+use mathlib.Core.Path.{_≡_, refl, sym, _∙_}
 use mathlib.Core.Bool.{Bool, true, false, cond}
 use native.Mathlib.Omega.{arith}
 use lib.Dec.{ltb, leb}
@@ -11,7 +11,7 @@ use Rattle.paper.specs.declared.orders.Order.{Order}
 use Rattle.paper.specs.declared.orders.Order.the-variants.{Near, Far}
 use Rattle.paper.specs.Orders.{rank, before}
 use Rattle.walk_keep.specs.declared.Asked.{Asked}
-use Rattle.walk_keep.specs.Skips.{admitted, capOf, boundOf, halfOf, beyondOf, passedOf}
+use Rattle.walk_keep.specs.Skips.{admitted, capOf, boundOf, halfOf, beyondOf, frontOf, firstWanted, passedOf}
 
 -- ---- whether a claim is admitted
 
@@ -75,13 +75,21 @@ module _ (o : Order) (bound x y s : ℕ) where
 -- ---- the mark, and the rank still wanted
 
 module _ (ask : Asked) where
-  pub passed-mark : (x far m : ℕ) (r : Bool) → ask .after ≡ true → m ≡ rank (ask .order) (ask .mark .distance) → cond r (x + far < m) (m ≤ x + far) → r ≡ passedOf ask x far
+  passed-is : (x far m : ℕ) (r : Bool) → m ≡ firstWanted ask → cond r (x + far < m) (m ≤ x + far) → r ≡ passedOf ask x far
   unfolding passedOf
-  passed-mark x far m r a p q = rw (a, ← p) (test-is (x + far) m r q)
+  passed-is x far m r p q = rw (← p) (test-is (x + far) m r q)
 
-  pub passed-none : (x far : ℕ) → ask .after ≡ false → false ≡ passedOf ask x far
-  unfolding passedOf
-  passed-none x far a = rw a
+  pub passed-mark : (x far m : ℕ) (r : Bool) → ask .after ≡ true → m ≡ rank (ask .order) (ask .mark .distance) → cond r (x + far < m) (m ≤ x + far) → r ≡ passedOf ask x far
+  unfolding firstWanted
+  passed-mark x far m r a p q = passed-is x far m r (rw a p) q
+
+  pub passed-far : (x far m : ℕ) (r : Bool) → ask .after ≡ false → ask .order ≡ Far → m ≡ rank (ask .order) (ask .reach) → cond r (x + far < m) (m ≤ x + far) → r ≡ passedOf ask x far
+  unfolding firstWanted frontOf
+  passed-far x far m r a o p q = passed-is x far m r (p ∙ rw (a, o)) q
+
+  pub passed-near : (x far : ℕ) → ask .after ≡ false → ask .order ≡ Near → false ≡ passedOf ask x far
+  unfolding firstWanted frontOf
+  passed-near x far a o = passed-is x far 0 false (rw (a, o)) (omega arith)
 
   pub wanted-near : (room : List ℕ) (count : ℕ) → count < ask .size → ask .order ≡ Near → ask .reach ≡ boundOf ask room count
   unfolding boundOf capOf

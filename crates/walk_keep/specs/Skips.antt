@@ -34,6 +34,15 @@ halfOf Far bound x y s = false
 unfoldable pub beyondOf : Order → ℕ → ℕ → ℕ → ℕ → ℕ → Bool
 beyondOf o bound x y s far = ltb (bound + far) x || halfOf o bound x y s
 
--- [4.15] every claim within `far` of one at rank x comes before the mark
+-- [4.15] the first rank that a claim within reach can have
+unfoldable pub frontOf : Order → ℕ → ℕ
+frontOf Near reach = 0
+frontOf Far reach = rank Far reach
+
+-- [4.15] the first rank wanted: the mark's where there is one
+unfoldable pub firstWanted : Asked → ℕ
+firstWanted ask = cond (ask .after) (rank (ask .order) (ask .mark .distance)) (frontOf (ask .order) (ask .reach))
+
+-- [4.15] every claim within `far` of one at rank x comes before it
 unfoldable pub passedOf : Asked → ℕ → ℕ → Bool
-passedOf ask x far = ask .after && ltb (x + far) (rank (ask .order) (ask .mark .distance))
+passedOf ask x far = ltb (x + far) (firstWanted ask)

@@ -94,7 +94,8 @@ pub fn beyond(order: Order, bound: u64, x: u64, y: u64, s: usize, far: u64) -> b
     halfway(order, bound, x, y, s)
 }
 
-// [4.15] Whether every claim within `far` of one at rank x comes before the mark.
+// [4.15] Whether every claim within `far` of one at rank x comes before the first rank wanted: the mark's, or from the start in far
+// order that of the reach.
 pub fn passed(ask: Asked, x: u64, far: u64) -> bool
     ensures { λ r. ⌜ r ≡ passedOf ask x far ⌝ }
 {
@@ -102,6 +103,9 @@ pub fn passed(ask: Asked, x: u64, far: u64) -> bool
     let after = ask.after;
     if after {
         return too_far(x, order.rank(ask.mark.distance), far);
+    }
+    if let Order::Far = order {
+        return too_far(x, order.rank(ask.reach), far);
     }
     false
 }
