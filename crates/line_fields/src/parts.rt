@@ -14,11 +14,13 @@ use paper::limits::MOST_COORDINATES;
 use paper::lines::Scope;
 use paper::queries::Query;
 
-// [5.4] The kind of the frame that `src` holds: byte 0.
+// [5.4] The kind of the frame that `src` holds: byte 0. An empty frame has 0, which is no line's.
 pub fn kind(src: &[u8]) -> u64
-    requires { ⌜ 1 ≤ length (frameIn (now src)) ⌝ }
     ensures { λ r. ⌜ r ≡ num 1 (frameIn (now (src .entry))) ⌝ }
 {
+    if line_digits::size(src) == 0 {
+        return 0;
+    }
     line_digits::number(src, 0, 1)
 }
 

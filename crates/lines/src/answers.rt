@@ -123,9 +123,6 @@ fn is_kind(src: &[u8], kind: u8) -> bool
 fn answer_ok(src: &[u8]) -> bool
     ensures { λ r. ⌜ r ≡ isAnswer (frameIn (now (src .entry))) ⌝ }
 {
-    if line_digits::size(src) == 0 {
-        return false;
-    }
     let order = answer_order(line_fields::kind(src));
     is_kind(src, answer_kind(order))
 }

@@ -96,9 +96,6 @@ fn is_kind(src: &[u8], kind: u8) -> bool
 pub fn ask_ok(src: &[u8]) -> bool
     ensures { λ r. ⌜ r ≡ isAsk (frameIn (now (src .entry))) ⌝ }
 {
-    if line_digits::size(src) == 0 {
-        return false;
-    }
     let order = ask_order(line_fields::kind(src));
     is_kind(src, ask_kind(order))
 }

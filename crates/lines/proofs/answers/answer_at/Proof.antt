@@ -13,7 +13,7 @@ use Rattle.lines.proofs.answers.answer_at.Statement.{statement}
 use Rattle.lines.proofs.answers.answer_at.Tie as tie
 
 kind-requires : tie.Need-kind-requires
-kind-requires c κs = let w = any-answer (frameIn (c .before .args .src .now)) (c .before .pre) in omega arith
+kind-requires c κs = search needs
 
 answer-order-requires : tie.Need-answer-order-requires
 answer-order-requires c κs = search needs

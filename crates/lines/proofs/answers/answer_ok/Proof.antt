@@ -1,21 +1,9 @@
--- `lines::answers::answer_ok` meets its contract: an empty frame is no answer, and any other has a kind. Assumes nothing.
-use native.Mathlib.Omega.{arith}
-use mathlib.Core.Path.{sym, _∙_}
+-- `lines::answers::answer_ok` meets its contract: by the kind that the frame begins with. Assumes nothing.
+use mathlib.Core.Path.{_∙_}
 use Rattle.paper.specs.Lines.{isAnswer}
-use Rattle.line_digits.specs.FrameBytes.{frameIn}
-use Rattle.paper.proofs.Tests.{refuted}
-use Rattle.lines.proofs.AnswerTests.{any-answer}
 use borrow.Author.Needs.{needs}
 use Rattle.lines.proofs.answers.answer_ok.Statement.{statement}
 use Rattle.lines.proofs.answers.answer_ok.Tie as tie
-
-size-requires : tie.Need-size-requires
-size-requires c κs = search needs
-
-returns : tie.Need-returns
-returns c =
-    let f = frameIn (c .before .before .before .args .src .now) in
-    sym (refuted (isAnswer f) (λ e. let w = any-answer f e in omega arith))
 
 kind-requires : tie.Need-kind-requires
 kind-requires c κs = search needs
@@ -29,20 +17,11 @@ answer-kind-requires c κs = search needs
 is-kind-requires : tie.Need-is-kind-requires
 is-kind-requires c κs = search needs
 
-returns-2 : tie.Need-returns-2
+returns : tie.Need-returns
 unfolding isAnswer
-returns-2 c =
+returns c =
     c .is-kind .ensures
     ∙ rw (c .before .answer-kind .ensures, c .before .before .answer-order .ensures, c .before .before .before .kind .ensures)
 
 pub answer-ok-spec : {M : Type 1} → statement M
-answer-ok-spec =
-    tie.close
-    (tie.spec
-    size-requires
-    returns
-    kind-requires
-    answer-order-requires
-    answer-kind-requires
-    is-kind-requires
-    returns-2)
+answer-ok-spec = tie.close (tie.spec kind-requires answer-order-requires answer-kind-requires is-kind-requires returns)

@@ -12,7 +12,7 @@ use Rattle.lines.proofs.asks.ask_at.Statement.{statement}
 use Rattle.lines.proofs.asks.ask_at.Tie as tie
 
 kind-requires : tie.Need-kind-requires
-kind-requires c κs = let w = any-ask (frameIn (c .before .args .src .now)) (c .before .pre) in omega arith
+kind-requires c κs = search needs
 
 ask-order-requires : tie.Need-ask-order-requires
 ask-order-requires c κs = search needs

@@ -1,21 +1,9 @@
--- `lines::asks::ask_ok` meets its contract: an empty frame is no ask, and any other has a kind. Assumes nothing.
-use native.Mathlib.Omega.{arith}
-use mathlib.Core.Path.{sym, _∙_}
+-- `lines::asks::ask_ok` meets its contract: by the kind that the frame begins with. Assumes nothing.
+use mathlib.Core.Path.{_∙_}
 use Rattle.paper.specs.Lines.{isAsk}
-use Rattle.line_digits.specs.FrameBytes.{frameIn}
-use Rattle.paper.proofs.Tests.{refuted}
-use Rattle.lines.proofs.AskTests.{any-ask}
 use borrow.Author.Needs.{needs}
 use Rattle.lines.proofs.asks.ask_ok.Statement.{statement}
 use Rattle.lines.proofs.asks.ask_ok.Tie as tie
-
-size-requires : tie.Need-size-requires
-size-requires c κs = search needs
-
-returns : tie.Need-returns
-returns c =
-    let f = frameIn (c .before .before .before .args .src .now) in
-    sym (refuted (isAsk f) (λ e. let w = any-ask f e in omega arith))
 
 kind-requires : tie.Need-kind-requires
 kind-requires c κs = search needs
@@ -29,20 +17,11 @@ ask-kind-requires c κs = search needs
 is-kind-requires : tie.Need-is-kind-requires
 is-kind-requires c κs = search needs
 
-returns-2 : tie.Need-returns-2
+returns : tie.Need-returns
 unfolding isAsk
-returns-2 c =
+returns c =
     c .is-kind .ensures
     ∙ rw (c .before .ask-kind .ensures, c .before .before .ask-order .ensures, c .before .before .before .kind .ensures)
 
 pub ask-ok-spec : {M : Type 1} → statement M
-ask-ok-spec =
-    tie.close
-    (tie.spec
-    size-requires
-    returns
-    kind-requires
-    ask-order-requires
-    ask-kind-requires
-    is-kind-requires
-    returns-2)
+ask-ok-spec = tie.close (tie.spec kind-requires ask-order-requires ask-kind-requires is-kind-requires returns)
