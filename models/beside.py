@@ -82,7 +82,7 @@ class Table:
         return min(self.items(probe, len(self.claims), NO_REACH), key=lambda i: (-i[2], i[0]), default=None)
 
     def page(self, far, probe, reach, place, size, room):
-        """A refusal's number, or the page and whether it is last. Order 5, 6, 7, 8, 12."""
+        """A refusal's number, or the page and whether nothing follows it, which makes it last. Order 5, 6, 7, 8, 12."""
         count = len(self.claims)
         if len(probe) != self.d:
             return 5
@@ -100,7 +100,7 @@ class Table:
         rows = sorted(self.items(probe, snapshot, reach), key=lambda i: rank(far, i[2], i[0]))
         if mark is not None:
             rows = [i for i in rows if rank(far, i[2], i[0]) > rank(far, *mark)]
-        return rows[:size], len(rows[:size]) < size
+        return rows[:size], not rows[size:]
 
 
 # ---------------------------------------------------------------- the second way: the neartree
@@ -221,7 +221,9 @@ def ask_page(table, tree, probe, x, c):
     c.items += len(rows)
     c.lasts += last
     snapshot, mark = (len(table.claims), None) if place is None else place
-    c.wrong += tree.first(far, probe, snapshot, reach, mark, size) != rows
+    # One item more than the page tells whether it is last.
+    found = tree.first(far, probe, snapshot, reach, mark, size + 1)
+    c.wrong += (found[:size], len(found) <= size) != answer
 
 
 def one_table(i, c):
@@ -254,10 +256,12 @@ def examples():
     assert [([i[0] for i in rows], last) for rows, last in pages] == [([1, 4], False), ([0, 3], False), ([2], True)]
     assert t.page(False, [4], 5, (5, (2, 4)), 2, 16) == 8 and t.page(False, [4], 5, (6, (1, 4)), 2, 16) == 7
     assert distance(1, [-2**31], [2**31 - 1]) == 4294967295
-    assert t.page(False, [4], 5, None, 5, 16)[1] is False and t.page(False, [4], 5, (5, (5, 2)), 5, 16) == ([], True)
+    assert t.page(False, [4], 5, None, 5, 16)[1] is True and t.page(False, [4], 5, (5, (5, 2)), 5, 16) == ([], True)
     pages = [t.page(True, [4], 5, p, 2, 16) for p in (None, (5, (2, 0)), (5, (1, 1)))]
     assert [([i[0] for i in rows], last) for rows, last in pages] == [([2, 0], False), ([3, 1], False), ([4], True)]
     assert [i[0] for i in t.page(True, [4], 2, None, 16, 16)[0]] == [0, 3, 1, 4]
+    assert t.page(True, [4], 5, None, 5, 16)[1] is True and t.page(True, [4], 5, None, 4, 16)[1] is False
+    assert t.page(True, [4], 5, (5, (1, 4)), 5, 16) == ([], True)
     assert distance(2, [1, 2, 3], [4, 4, 4]) == 3 and distance(3, [1, 2, 3], [1, 3, 2]) == 2
 
 

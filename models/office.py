@@ -88,13 +88,14 @@ class Office:
         return b""
 
     def page(self, order, probe, reach, snapshot, mark, size):
-        """[2.5] [4.5] [4.6] The items of a page; without a mark, from the start."""
+        """[2.5] [4.5] [4.6] [4.7] The items of a page, and whether none follows them; without a mark, from the start."""
         items = []
         for number, (reference, point) in enumerate(self.claims[:snapshot]):
             x = distance(self.for_whom[1], point, probe)
             if x <= reach and (mark is None or rank(order, x, number) > rank(order, *mark)):
                 items.append((number, reference, x))
-        return sorted(items, key=lambda item: rank(order, item[2], item[0]))[:size]
+        items.sort(key=lambda item: rank(order, item[2], item[0]))
+        return items[:size], not items[size:]
 
     def answer(self, order, ask):
         """[6.1] to [6.4] The answer line, or 11, 7 or 8."""
@@ -107,11 +108,11 @@ class Office:
             raise Refused(7)
         elif mark[1] >= snapshot or mark[0] > reach or mark[0] != distance(for_whom[1], self.claims[mark[1]][1], probe):
             raise Refused(8)
-        items = self.page(order, probe, reach, snapshot, mark if start else None, size)
+        items, last = self.page(order, probe, reach, snapshot, mark if start else None, size)
         number, measure, d = for_whom
         fields = [(1, ANSWERS[order]), (4, number), (1, measure), (1, d)] + [(4, x % 2**32) for x in probe]
         fields += [(8, reach), (1, start), (2, snapshot), (8, mark[0]), (2, mark[1])]
-        fields += [(1, len(items) < size), (1, len(items))]  # [4.7]
+        fields += [(1, last), (1, len(items))]
         fields += [field for item in items for field in zip((2, 4, 8), item)]
         return b"".join(int(x).to_bytes(width, "big") for width, x in fields).hex().encode() + b"\n"
 

@@ -3,6 +3,7 @@
 // distances come in its own order.
 #include "contestant.h"
 
+#include <algorithm>
 #include <memory>
 #include <nanoflann.hpp>
 #include <vector>
@@ -65,22 +66,22 @@ void leave(void *table)
     delete static_cast<Table *>(table);
 }
 
-// For the fifth page it finds five and drops four.
+// For the fifth page it finds five and drops four. It finds one claim more, which tells that the page is not the last.
 void page(const Table &t, const double *probe, const uint64_t *place, uint64_t *outcome, uint64_t *items)
 {
-    const std::size_t skipped = place[FROM] != 0 ? 4 * NEARBY_MOST_PAGE : 0;
-    uint32_t numbers[5 * NEARBY_MOST_PAGE];
-    double distances[5 * NEARBY_MOST_PAGE];
-    const std::size_t all = t.tree->first(probe, skipped + NEARBY_MOST_PAGE, numbers, distances);
-    const std::size_t count = all > skipped ? all - skipped : 0;
-    for (std::size_t i = skipped; i < skipped + count; i++) {
+    const std::size_t skipped = place[FROM] != 0 ? 4 * NEARBY_MOST_PAGE : 0, end = skipped + NEARBY_MOST_PAGE;
+    uint32_t numbers[5 * NEARBY_MOST_PAGE + 1];
+    double distances[5 * NEARBY_MOST_PAGE + 1];
+    const std::size_t all = t.tree->first(probe, end + 1, numbers, distances);
+    std::size_t count = 0;
+    for (std::size_t i = skipped; i < std::min(all, end); i++, count++) {
         *items++ = numbers[i];
         *items++ = t.references[numbers[i]];
         *items++ = static_cast<uint64_t>(distances[i]);
     }
     outcome[0] = 0;
     outcome[1] = count;
-    outcome[2] = count < NEARBY_MOST_PAGE;
+    outcome[2] = all <= end;
 }
 
 void nearest(const Table &t, const double *probe, uint64_t *row)

@@ -3,6 +3,7 @@
 #include "contestant.h"
 
 #include <TNear.h>
+#include <algorithm>
 #include <memory>
 #include <vector>
 
@@ -64,20 +65,21 @@ template <int D, int M> class FixedTree : public Tree {
         item[2] = static_cast<uint64_t>((found - probe).Norm());
     }
 
-    // It has no places to go on from: for the fifth page it finds five and drops four.
+    // It has no places to go on from: for the fifth page it finds five and drops four. It finds one claim more, which tells that the page
+    // is not the last.
     void page(const P &probe, const uint64_t *place, std::vector<P> &found, uint64_t *outcome, uint64_t *items)
     {
-        const std::size_t skipped = place[FROM] != 0 ? 4 * NEARBY_MOST_PAGE : 0;
+        const std::size_t skipped = place[FROM] != 0 ? 4 * NEARBY_MOST_PAGE : 0, end = skipped + NEARBY_MOST_PAGE;
         if (place[ORDER] == NEARBY_NEAR)
-            tree.FindK_NearestNeighbors(skipped + NEARBY_MOST_PAGE, DBL_MAX, found, probe);
+            tree.FindK_NearestNeighbors(end + 1, DBL_MAX, found, probe);
         else
-            tree.FindK_FarthestNeighbors(skipped + NEARBY_MOST_PAGE, found, probe);
+            tree.FindK_FarthestNeighbors(end + 1, found, probe);
         std::size_t count = 0;
-        for (std::size_t i = skipped; i < found.size(); i++)
+        for (std::size_t i = skipped; i < std::min(found.size(), end); i++)
             put(found[i], probe, &items[NEARBY_ITEM * count++]);
         outcome[0] = 0;
         outcome[1] = count;
-        outcome[2] = count < NEARBY_MOST_PAGE;
+        outcome[2] = found.size() <= end;
     }
 
 public:

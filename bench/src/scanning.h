@@ -71,15 +71,13 @@ SCANNING void scan_first_by(const struct scan *t, uint8_t order, uint8_t measure
     }
 }
 
-/* Puts claim k, at distance x, among the `count` items that are kept in order; the last falls out of a full page. */
-SCANNING size_t keep_item(const struct scan *t, uint8_t order, size_t k, uint64_t x, size_t size, uint64_t *items, size_t count)
+/* Puts claim k, at distance x, among the first `at` items in order. */
+SCANNING void keep_item(const struct scan *t, uint8_t order, size_t k, uint64_t x, size_t at, uint64_t *items)
 {
-    size_t at = count < size ? count : size - 1;
     for (; at > 0 && comes_before(order, x, items[(at - 1) * NEARBY_ITEM + 2]); at--)
         for (size_t j = 0; j < NEARBY_ITEM; j++)
             items[at * NEARBY_ITEM + j] = items[(at - 1) * NEARBY_ITEM + j];
     put_item(t, k, x, &items[at * NEARBY_ITEM]);
-    return count < size ? count + 1 : size;
 }
 
 /* Whether claim k, at distance x, is behind a place; in far order the start is at the reach. */
@@ -90,12 +88,13 @@ SCANNING int comes_after(uint8_t order, uint64_t reach, const uint64_t *place, u
     return comes_before(order, place[MARK_DISTANCE], x) || (x == place[MARK_DISTANCE] && k > place[MARK_NUMBER]);
 }
 
-/* The first `size` claims behind a place, kept in order during one pass. One compare passes over a claim that is behind a full page. */
+/* The first `size` claims behind a place, kept in order during one pass. Gives how many are behind the place, counted up to `size` + 1:
+ * one more than the page has tells that it is not the last. From there on one compare passes over a claim that is behind the page. */
 SCANNING size_t scan_items(const struct scan *t, uint8_t order, uint8_t measure, size_t d, const int32_t *probe, uint64_t reach,
                            const uint64_t *place, size_t snapshot, size_t size, uint64_t *items)
 {
-    size_t count = 0;
-    /* Claims at `bound` may be on the page: within reach in near order, and before the last item of a full page in both. */
+    size_t found = 0;
+    /* Claims at `bound` may count: within reach in near order, and in both, once the count is full, before the page's last item. */
     uint64_t bound = order == NEARBY_NEAR ? reach : 0;
     for (size_t k = 0; k < snapshot; k++) {
         uint64_t x = scan_distance(measure, d, &t->coordinates[k * d], probe);
@@ -104,15 +103,20 @@ SCANNING size_t scan_items(const struct scan *t, uint8_t order, uint8_t measure,
             continue;
         if (!comes_after(order, reach, place, x, k))
             continue;
-        count = keep_item(t, order, k, x, size, items, count);
-        if (count < size)
+        if (found < size) {
+            keep_item(t, order, k, x, found++, items);
             continue;
+        }
+        found = size + 1;
+        if (comes_before(order, x, items[(size - 1) * NEARBY_ITEM + 2]))
+            keep_item(t, order, k, x, size - 1, items);
         bound = items[(size - 1) * NEARBY_ITEM + 2];
+        /* No later claim comes before one of the page, and one is known to follow it. */
         if (bound == foremost(order, measure, d))
             break;
         bound += order == NEARBY_NEAR ? -1 : 1;
     }
-    return count;
+    return found;
 }
 
 SCANNING void scan_page_by(const struct scan *t, uint8_t measure, size_t d, const int32_t *probe, uint64_t reach,
@@ -130,11 +134,13 @@ SCANNING void scan_page_by(const struct scan *t, uint8_t measure, size_t d, cons
         outcome[0] = 8;
         return;
     }
+    size_t found;
     if (place[ORDER] == NEARBY_NEAR)
-        outcome[1] = scan_items(t, NEARBY_NEAR, measure, d, probe, reach, place, snapshot, size, items);
+        found = scan_items(t, NEARBY_NEAR, measure, d, probe, reach, place, snapshot, size, items);
     else
-        outcome[1] = scan_items(t, NEARBY_FAR, measure, d, probe, reach, place, snapshot, size, items);
-    outcome[2] = outcome[1] < size;
+        found = scan_items(t, NEARBY_FAR, measure, d, probe, reach, place, snapshot, size, items);
+    outcome[1] = found < size ? found : size;
+    outcome[2] = found <= size;
 }
 
 #endif

@@ -146,20 +146,31 @@ static void farthest(const struct columns *t, const int32_t *probe, uint64_t *ro
     find_first(t, probe, within(NEARBY_FAR, UINT64_MAX, t->n), row);
 }
 
-/* The least keys so far, in order, and the least key that is out of the page. */
+/* The least keys so far, in order, and how many there were, counted up to `size` + 1: one more than the page has tells that it is not
+ * the last. From there on keys from `out` on are out of the page. */
 struct kept {
     int64_t keys[NEARBY_MOST_PAGE], out;
-    size_t count, size;
+    size_t found, size;
 };
 
-static void keep_key(struct kept *kept, int64_t key)
+/* Puts a key among the first `at` in order. */
+static void put_key(struct kept *kept, size_t at, int64_t key)
 {
-    size_t at = kept->count < kept->size ? kept->count++ : kept->size - 1;
     for (; at > 0 && key < kept->keys[at - 1]; at--)
         kept->keys[at] = kept->keys[at - 1];
     kept->keys[at] = key;
-    if (kept->count == kept->size)
-        kept->out = kept->keys[kept->size - 1];
+}
+
+static void keep_key(struct kept *kept, int64_t key)
+{
+    if (kept->found < kept->size) {
+        put_key(kept, kept->found++, key);
+        return;
+    }
+    kept->found = kept->size + 1;
+    if (key < kept->keys[kept->size - 1])
+        put_key(kept, kept->size - 1, key);
+    kept->out = kept->keys[kept->size - 1];
 }
 
 /* A block whose least key is out of the page is passed over whole. */
@@ -189,7 +200,7 @@ static void page(const void *table, const int32_t *probe, uint64_t reach, const 
     const struct columns *t = table;
     const int from = place[FROM] != 0;
     const size_t snapshot = from ? place[SNAPSHOT] : t->n;
-    struct kept kept = { .out = NONE, .count = 0, .size = size };
+    struct kept kept = { .out = NONE, .found = 0, .size = size };
     outcome[0] = outcome[1] = outcome[2] = 0;
     if (snapshot > t->n)
         outcome[0] = 7;
@@ -202,10 +213,11 @@ static void page(const void *table, const int32_t *probe, uint64_t reach, const 
     if (from)
         a.least = key_of(a.turn, place[MARK_DISTANCE], place[MARK_NUMBER]) + 1;
     keep_least(t, probe, a, &kept);
-    for (size_t i = 0; i < kept.count; i++)
+    const size_t count = kept.found < size ? kept.found : size;
+    for (size_t i = 0; i < count; i++)
         put_item(t, a.turn, kept.keys[i], &items[i * NEARBY_ITEM]);
-    outcome[1] = kept.count;
-    outcome[2] = kept.count < size;
+    outcome[1] = count;
+    outcome[2] = kept.found <= size;
 }
 
 static void ask(void *table, const struct cell *cell, enum question question, size_t count, struct answers *answers)

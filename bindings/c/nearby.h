@@ -87,7 +87,7 @@ typedef struct {
     uint64_t snapshot, distance, number;
 } nearby_start;
 
-/* [4.7] How many items stand at the front of the room, and whether they are the last (1) or not (0). */
+/* [4.7] How many items stand at the front of the room; `last` is 1 where no claim follows them, and otherwise 0. */
 typedef struct {
     uint8_t refusal;
     uint8_t last;
@@ -187,9 +187,9 @@ uint8_t nearby_many_farthest(nearby_table table,
 
 /* [9.17] [4.18] [4.19] nearby_page for each reach, with d coordinates of `probes` and NEARBY_PLACE numbers of `places` for each:
  * order (0 is near), from (0 is the start), snapshot, distance, number. Row i of `outcomes` has 3 numbers: refusal (0, 7 or 8),
- * count, last. Row i of `items` has size * NEARBY_ITEM numbers, filled from the front; the rest of the row is kept. Refusals 1, 2;
- * 5 where the probes are not d or the places not NEARBY_PLACE for each reach; 6; 12 where `outcomes` has under 3 numbers or `items`
- * under size * NEARBY_ITEM for each. */
+ * count, last (1 where no claim follows). Row i of `items` has size * NEARBY_ITEM numbers, filled from the front; the rest of the
+ * row is kept. Refusals 1, 2; 5 where the probes are not d or the places not NEARBY_PLACE for each reach; 6; 12 where `outcomes`
+ * has under 3 numbers or `items` under size * NEARBY_ITEM for each. */
 uint8_t nearby_many_pages(nearby_table table,
                           const uint32_t *references, size_t references_length,
                           const int32_t *coordinates, size_t coordinates_length,
@@ -247,9 +247,9 @@ nearby_listed nearby_open_list(uint8_t order, uint32_t table, uint8_t measure, s
 nearby_written nearby_write_ask(nearby_list list, const uint64_t *room, size_t room_length, size_t size,
                                 uint8_t *out, size_t out_length);
 
-/* [9.13] [7.7] Takes an answer line: its items are put behind those in the room, and a last page completes the list. A line that
- * is late, repeated or another list's is refused with 13, or with 10 where that list has the other order, and that is no fault.
- * After 15, move the items to a longer room and take the line again. Refusals 2, 9, 10, 16, 13, 14, 15. */
+/* [9.13] [7.7] Takes an answer line: its items are put behind those in the room, and a last page, which no claim follows, completes
+ * the list. A line that is late, repeated or another list's is refused with 13, or with 10 where that list has the other order, and
+ * that is no fault. After 15, move the items to a longer room and take the line again. Refusals 2, 9, 10, 16, 13, 14, 15. */
 nearby_listed nearby_take(nearby_list list, uint64_t *room, size_t room_length,
                           const uint8_t *line, size_t line_length);
 
@@ -277,7 +277,8 @@ typedef struct {
     uint8_t size;
 } nearby_ask;
 
-/* [5.6] The fields of an answer line: `count` items of NEARBY_ITEM numbers each; unused slots are 0. */
+/* [5.6] The fields of an answer line: `count` items of NEARBY_ITEM numbers each; unused slots are 0. `last` is 1 where no claim
+ * follows them, and otherwise 0. */
 typedef struct {
     uint32_t table;
     uint8_t order;

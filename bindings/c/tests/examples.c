@@ -165,8 +165,7 @@ static void examples_b_and_e(void)
 {
     seeded from = seed(85);
     store s = marked_store(&from, 8);
-    const expected by_1[] = { { 1, { 1 }, 0 }, { 1, { 4 }, 0 }, { 1, { 0 }, 0 }, { 1, { 3 }, 0 }, { 1, { 2 }, 0 },
-                              { 0, { 0 }, 1 } };
+    const expected by_1[] = { { 1, { 1 }, 0 }, { 1, { 4 }, 0 }, { 1, { 0 }, 0 }, { 1, { 3 }, 0 }, { 1, { 2 }, 1 } };
     const expected by_2[] = { { 2, { 1, 4 }, 0 }, { 2, { 0, 3 }, 0 }, { 1, { 2 }, 1 } };
     const expected by_3[] = { { 3, { 1, 4, 0 }, 0 }, { 2, { 3, 2 }, 1 } };
     check_pages(&s, (asked){ NEARBY_NEAR, 5, { 0 }, 1 }, by_1, LENGTH(by_1));
@@ -180,8 +179,7 @@ static void far_b_and_e(void)
 {
     seeded from = seed(89);
     store s = marked_store(&from, 8);
-    const expected by_1[] = { { 1, { 2 }, 0 }, { 1, { 0 }, 0 }, { 1, { 3 }, 0 }, { 1, { 1 }, 0 }, { 1, { 4 }, 0 },
-                              { 0, { 0 }, 1 } };
+    const expected by_1[] = { { 1, { 2 }, 0 }, { 1, { 0 }, 0 }, { 1, { 3 }, 0 }, { 1, { 1 }, 0 }, { 1, { 4 }, 1 } };
     const expected by_2[] = { { 2, { 2, 0 }, 0 }, { 2, { 3, 1 }, 0 }, { 1, { 4 }, 1 } };
     const expected by_3[] = { { 3, { 2, 0, 3 }, 0 }, { 2, { 1, 4 }, 1 } };
     check_pages(&s, (asked){ NEARBY_FAR, 5, { 0 }, 1 }, by_1, LENGTH(by_1));
@@ -196,8 +194,8 @@ static void far_within_reach(void)
 {
     seeded from = seed(80);
     store s = marked_store(&from, 8);
-    const expected of_four[] = { { 2, { 0, 3 }, 0 }, { 2, { 1, 4 }, 0 }, { 0, { 0 }, 1 } };
-    const expected of_two[] = { { 2, { 1, 4 }, 0 }, { 0, { 0 }, 1 } };
+    const expected of_four[] = { { 2, { 0, 3 }, 0 }, { 2, { 1, 4 }, 1 } };
+    const expected of_two[] = { { 2, { 1, 4 }, 1 } };
     const expected of_none[] = { { 0, { 0 }, 1 } };
     check_pages(&s, (asked){ NEARBY_FAR, 4, { 0 }, 2 }, of_four, LENGTH(of_four));
     check_pages(&s, (asked){ NEARBY_FAR, 2, { 0 }, 2 }, of_four, LENGTH(of_four));
@@ -214,7 +212,7 @@ static void example_f(void)
     store s = marked_store(&from, 8);
     const uint32_t given[] = { 106 };
     const expected near_rest[] = { { 2, { 0, 3 }, 0 }, { 1, { 2 }, 1 } }, far_rest[] = { { 2, { 3, 1 }, 0 }, { 1, { 4 }, 1 } };
-    const expected near_anew[] = { { 6, { 5, 1, 4, 0, 3, 2 }, 0 } }, far_anew[] = { { 6, { 2, 0, 3, 1, 4, 5 }, 0 } };
+    const expected near_anew[] = { { 6, { 5, 1, 4, 0, 3, 2 }, 1 } }, far_anew[] = { { 6, { 2, 0, 3, 1, 4, 5 }, 1 } };
     CHECK(try_enter(&s, given, 1, probe).refusal == 0);
     check_pages(&s, (asked){ NEARBY_NEAR, 5, { 1, 5, 1, 4 }, 2 }, near_rest, LENGTH(near_rest));
     check_pages(&s, (asked){ NEARBY_FAR, 5, { 1, 5, 2, 0 }, 2 }, far_rest, LENGTH(far_rest));
@@ -238,15 +236,19 @@ static void examples_g_and_h(void)
     free_store(&s);
 }
 
-/* j: [4.7] a full page is not the last, even where nothing is left. */
+/* j: [4.7] a page of just all that are left is the last, and so is the empty one behind it. One of 4 leaves a claim behind it. */
 static void example_j(void)
 {
     seeded from = seed(88);
     store s = marked_store(&from, 8);
-    const expected near_by_5[] = { { 5, { 1, 4, 0, 3, 2 }, 0 }, { 0, { 0 }, 1 } };
-    const expected far_by_5[] = { { 5, { 2, 0, 3, 1, 4 }, 0 }, { 0, { 0 }, 1 } };
+    const expected near_by_5[] = { { 5, { 1, 4, 0, 3, 2 }, 1 }, { 0, { 0 }, 1 } };
+    const expected far_by_5[] = { { 5, { 2, 0, 3, 1, 4 }, 1 }, { 0, { 0 }, 1 } };
+    const expected near_by_4[] = { { 4, { 1, 4, 0, 3 }, 0 }, { 1, { 2 }, 1 } };
+    const expected far_by_4[] = { { 4, { 2, 0, 3, 1 }, 0 }, { 1, { 4 }, 1 } };
     check_pages(&s, (asked){ NEARBY_NEAR, 5, { 0 }, 5 }, near_by_5, LENGTH(near_by_5));
     check_pages(&s, (asked){ NEARBY_FAR, 5, { 0 }, 5 }, far_by_5, LENGTH(far_by_5));
+    check_pages(&s, (asked){ NEARBY_NEAR, 5, { 0 }, 4 }, near_by_4, LENGTH(near_by_4));
+    check_pages(&s, (asked){ NEARBY_FAR, 5, { 0 }, 4 }, far_by_4, LENGTH(far_by_4));
     free_store(&s);
 }
 
@@ -261,5 +263,5 @@ void example_tests(void)
     run_test("examples: c and d, nearest and farthest", examples_c_and_d);
     run_test("examples: f, a claim entered between pages", example_f);
     run_test("examples: g and h, places refused", examples_g_and_h);
-    run_test("examples: j, a page that is full and not last", example_j);
+    run_test("examples: j, full pages that are last or not", example_j);
 }

@@ -51,6 +51,7 @@ static const struct {
     [CARRIED_OVER] = { "lines carried over to the next journey", 2500, 0 },
     [TAKEN] = { "answers taken", 12000, 6000 },
     [OF_THE_OTHER_ORDER] = { "answers that came to a list of the other order", 15000, 7500 },
+    [FULL_AND_LAST] = { "answers with a full last page", 1000, 500 },
     [COMPLETED] = { "lists completed", 5000, 2500 },
     [ITEMS] = { "items in them", 80000, 40000 },
     [SNAPSHOTS] = { "sum of their snapshots", 90000, 45000 },
@@ -83,6 +84,7 @@ void check_counts(void)
             printf(" (%s: near %zu, far %zu)", stated[what].what, happened[what][NEARBY_NEAR], happened[what][NEARBY_FAR]);
     CHECK(in_all(COMPLETED) == in_all(OPENED) - in_all(OF_OTHER_TABLES));
     CHECK(in_all(MISSED) == 0);
+    CHECK(in_all(OVERDUE) == 0);
     CHECK(in_all(DIFFERENCES) == 0);
     for (call which = 0; which < CALLS; which++)
         for (int number = 1; number < NUMBERS; number++) {

@@ -6,7 +6,8 @@
 
 typedef enum {
     JOURNEYS, RUNS, CLAIMS, OPENED, OF_OTHER_TABLES, LIKE_ANOTHER, ASKS, ANSWERS, CHARACTERS, LOST, REPEATED, OVERTAKEN, DAMAGED,
-    CARRIED_OVER, TAKEN, OF_THE_OTHER_ORDER, COMPLETED, ITEMS, SNAPSHOTS, COMPARISONS, MISSED, DIFFERENCES, EVENTS
+    CARRIED_OVER, TAKEN, OF_THE_OTHER_ORDER, FULL_AND_LAST, COMPLETED, ITEMS, SNAPSHOTS, COMPARISONS, MISSED, OVERDUE, DIFFERENCES,
+    EVENTS
 } event;
 
 /* An event of a list or a line is counted by its order, any other without one. */
@@ -19,8 +20,8 @@ void count_call(call which, uint8_t refusal);
 /* Counts a line as refused, or as written in an order, with its characters. */
 void count_line(call which, nearby_written line, uint8_t order, event written);
 
-/* Everything happened often enough, in each order where it has one, every list of the office's table was completed, no claim was
- * missed, and no list was other than it has to be. */
+/* Everything happened often enough, in each order where it has one, every list of the office's table was completed, no complete list
+ * missed a claim, none that had them all was not complete, and no list was other than it has to be. */
 void check_counts(void);
 
 #endif

@@ -69,10 +69,19 @@ static void enter_some(journey *j)
     }
 }
 
+/* A page of just all that are left. */
+static bool full_and_last(text ask, text answer)
+{
+    nearby_answer_fields page = model_read_answer(answer).answer;
+    return page.last == 1 && page.count == model_read_ask(ask).ask.size;
+}
+
 static nearby_written answer_line(journey *j, text ask, output out)
 {
     nearby_written answer = try_answer(&j->office, ask, out);
-    count_line(ANSWER, answer, answer.refusal == 0 && out.at[1] == '5', ANSWERS);
+    uint8_t order = answer.refusal == 0 && out.at[1] == '5';
+    count_line(ANSWER, answer, order, ANSWERS);
+    count_in(order, FULL_AND_LAST, answer.refusal == 0 && full_and_last(ask, (text){ out.at, answer.length }));
     return answer;
 }
 
@@ -138,8 +147,8 @@ static uint8_t take_line(journey *j, drawn_list *l, text line)
     return taken.refusal;
 }
 
-/* The list is the first so many, in its order, of the claims within reach that the table held at the count that the list names; a
- * complete one has them all. One of another table never starts. */
+/* The list is the first so many, in its order, of the claims within reach that the table held at the count that the list names; once
+ * started it is complete just when it has them all. One of another table never starts. */
 static void compare_list(const journey *j, const drawn_list *l)
 {
     const nearby_list *is = &l->t.list;
@@ -154,6 +163,8 @@ static void compare_list(const journey *j, const drawn_list *l)
     count_event(DIFFERENCES, !first);
     if (first && is->complete)
         count_event(MISSED, within - is->count);
+    if (first && is->started && !is->complete)
+        count_event(OVERDUE, is->count == within);
 }
 
 /* ---- One step ---- */
@@ -246,11 +257,13 @@ static bool goes_on(journey *j, drawn_list *l)
     return taken && !l->t.list.complete;
 }
 
-/* Each page but the last has a claim, so the pages come to an end: a list of the office's table is complete then. */
+/* Each page has a claim, but for the only page of a list that has none. So there are no more pages than claims, and at least one: a
+ * list of the office's table is complete then. */
 static void drive_to_the_end(journey *j, drawn_list *l)
 {
+    size_t claims = j->office.table.count, most = claims > 0 ? claims : 1;
     bool on = !l->t.list.complete;
-    for (size_t pages = 0; on && pages <= j->office.table.count; pages++)
+    for (size_t pages = 0; on && pages < most; pages++)
         on = goes_on(j, l);
     count_event(DIFFERENCES, l->ours != (l->t.list.complete == 1));
     close_list(l);

@@ -8,6 +8,7 @@ int main(void)
     table_refusal_tests();
     example_tests();
     question_tests();
+    last_page_tests();
     line_tests();
     line_vector_tests();
     line_refusal_tests();
@@ -16,6 +17,7 @@ int main(void)
     list_tests();
     list_refusal_tests();
     take_refusal_tests();
+    complete_list_tests();
     journey_tests();
     many_tests();
     many_answer_tests();

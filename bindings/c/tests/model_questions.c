@@ -124,7 +124,7 @@ static bool after_mark(uint8_t order, measured m, nearby_start start)
     return order == NEARBY_NEAR ? m.distance > start.distance : m.distance < start.distance;
 }
 
-/* The page behind all refusals. */
+/* The page behind all refusals: it is the last where none of the sorted claims stands behind those given. */
 static nearby_filled fill_page(const store *s, uint8_t order, const int32_t *probe, uint64_t reach, nearby_start start, size_t size,
                                uint64_t *items)
 {
@@ -133,10 +133,10 @@ static nearby_filled fill_page(const store *s, uint8_t order, const int32_t *pro
     size_t count = sorted(s, order, probe, reach, snapshot, all);
     while (skipped < count && !after_mark(order, all[skipped], start))
         skipped++;
-    size_t left = count - skipped, given = left < size ? left : size;
+    size_t left = count - skipped, given = left < size ? left : size, behind = left - given;
     put_items(all + skipped, given, items);
     free(all);
-    return (nearby_filled){ 0, given < size, given };
+    return (nearby_filled){ 0, behind == 0, given };
 }
 
 nearby_filled model_page(const store *s, uint8_t order, points probe, uint64_t reach, nearby_start start, size_t size, room out)

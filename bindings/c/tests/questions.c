@@ -59,7 +59,8 @@ static nearby_start after(uint64_t snapshot, const uint64_t *item)
     return (nearby_start){ 1, snapshot, item[2], item[0] };
 }
 
-/* All pages of one order and size from the start on; together they are the sorted claims, none twice. */
+/* All pages of one order and size from the start on; together they are the sorted claims, none twice, and just the page with which all
+ * are seen is the last. */
 static void page_through(const store *s, uint8_t order, const int32_t *probe, uint64_t reach, size_t size)
 {
     size_t n = s->table.count, seen = 0;
@@ -73,6 +74,7 @@ static void page_through(const store *s, uint8_t order, const int32_t *probe, ui
             break;
         CHECK(memcmp(items, all + seen * NEARBY_ITEM, page.count * NEARBY_ITEM * sizeof(uint64_t)) == 0);
         seen += page.count;
+        CHECK(page.last == (seen == within));
         if (page.count > 0)
             at = after(n, items + (page.count - 1) * NEARBY_ITEM);
     }

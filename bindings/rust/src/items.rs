@@ -135,7 +135,7 @@ impl Place {
 pub struct Page {
     /// The claims.
     pub items: Vec<Item>,
-    /// Whether the page has fewer claims than were asked for, so that none follows.
+    /// Whether no claim follows the page; a full one may be the last too.
     pub last: bool,
     /// How many of the table's claims counted.
     pub snapshot: u64,

@@ -2,9 +2,9 @@
 //!
 //! An office keeps a [`Table`] that grows all day. A tablet loads a [`List`] of the claims near a probe, nearest first or farthest
 //! first, a page at a time, over a link that may lose, repeat, delay and reorder lines. Whatever the link does, the list is at every
-//! moment the first so many, in its [`Order`], of the claims within reach that the table held at the list's snapshot, and it says
-//! complete only when none is missing. That is proved of the library behind this crate; the crate itself, which hands over memory
-//! and reads results, is tested.
+//! moment the first so many, in its [`Order`], of the claims within reach that the table held at the list's snapshot, and once
+//! started it says complete just when none is missing. That is proved of the library behind this crate; the crate itself, which hands
+//! over memory and reads results, is tested.
 //!
 //! ```
 //! use nearby::{List, Measure, Order, Table};

@@ -31,6 +31,8 @@ use crate::{raw, ASK_LINE, ITEM, MOST_CLAIMS};
 /// assert_eq!(far.take(&answer), Err(Refusal::NotThisKind));
 /// far.take(&table.answer(&far.write_ask(3)?)?)?;
 /// assert!(far.items().map(|item| item.number).eq([2, 0, 1]));
+/// // No claim follows the three, so this page is the last.
+/// assert!(far.is_complete());
 /// # Ok::<(), Refusal>(())
 /// ```
 #[derive(Clone, Debug)]

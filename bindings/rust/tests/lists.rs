@@ -3,10 +3,10 @@
 mod common;
 
 use common::{drawn, enter, filled, Claims, Seeded, Style, STYLES};
-use nearby::{Answer, List, Mark, Measure, Order, Refusal, Table};
+use nearby::{Answer, Item, List, Mark, Measure, Order, Refusal, Table};
 
-/// The list is the first so many, in its order, of the claims within reach that the table held at its snapshot, and all of them when
-/// complete.
+/// The list is the first so many, in its order, of the claims within reach that the table held at its snapshot, and complete just when
+/// it has all of them.
 fn check(list: &List, claims: &Claims) {
     let Some(snapshot) = list.snapshot() else {
         assert!(list.is_empty() && !list.is_complete());
@@ -15,7 +15,7 @@ fn check(list: &List, claims: &Claims) {
     let sorted = claims.listed(list.order(), list.probe(), list.reach(), snapshot as usize);
     let items: Vec<_> = list.items().collect();
     assert!(sorted.starts_with(&items));
-    assert!(!list.is_complete() || items.len() == sorted.len());
+    assert_eq!(list.is_complete(), items.len() == sorted.len());
 }
 
 /// A full link loses a line.
@@ -199,6 +199,49 @@ fn complete_lists_ask_and_take_no_more() {
         assert_eq!(list.take(b"00"), Err(Refusal::NotALine));
         assert_eq!(list.write_ask(1), Err(Refusal::Complete));
         assert_eq!(list.write_ask(17), Err(Refusal::Complete));
+    }
+}
+
+/// Pages of 16 and room for just the claims: the page that brings the last claim completes the list.
+#[test]
+fn lists_of_full_pages() {
+    let from = &mut Seeded(47);
+    for n in [16, 32] {
+        let (table, claims) = filled(from, Measure::CityBlock, 2, n, n, Style::Tied);
+        for order in Order::ALL {
+            let mut list = List::open(order, table.number(), Measure::CityBlock, &[0, 1], u64::MAX, n).unwrap();
+            for loaded in (16..=n).step_by(16) {
+                assert_eq!(list.take(&table.answer(&list.write_ask(16).unwrap()).unwrap()), Ok(16));
+                assert_eq!((list.len(), list.is_complete()), (loaded, loaded == n));
+            }
+            check(&list, &claims);
+            assert_eq!(list.write_ask(16), Err(Refusal::Complete));
+        }
+    }
+}
+
+/// An answer with all claims holds although it does not say that they are all. The list has them and is not complete; what it asks
+/// then is answered by an empty last page, which completes it.
+#[test]
+fn all_claims_without_the_flag() {
+    let mut table = Table::new(7, Measure::CityBlock, 1, 8).unwrap();
+    table.enter(&[101, 102, 103, 104, 105], &[2, 3, 9, 6, 5]).unwrap();
+    let item = |(number, distance)| Item { number, reference: 101 + u32::from(number), distance };
+    for (order, sorted) in
+        [(Order::Near, [(1, 1), (4, 1), (0, 2), (3, 2), (2, 5)]), (Order::Far, [(2, 5), (0, 2), (3, 2), (1, 1), (4, 1)])]
+    {
+        let items: Vec<Item> = sorted.map(item).to_vec();
+        let (measure, probe, mark) = (Measure::CityBlock, vec![4], items[4].mark());
+        let mut list = List::open(order, 7, measure, &probe, 5, 5).unwrap();
+        let unflagged =
+            Answer { table: 7, order, measure, probe, reach: 5, snapshot: 5, after: None, last: false, items: items.clone() };
+        assert_eq!(list.take(&unflagged.to_line().unwrap()), Ok(5));
+        assert!(list.items().eq(items.iter().copied()) && !list.is_complete());
+        let answer = table.answer(&list.write_ask(5).unwrap()).unwrap();
+        let empty = Answer { after: Some(mark), last: true, items: Vec::new(), ..unflagged };
+        assert_eq!(Answer::from_line(&answer), Ok(empty));
+        assert_eq!(list.take(&answer), Ok(0));
+        assert!(list.items().eq(items.iter().copied()) && list.is_complete());
     }
 }
 

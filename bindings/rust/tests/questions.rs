@@ -59,13 +59,15 @@ fn pages_to_the_end_are_the_sorted_claims() {
         let probe = drawn(from, style, claims.d);
         let reach = claims.some_reach(from, &probe);
         for order in Order::ALL {
-            let (size, mut place, mut seen) = (1 + from.below(16), Some(Place::Start), Vec::new());
+            let (size, mut place, mut seen, mut pages) = (1 + from.below(16), Some(Place::Start), Vec::new(), 0);
             while let Some(at) = place {
                 let page = page_as_sorted(table, claims, order, &probe, reach, at, size).unwrap();
                 seen.extend_from_slice(&page.items);
                 place = page.next();
+                pages += 1;
             }
             assert_eq!(seen, claims.listed(order, &probe, reach, claims.all.len()));
+            assert_eq!(pages, seen.len().div_ceil(size).max(1));
         }
     });
 }
@@ -114,8 +116,28 @@ fn pages_from_the_far_end() {
     table.enter(&[106], &[4]).unwrap();
     assert_eq!(page(&table, 5, after(2, 0)), (vec![(3, 2), (1, 1)], false));
     assert_eq!(page(&table, 5, after(1, 1)), (vec![(4, 1)], true));
-    assert_eq!(page(&table, 2, after(2, 3)), (vec![(1, 1), (4, 1)], false));
+    assert_eq!(page(&table, 2, after(2, 3)), (vec![(1, 1), (4, 1)], true));
     assert_eq!(page(&table, 2, after(1, 4)), (vec![], true));
+}
+
+/// A page of just all that are left has no next one, and the one behind it is empty. A full page with a claim behind it has one.
+#[test]
+fn full_pages_and_what_is_next() {
+    let mut table = Table::new(7, Measure::CityBlock, 1, 8).unwrap();
+    table.enter(&[101, 102, 103, 104, 105], &[2, 3, 9, 6, 5]).unwrap();
+    for (order, sorted) in [(Order::Near, [1, 4, 0, 3, 2]), (Order::Far, [2, 0, 3, 1, 4])] {
+        let page = |place, size| table.page(order, &[4], 5, place, size).unwrap();
+        let numbers = |page: &Page| page.items.iter().map(|item| item.number).collect::<Vec<_>>();
+        let whole = page(Place::Start, 5);
+        assert_eq!((numbers(&whole), whole.last, whole.next()), (sorted.to_vec(), true, None));
+        let behind = page(Place::After { snapshot: 5, mark: whole.items[4].mark() }, 5);
+        assert_eq!((behind.items.len(), behind.last, behind.next()), (0, true, None));
+        let four = page(Place::Start, 4);
+        let next = Place::After { snapshot: 5, mark: whole.items[3].mark() };
+        assert_eq!((numbers(&four), four.last, four.next()), (sorted[..4].to_vec(), false, Some(next)));
+        let fifth = page(next, 1);
+        assert_eq!((numbers(&fifth), fifth.last, fifth.next()), (sorted[4..].to_vec(), true, None));
+    }
 }
 
 #[test]
@@ -128,10 +150,11 @@ fn large_tables() {
         assert_eq!(table.nearest(&probe, EVERYWHERE), Ok(both[0].1.first().copied()));
         assert_eq!(table.farthest(&probe), Ok(both[1].1.first().copied()));
         for (order, sorted) in both {
-            let middle = Place::After { snapshot: 4096, mark: sorted[2000].mark() };
-            page_as_sorted(&table, &claims, order, &probe, EVERYWHERE, middle, 16).unwrap();
-            let late = Place::After { snapshot: 4096, mark: sorted[4090].mark() };
-            assert!(page_as_sorted(&table, &claims, order, &probe, EVERYWHERE, late, 16).unwrap().last);
+            // Behind the last three there are 17 claims, 16 and 5.
+            for (at, last) in [(2000, false), (4078, false), (4079, true), (4090, true)] {
+                let place = Place::After { snapshot: 4096, mark: sorted[at].mark() };
+                assert_eq!(page_as_sorted(&table, &claims, order, &probe, EVERYWHERE, place, 16).unwrap().last, last);
+            }
         }
     }
 }

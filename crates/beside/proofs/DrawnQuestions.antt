@@ -4,7 +4,7 @@ use mathlib.Core.Path.{_≡_}
 use mathlib.Core.List.{List}
 use native.Mathlib.Omega.{arith}
 use lib.ListN.{length}
-use Rattle.paper.specs.Limits.{itemRoom}
+use Rattle.paper.specs.Limits.{itemRoom, mostPage}
 use Rattle.paper.specs.declared.orders.Place.{Place}
 use Rattle.paper.specs.declared.tables.Table.{Table}
 use Rattle.paper.specs.Orders.{snapshotOf}
@@ -43,5 +43,6 @@ module _ (t : Table) where
     drawn-scanned = (omega (arith, d .stored, d .small .few), d .narrow)
 
     -- a page of it can be asked for
-    pub pageable : (place : Place) → ((count : ℕ) → a .snapshot ≤ count → snapshotOf place count ≤ count) → (room : List ℕ) → length room ≡ itemRoom → Pageable t place (a .size) room
-    pageable place stored room e = record { stored = stored (t .count) (d .stored); some = d .some; long = omega (arith, d .most, e) }
+    pub pageable : (place : Place) → ((count : ℕ) → a .snapshot ≤ count → snapshotOf place count ≤ count) → (room : List ℕ) → length room ≡ itemRoom
+        → (a .size ≤ mostPage) × Pageable t place (a .size) room
+    pageable place stored room e = (d .most, record { stored = stored (t .count) (d .stored); some = d .some; long = omega (arith, d .most, e) })

@@ -100,7 +100,7 @@ fn is_nothing(f: Found) -> bool {
     if let Found::Nothing = f { true } else { false }
 }
 
-// [4.7] Whether a page is the scan's, and the last just where it is not full.
+// [4.7] Whether a page is the scan's, and the last just where the scan has no claim for another page.
 fn same_page(
     points: &[u64; 384],
     codes: &[u64; 8],
@@ -115,7 +115,7 @@ fn same_page(
     if scan::agreed(points, codes, a, room) != count {
         return false;
     }
-    paged.last == (count < size)
+    paged.last == (scan::all(points, codes, a) <= size as u64)
 }
 
 // A page beside the scan's. Only a mark beyond the reach is refused.

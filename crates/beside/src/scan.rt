@@ -71,17 +71,23 @@ fn comes(far: bool, x: u64, k: u64, y: u64, j: u64) -> bool {
     x < y
 }
 
-// The better one of the best so far and claim k, at distance x.
-fn better(a: Asking, best: Best, k: u64, x: u64) -> Best {
+// Whether the question lets claim k in, at distance x.
+fn lets_in(a: Asking, k: u64, x: u64) -> bool {
     let reach = a.reach;
     if reach < x {
-        return best;
+        return false;
     }
     let after = a.after;
     if after {
-        if !comes(a.far, a.distance, a.number, x, k) {
-            return best;
-        }
+        return comes(a.far, a.distance, a.number, x, k);
+    }
+    true
+}
+
+// The better one of the best so far and claim k, at distance x.
+fn better(a: Asking, best: Best, k: u64, x: u64) -> Best {
+    if !lets_in(a, k, x) {
+        return best;
     }
     let found = best.found;
     if found {
@@ -94,6 +100,21 @@ fn better(a: Asking, best: Best, k: u64, x: u64) -> Best {
         number: k,
         distance: x,
     }
+}
+
+// How many claims the question lets in.
+pub fn all(points: &[u64; 384], codes: &[u64; 8], a: Asking) -> u64
+    requires { ⌜ (a .snapshot ≤ 48) × (a .d ≤ 8) ⌝ }
+{
+    let snapshot = a.snapshot;
+    let mut n: u64 = 0;
+    let mut k: usize = 0;
+    while k < snapshot {
+        let x = distance(a.measure, a.d, points, k, codes);
+        n = wrapping_add_u64(n, lets_in(a, k as u64, x) as u64);
+        k += 1;
+    }
+    n
 }
 
 // The first claim in order of those that the question lets in.

@@ -1,12 +1,11 @@
 -- A page of a sound table fits an answer's line, and what is written of it is the line that the rules say. Assumes nothing.
-use Prim.Native.Nat.{ℕ, zero, suc, _*_, _≤_, _<_}
+use Prim.Native.Nat.{ℕ, zero, suc, _+_, _*_, _≤_, _<_}
 use mathlib.Core.Path.{_≡_, refl, sym, ap, subst}
 use mathlib.Core.Bool.{Bool, true, false, cond, _&&_}
 use mathlib.Core.List.{List, [], _∷_}
 use native.Mathlib.Omega.{arith}
 use lib.Dec.{leb, eqb}
 use lib.ListN.{length, getD, take, length-take}
-use lib.Seq.{take-at}
 use borrow.Author.Tests.{eq-eqb, le-leb, lt-ltb, leb-true, eqb-true}
 use Rattle.paper.specs.declared.lines.Scope.{Scope}
 use Rattle.paper.specs.declared.lines.Wrote.{Wrote}
@@ -15,7 +14,7 @@ use Rattle.paper.specs.declared.orders.Paged.{Paged}
 use Rattle.paper.specs.declared.orders.Place.{Place}
 use Rattle.paper.specs.declared.queries.Query as queries
 use Rattle.paper.specs.Points.{Claim}
-use Rattle.paper.specs.Orders.{Item, Query, queryIn, snapshotOf, earlier, insert, itemOf, listed, follows, rest, following, pageOf, flat, fronted}
+use Rattle.paper.specs.Orders.{Item, Query, queryIn, snapshotOf, earlier, insert, itemOf, listed, follows, rest, following, pageOf, flat}
 use Rattle.paper.specs.Tree.{Store, claimsIn}
 use Rattle.paper.specs.Outcomes.{gives}
 use Rattle.paper.specs.Frames.{lineOf}
@@ -29,13 +28,13 @@ use Rattle.paper.proofs.Ranges.{is-range}
 use Rattle.checks.proofs.Naming.{place-start, place-after}
 use Rattle.tree.proofs.TestedTables.{good-few}
 use Rattle.paper.specs.Calls.{tableQuery}
-use Rattle.walk.specs.Asking.{Pageable, Markable, PageIs}
+use Rattle.walk.specs.Asking.{Pageable, Markable, PageFound}
 use Rattle.tree.proofs.PointsInMemory.{claims-length}
 use Rattle.orders.proofs.Rooms.{flat-length}
 use Rattle.walk.proofs.Bridge.{claims-at}
 use Rattle.walk.proofs.Answers.{good-measurable}
 use Rattle.end_office.specs.Desk.{AskOurs, Paging, askIn, pageLine}
-use Rattle.paper.specs.Limits.{itemRoom, longestAnswer, mostClaims, mostNumber, mostPage}
+use Rattle.paper.specs.Limits.{scratchItems, longestAnswer, mostClaims, mostNumber, mostPage}
 
 -- ---- items that an answer has room for
 
@@ -169,9 +168,8 @@ module _ (s : Store) (q : queries.Query) (p : Scope) (size out : ℕ) (h : Pagin
   abbrev Scoped : Scope
   Scoped = scopeOf (placeIn p) (snapshotOf (placeIn p) (s .table .count))
 
-  pub pageable : (place : Place) (room : List ℕ) → place ≡ placeIn p → itemRoom ≤ length room → Pageable (s .table) place size room
-  pageable place room e l =
-      record { stored = rw e (h .stored); some = omega (arith, h .asking .ask .some); long = omega (arith, h .asking .ask .most) }
+  pub pageable : (place : Place) (room : List ℕ) → place ≡ placeIn p → scratchItems ≤ length room → Pageable (s .table) place (size + 1) room
+  pageable place room e l = record { stored = rw e (h .stored); some = omega arith; long = omega (arith, h .asking .ask .most) }
 
   page-few : length Page ≤ size
   unfolding pageOf
@@ -192,22 +190,18 @@ module _ (s : Store) (q : queries.Query) (p : Scope) (size out : ℕ) (h : Pagin
       take-small size _ (rest-small _ (placeIn p) _ (listed-small _ (claimsIn s) _ (λ k l. item-small known k (rw n at l))))
 
   -- what was written is the line of the page
-  module _ (place : Place) (room room' : List ℕ) (r : Paged) (at : place ≡ placeIn p)
-      (is : PageIs (tableQuery (s .table) (q .order) (take (q .d) (q .probe)) (q .reach)) (claimsIn s) place size room room' r) where
-    is-page : PageIs (queryIn q) (claimsIn s) (placeIn p) size room room' r
-    is-page =
-        subst (λ (x : Query). PageIs x (claimsIn s) (placeIn p) size room room' r) (sym (own-query s q p size out (h .asking))) (rw at at is)
+  module _ (place : Place) (room : List ℕ) (r : Paged) (at : place ≡ placeIn p)
+      (is : PageFound (tableQuery (s .table) (q .order) (take (q .d) (q .probe)) (q .reach)) (claimsIn s) place size room r) where
+    is-page : PageFound (queryIn q) (claimsIn s) (placeIn p) size room r
+    is-page = subst (λ (x : Query). PageFound x (claimsIn s) (placeIn p) size room r) (sym (own-query s q p size out (h .asking))) (rw at at is)
 
     pub page-count : r .count ≤ mostPage
     page-count = omega (arith, is-page .count, page-few, h .asking .ask .most)
 
     module _ (scope : Scope) (is-scope : scope ≡ Scoped) (last : ℕ) (flag : last ≡ flagOf (r .last)) (n : ℕ) (three : n ≡ 3 * r .count)
         (known : (i : ℕ) → getD (s .references) i 0 < 4294967296) (eight : 7 < length (q .probe)) where
-      page-items : take n room' ≡ flat Page
-      unfolding fronted
-      page-items =
-          let k : n ≡ length (flat Page) = omega (arith, flat-length Page, is-page .count) in
-          rw (is-page .room, k) (take-at (flat Page) _ (length (flat Page)) refl)
+      page-items : take n room ≡ flat Page
+      page-items = rw three (is-page .front)
 
       fits : answerFits (queryIn q) Scoped (flagOf (r .last)) (length Page) (flat Page) ≡ true
       unfolding answerFits answerRanges
@@ -224,8 +218,8 @@ module _ (s : Store) (q : queries.Query) (p : Scope) (size out : ℕ) (h : Pagin
       line-is = rw (claims-length (s .table .d) (s .table .count) (s .references) (s .coordinates), is-page .last)
 
       pub page-written : (before : List ℕ) (w : Wrote) (after : List ℕ) → longestAnswer ≤ length before
-          → Writes (bareLine (answerFits (queryIn q) scope last (r .count) (take n room')) longestAnswer
-          (answerFrame (queryIn q) scope last (r .count) (take n room')) (length before)) before w after
+          → Writes (bareLine (answerFits (queryIn q) scope last (r .count) (take n room)) longestAnswer
+          (answerFrame (queryIn q) scope last (r .count) (take n room)) (length before)) before w after
           → Writes (pageLine (tableOf s) (askIn q p size)) before w after
       page-written before w after long x =
           let y = rw (is-scope, flag, page-items, is-page .count) at x in

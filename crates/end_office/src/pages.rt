@@ -10,7 +10,7 @@ ghost use Rattle.paper.specs.Lines.{Writes};
 ghost use Rattle.end_office.specs.Desk.{Paging, askIn, pageLine};
 use checks::flag;
 use checks::place_of;
-use paper::limits::ITEM_ROOM;
+use paper::limits::SCRATCH_ITEMS;
 use paper::lines::Scope;
 use paper::lines::Wrote;
 use paper::queries::Query;
@@ -46,12 +46,12 @@ pub fn write_page(
     requires { ⌜ Paging (lent t references coordinates nodes) q p size (length (now out)) ⌝ }
     ensures { λ r. ⌜ Writes (pageLine (tableOf (lent t (references .entry) (coordinates .entry) (nodes .entry))) (askIn q p size)) (now (out .entry)) r (now (out .exit)) ⌝ }
 {
-    let mut room = [0u64; ITEM_ROOM];
+    let mut scratch = [0u64; SCRATCH_ITEMS];
     let order = q.order;
     let d = q.d;
     let probe = q.probe;
     let place = place_of(p);
-    let paged = walk::questions::page_of(
+    let paged = walk::questions::find_page(
         t,
         references,
         coordinates,
@@ -61,10 +61,10 @@ pub fn write_page(
         q.reach,
         place,
         size as usize,
-        &mut room,
+        &mut scratch,
     );
     let scope = answer_scope(p, t.count as u16);
     let count = paged.count;
     let n = 3 * count;
-    lines::write_answer(q, scope, flag(paged.last), count as u8, &room[..n], out)
+    lines::write_answer(q, scope, flag(paged.last), count as u8, &scratch[..n], out)
 }

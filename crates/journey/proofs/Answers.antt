@@ -18,11 +18,11 @@ use Rattle.paper.proofs.Tests.{and-first, and-second, and-both, or-right, or-le
 use Rattle.paper.proofs.Outcomes.{must-test, must-rest, must-go, same-given}
 use Rattle.orders.proofs.Lists.{All, all-map, all-take, all-getD, all-mem, all-of-mem, every-true, every-all}
 use Rattle.orders.proofs.Sorted.{rising-take, rising-rest, rising-test, IsOf, listed-are, listed-rising, rest-follows, all-rest}
-use Rattle.orders.proofs.Page.{last-some}
+use Rattle.orders.proofs.Page.{last-all, last-more, last-some}
 use Rattle.orders.proofs.Taking.{present-start, present-after, query-same, place-same}
 use Rattle.orders.specs.LawfulLines.{QueryInRange, PlaceInRange, AskInRange, ItemInRange, AnswerInRange}
 use Rattle.journey.specs.World.{TableOk}
-use Rattle.journey.proofs.Kept.{ListTrue, after, Vouched, kept-are, is-fitting}
+use Rattle.journey.proofs.Kept.{ListTrue, after, VouchedExactly, kept-are, is-fitting}
 use Rattle.paper.specs.Limits.{mostClaims, mostPage}
 
 -- ---- the present ask is in range
@@ -115,9 +115,24 @@ replied t a y e =
       is = sym (same-given _ _ (must-rest (markHolds (a .query) (t .claims) (a .place)) 8 _ _ e2));
     }
 
-pub answer-vouched : (t : Table) (a : Ask) → matches t (a .query) ≡ true → snapshotOf (a .place) (count t) ≤ count t → 1 ≤ a .size → Vouched t (answerOf t a)
+pub answer-vouched : (t : Table) (a : Ask) → matches t (a .query) ≡ true → snapshotOf (a .place) (count t) ≤ count t → 1 ≤ a .size
+    → VouchedExactly t (answerOf t a)
 unfolding answerOf pageOf following
-answer-vouched t a ours held one = record { ours = ours; held = held; size = a .size; one = one; page = refl; flag = refl }
+answer-vouched t a ours held one =
+    let f : List Item = after t (a .query) (a .place) (snapshotOf (a .place) (count t)) in
+    record {
+      vouched =
+          record {
+            ours = ours;
+            held = held;
+            size = a .size;
+            one = one;
+            page = refl;
+            all = λ p. last-all (a .size) f p;
+            full = λ p. omega (arith, last-more (a .size) f p);
+          };
+      more = λ p. last-more (a .size) f p;
+    }
 
 -- ---- the ask is answered
 

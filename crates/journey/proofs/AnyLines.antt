@@ -1,7 +1,7 @@
 -- The promise over a link, for any lines that obey the laws, in both orders, and with lines from elsewhere. Assumes nothing.
 use Prim.Native.Nat.{ℕ, _<_, _≤_}
-use mathlib.Core.Path.{_≡_, refl, _∙_}
-use mathlib.Core.Bool.{true}
+use mathlib.Core.Path.{_≡_, refl, ap, _∙_}
+use mathlib.Core.Bool.{Bool, true, false}
 use mathlib.Core.List.{List, List·Memᴰ}
 use native.Mathlib.Omega.{arith}
 use lib.ListN.{length}
@@ -10,7 +10,7 @@ use Rattle.orders.proofs.Lists.{all-getD, all-mem}
 use Rattle.orders.specs.LawfulLines.{Lawful}
 use Rattle.journey.specs.World.{World, noListing, theList, Reachable, Later, still, onwards, Unshared}
 use Rattle.journey.specs.Promise.{allOf, Truthful, MayAsk, Answered, Grows}
-use Rattle.journey.proofs.Kept.{ListTrue, TableGrown, grown-matches, kept-grown, kept-sound}
+use Rattle.journey.proofs.Kept.{ListExact, TableGrown, grown-matches, kept-grown, kept-sound}
 use Rattle.journey.proofs.Growth.{MayAnswer, is-answered, has-grown}
 use Rattle.journey.proofs.Queries.{QueryKept, next-keeps}
 use Rattle.journey.proofs.Journey.{Good, always, later-grown, later-reachable, later-lists}
@@ -18,22 +18,29 @@ use Rattle.paper.specs.Limits.{mostClaims}
 
 module _ (c : Codec) (law : Lawful c) (Elsewhere : List ℕ → Type 0) (w : World) (r : Reachable c Elsewhere w) where
   module _ (L : Listing) (m : List·Memᴰ L (w .lists)) (alone : Unshared c Elsewhere (L .query .table)) where
-    kept : ListTrue (w .table) L
-    kept = all-mem _ L (w .lists) (always c law Elsewhere r .lists) m .kept alone
+    exact : ListExact (w .table) L
+    exact = all-mem _ L (w .lists) (always c law Elsewhere r .lists) m .kept alone
 
     pub truthful : Truthful (w .table) L
     truthful =
         let ok = always c law Elsewhere r .table in
         let few : count (w .table) ≤ mostClaims = omega (arith, ok .fits, ok .small) in
         record {
-          sound = λ room h. kept-sound (w .table) L room kept few h;
-          held = kept .held;
-          front = kept .front;
-          ours = kept .ours;
+          sound = λ room h. kept-sound (w .table) L room (exact .kept) few h;
+          held = exact .kept .held;
+          front = exact .kept .front;
+          ours = exact .kept .ours;
         }
 
     pub whole : L .complete ≡ true → L .items ≡ allOf (w .table) L
-    whole = kept .whole
+    whole = exact .kept .whole
+
+    pub ended : L .started ≡ true → L .items ≡ allOf (w .table) L → L .complete ≡ true
+    ended p e = go (L .complete) refl
+      where
+        go : (b : Bool) → L .complete ≡ b → b ≡ true
+        go true q = refl
+        go false q = absurd (omega (arith, exact .missing p q, ap length e))
 
   -- a list that may ask in w is ready wherever its ask arrives later
   ready : (v : World) (i size : ℕ) → Later c Elsewhere w v → Unshared c Elsewhere (theList w i .query .table) → i < length (w .lists)
@@ -44,7 +51,7 @@ module _ (c : Codec) (law : Lawful c) (Elsewhere : List ℕ → Type 0) (w : Wor
       let g : TableGrown (w .table) (v .table) = later-grown c law Elsewhere w l in
       record {
         table = always c law Elsewhere (later-reachable c law Elsewhere w r l) .table;
-        kept = kept-grown _ _ g (theList w i) (good .kept alone);
+        kept = kept-grown _ _ g (theList w i) (good .kept alone .kept);
         ours = grown-matches _ _ g (theList w i .query) ∙ may .ours;
         unfinished = may .unfinished;
         one = may .one;

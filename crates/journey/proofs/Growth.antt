@@ -88,7 +88,7 @@ module _ (c : Codec) (law : Lawful c) (t : Table) (L : Listing) (size : ℕ) (r 
 
     pub joined-front : L .items ++ pageOf (L .query) (t .claims) (presentPlace L) size ≡ take (length (L .items) + size) (listed (L .query) (u .claims) at)
     unfolding pageOf following
-    joined-front = rw same (longer t L at size on (r .one) .items)
+    joined-front = rw same (longer t L at size on)
 
 -- ---- handed on: the same of worlds
 

@@ -2,7 +2,7 @@
 use Prim.Native.Nat.{ℕ, _+_, _<_, _≤_, _^_}
 use mathlib.Core.Path.{_≡_, refl, sym, ap, _∙_}
 use mathlib.Core.Logic.{_⊎_, inl, inr, ⊎-elim}
-use mathlib.Core.Bool.{not}
+use mathlib.Core.Bool.{false, not}
 use mathlib.Core.List.{List, [], _∷_, _++_, List·Memᴰ, List·Memᴰ·append-cases}
 use native.Mathlib.Omega.{arith}
 use lib.ListN.{length, length-append, length-set}
@@ -12,14 +12,14 @@ use Rattle.paper.specs.Points.{Claim}
 use Rattle.paper.specs.Orders.{Query}
 use Rattle.paper.specs.Points.{inRange}
 use Rattle.paper.specs.Outcomes.{Outcome, refused, gives}
-use Rattle.paper.specs.Ends.{Ask, Answer, Codec, Table, count, answerTo, lineAnswered, answerRoom, office, Listing, fresh, opening, presentAsk, every, soundIn, sizeHolds, askRoom, asking, taking}
+use Rattle.paper.specs.Ends.{Ask, Answer, Codec, Table, count, answerTo, lineAnswered, answerRoom, office, Listing, fresh, opening, presentAsk, every, soundIn, sizeHolds, askRoom, asking, joinedTo, taking}
 use Rattle.paper.proofs.Tests.{and-first, and-second}
 use Rattle.paper.proofs.Outcomes.{must-test, must-rest, through, same-given}
 use Rattle.orders.proofs.Lists.{All, all-map, all-append, all-set, all-getD, all-mem}
-use Rattle.orders.proofs.Taking.{took-line, took-line-query, fits-present}
+use Rattle.orders.proofs.Taking.{took-line, took-line-query, FitsList, fits-present}
 use Rattle.orders.specs.LawfulLines.{Typed, QueryInRange, AskInRange, AnswerInRange, Lawful}
 use Rattle.journey.specs.World.{World, Event, enters, opens, asks, receives, takes, strays, noListing, theList, runEntering, tableChanged, sent, listAdded, listChanged, next, Allowed, TableOk, Reachable, begins, goes, Later, still, onwards, Unshared}
-use Rattle.journey.proofs.Kept.{ListTrue, Vouched, kept-fresh, TableGrown, grown-same, grown-trans, kept-grown, vouched-grown, kept-joined}
+use Rattle.journey.proofs.Kept.{ListTrue, ListExact, Vouched, VouchedExactly, exact-fresh, TableGrown, grown-same, grown-trans, exact-grown, exactly-grown, kept-joined, exact-joined}
 use Rattle.journey.proofs.Answers.{asked-ok, answer-ok, replied, answer-vouched}
 
 -- ---- a run is entered
@@ -59,13 +59,17 @@ record Onward (w v : World) : Type 0 where
   lists : length (w .lists) ≤ length (v .lists)
 
 module _ (c : Codec) (law : Lawful c) (Elsewhere : List ℕ → Type 0) where
-  -- a line of the air, read as an answer, is one that the office gave, or comes from elsewhere
+  -- a line, read as an answer, is one that is vouched for, or comes from elsewhere
+  abbrev pub ReadsAs : (Answer → Type 0) → List ℕ → Type 0
+  ReadsAs By s = (y : Answer) → c .readAnswer s ≡ gives y → By y ⊎ Elsewhere s
+
+  -- as every line of the air is
   abbrev pub Honest : Table → List ℕ → Type 0
-  Honest t s = (y : Answer) → c .readAnswer s ≡ gives y → Vouched t y ⊎ Elsewhere s
+  Honest t = ReadsAs (VouchedExactly t)
 
   pub record Good (t : Table) (L : Listing) : Type 0 where
     pub query : QueryInRange (L .query)
-    pub kept : Unshared c Elsewhere (L .query .table) → ListTrue t L
+    pub kept : Unshared c Elsewhere (L .query .table) → ListExact t L
 
   pub record Inv (w : World) : Type 0 where
     pub table : TableOk (w .table)
@@ -80,8 +84,8 @@ module _ (c : Codec) (law : Lawful c) (Elsewhere : List ℕ → Type 0) where
       let g = entered-grown (w .table) run u ent in
       record {
         table = entered-ok (w .table) run u ent (i .table) typed;
-        air = all-map _ _ (λ s h y e. ⊎-elim (λ v. inl (vouched-grown _ _ g y v)) (λ f. inr f) (h y e)) (w .air) (i .air);
-        lists = all-map _ _ (λ L h. record { query = h .query; kept = λ a. kept-grown _ _ g L (h .kept a) }) (w .lists) (i .lists);
+        air = all-map _ _ (λ s h y e. ⊎-elim (λ v. inl (exactly-grown _ _ g y v)) (λ f. inr f) (h y e)) (w .air) (i .air);
+        lists = all-map _ _ (λ L h. record { query = h .query; kept = λ a. exact-grown _ _ g L (h .kept a) }) (w .lists) (i .lists);
       }
 
   opens-inv : (w : World) (q : Query) → Inv w → Typed q → (r : Outcome Listing) → opening q ≡ r → Inv (listAdded w r)
@@ -100,7 +104,7 @@ module _ (c : Codec) (law : Lawful c) (Elsewhere : List ℕ → Type 0) where
         table = i .table;
         air = i .air;
         lists = all-append _ (w .lists) (L ∷ []) (i .lists)
-            (rw (← is) (record { query = ok; kept = λ a. kept-fresh (w .table) q ok }), tt);
+            (rw (← is) (record { query = ok; kept = λ a. exact-fresh (w .table) q ok }), tt);
       }
 
   -- a line that joins the air
@@ -124,7 +128,7 @@ module _ (c : Codec) (law : Lawful c) (Elsewhere : List ℕ → Type 0) where
       sent-inv w s i (λ y r. absurd (law .ask-kind (presentAsk L size) y ask (rw is r)))
 
   -- a line that the office wrote reads as what it wrote
-  reads-back : (t : Table) (y : Answer) → AnswerInRange y → Vouched t y → Honest t (c .answerLine y)
+  reads-back : (t : Table) (y : Answer) → AnswerInRange y → VouchedExactly t y → Honest t (c .answerLine y)
   reads-back t y ok v x r = let q : x ≡ y = same-given _ _ (sym r ∙ law .answer-back y ok) in inl (rw q v)
 
   receives-inv : (w : World) (s : List ℕ) (out : ℕ) → Inv w → (r : Outcome (List ℕ)) → office c (w .table) out s ≡ r → Inv (sent w r)
@@ -138,23 +142,45 @@ module _ (c : Codec) (law : Lawful c) (Elsewhere : List ℕ → Type 0) where
       let ok = law .ask-ok s a (a1 .first) in
       let rep = replied (w .table) a y (a2 .first) in
       let yok : AnswerInRange y = rw (rep .is) (answer-ok (w .table) a (i .table) ok (rep .held)) in
-      let v : Vouched (w .table) y = rw (rep .is) (answer-vouched (w .table) a (rep .ours) (rep .held) (ok .one)) in
+      let v : VouchedExactly (w .table) y = rw (rep .is) (answer-vouched (w .table) a (rep .ours) (rep .held) (ok .one)) in
       let is : c .answerLine y ≡ z = same-given _ _ (a2 .second) in
       sent-inv w z i (rw (← is) (reads-back (w .table) y yok v))
 
-  -- whatever line comes, from the air or a file: a list that takes it stays what it promised
-  pub line-keeps : (t : Table) (room : ℕ) (L K : Listing) (s : List ℕ) → Honest t s → Unshared c Elsewhere (L .query .table) → ListTrue t L
-      → taking c room L s ≡ gives K → ListTrue t K
+  -- what a line brings that a list takes: an answer to its present ask, which is vouched for
+  record Brought (By : Answer → Type 0) (L K : Listing) : Type 0 where
+    answer : Answer
+    vouched : By answer
+    unfinished : L .complete ≡ false
+    fits : FitsList L answer
+    is : K ≡ joinedTo L answer
+
+  brought : (By : Answer → Type 0) (room : ℕ) (L K : Listing) (s : List ℕ) → ReadsAs By s → Unshared c Elsewhere (L .query .table) → QueryInRange (L .query)
+      → taking c room L s ≡ gives K → Brought By L K
   unfolding Unshared
-  line-keeps t room L K s honest alone k e =
+  brought By room L K s honest alone ok e =
       let tl = took-line c room L s K e in
       let y : Answer = tl .answer in
       let tk = tl .joins in
-      let fits = fits-present L y (k .query .long) (law .answer-ok s y (tl .read)) (tl .own) (tk .present) in
-      ⊎-elim
-      (λ v. rw (tk .is) (kept-joined t L y k v (tk .unfinished) fits))
-      (λ f. absurd (alone s f y (tl .read) (ap (λ (q : Query). q .table) (sym (fits .query)))))
-      (honest y (tl .read))
+      let fits = fits-present L y (ok .long) (law .answer-ok s y (tl .read)) (tl .own) (tk .present) in
+      record {
+        answer = y;
+        vouched = ⊎-elim (λ v. v) (λ f. absurd (alone s f y (tl .read) (ap (λ (q : Query). q .table) (sym (fits .query))))) (honest y (tl .read));
+        unfinished = tk .unfinished;
+        fits = fits;
+        is = tk .is;
+      }
+
+  -- whatever line comes, from the air or a file: a list that takes it stays what it promised
+  module _ (t : Table) (room : ℕ) (L K : Listing) (s : List ℕ) (alone : Unshared c Elsewhere (L .query .table)) (e : taking c room L s ≡ gives K) where
+    pub line-keeps : ReadsAs (Vouched t) s → ListTrue t L → ListTrue t K
+    line-keeps honest k =
+        let b = brought (Vouched t) room L K s honest alone (k .query) e in
+        rw (b .is) (kept-joined t L (b .answer) k (b .vouched) (b .unfinished) (b .fits))
+
+    line-exact : Honest t s → ListExact t L → ListExact t K
+    line-exact honest x =
+        let b = brought (VouchedExactly t) room L K s honest alone (x .kept .query) e in
+        rw (b .is) (exact-joined t L (b .answer) x (b .vouched) (b .unfinished) (b .fits))
 
   takes-inv : (w : World) (j at room : ℕ) (s : List ℕ) → Inv w → j < length (w .lists) → List·Memᴰ s (w .air) → (r : Outcome Listing)
       → taking c room (theList w j) s ≡ r → Inv (listChanged w at r)
@@ -163,9 +189,9 @@ module _ (c : Codec) (law : Lawful c) (Elsewhere : List ℕ → Type 0) where
       let L : Listing = theList w j in
       let q : K .query ≡ L .query = took-line-query c room L s K e in
       let good : Good (w .table) L = all-getD _ (w .lists) j noListing (i .lists) hj in
-      let keeps : Unshared c Elsewhere (K .query .table) → ListTrue (w .table) K =
+      let keeps : Unshared c Elsewhere (K .query .table) → ListExact (w .table) K =
       λ u. let v : Unshared c Elsewhere (L .query .table) = rw q at u in
-      line-keeps (w .table) room L K s (all-mem _ s (w .air) (i .air) m) v (good .kept v) e in
+      line-exact (w .table) room L K s v e (all-mem _ s (w .air) (i .air) m) (good .kept v) in
       record {
         table = i .table;
         air = i .air;

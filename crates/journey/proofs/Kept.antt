@@ -10,12 +10,11 @@ use lib.Dec.{leb, eqb}
 use borrow.Author.Tests.{lt-ltb, le-leb, eq-eqb}
 use Rattle.paper.specs.declared.orders.Place.{Place}
 use Rattle.paper.specs.Points.{Claim}
-use Rattle.paper.specs.Orders.{Item, noItem, Query, listed, rest, lastOf}
+use Rattle.paper.specs.Orders.{Item, noItem, Query, listed, rest}
 use Rattle.paper.specs.Ends.{Answer, Table, count, matches, Listing, fresh, presentPlace, fitting, startedWell, soundIn, joinedTo}
 use Rattle.paper.proofs.Tests.{no-way, and-both, or-right}
 use Rattle.orders.proofs.Lists.{All, all-map, all-take, every-true, front-length, join-front, last-of-front}
 use Rattle.orders.proofs.Sorted.{Rising, rising-take, rising-test, IsOf, listed-are, listed-rising, listed-grown, rest-start, rest-next}
-use Rattle.orders.proofs.Page.{last-all, last-more}
 use Rattle.orders.proofs.Taking.{present-start, present-after, FitsList}
 use Rattle.orders.specs.LawfulLines.{QueryInRange}
 use Rattle.journey.specs.Promise.{allOf}
@@ -32,18 +31,30 @@ pub record ListTrue (t : Table) (L : Listing) : Type 0 where
   pub whole : L .complete ≡ true → L .items ≡ allOf t L
   pub going : L .started ≡ true → L .complete ≡ false → 0 < length (L .items)
 
+-- a list that is true, and complete as soon as nothing is missing
+pub record ListExact (t : Table) (L : Listing) : Type 0 where
+  pub kept : ListTrue t L
+  pub missing : L .started ≡ true → L .complete ≡ false → length (L .items) < length (allOf t L)
+
 -- what follows a place in the list of the first s claims
 abbrev pub after : Table → Query → Place → ℕ → List Item
 after t q p s = rest (q .order) p (listed q (t .claims) s)
 
--- an answer that this table gave, at some count up to now
+-- an answer that this table gave, at some count up to now, by 4.7 or [7.15] by the former rule: where it is last it has all that is left,
+-- and otherwise it is full
 pub record Vouched (t : Table) (y : Answer) : Type 0 where
   pub ours : matches t (y .query) ≡ true
   pub held : y .snapshot ≤ count t
   pub size : ℕ
   pub one : 1 ≤ size
   pub page : y .items ≡ take size (after t (y .query) (y .place) (y .snapshot))
-  pub flag : y .last ≡ lastOf size (after t (y .query) (y .place) (y .snapshot))
+  pub all : y .last ≡ true → length (after t (y .query) (y .place) (y .snapshot)) ≤ size
+  pub full : y .last ≡ false → size ≤ length (after t (y .query) (y .place) (y .snapshot))
+
+-- one by 4.7: where it is not last, something follows it
+pub record VouchedExactly (t : Table) (y : Answer) : Type 0 where
+  pub vouched : Vouched t y
+  pub more : y .last ≡ false → vouched .size < length (after t (y .query) (y .place) (y .snapshot))
 
 -- a list that was just opened
 pub kept-fresh : (t : Table) (q : Query) → QueryInRange q → ListTrue t (fresh q)
@@ -57,6 +68,9 @@ kept-fresh t q ok =
       whole = λ p. absurd (no-way (sym p));
       going = λ p. absurd (no-way (sym p));
     }
+
+pub exact-fresh : (t : Table) (q : Query) → QueryInRange q → ListExact t (fresh q)
+exact-fresh t q ok = record { kept = kept-fresh t q ok; missing = λ p. absurd (no-way (sym p)) }
 
 -- ---- a table grows, and both stay
 
@@ -105,7 +119,10 @@ module _ (t u : Table) (g : TableGrown t u) where
         going = k .going;
       }
 
-  pub vouched-grown : (y : Answer) → Vouched t y → Vouched u y
+  pub exact-grown : (L : Listing) → ListExact t L → ListExact u L
+  exact-grown L x = record { kept = kept-grown L (x .kept); missing = rw (grown-listed (L .query) (L .snapshot) (x .kept .held)) (x .missing) }
+
+  vouched-grown : (y : Answer) → Vouched t y → Vouched u y
   vouched-grown y v =
       let e : listed (y .query) (u .claims) (y .snapshot) ≡ listed (y .query) (t .claims) (y .snapshot) =
       grown-listed (y .query) (y .snapshot) (v .held) in
@@ -115,8 +132,14 @@ module _ (t u : Table) (g : TableGrown t u) where
         size = v .size;
         one = v .one;
         page = rw e (v .page);
-        flag = rw e (v .flag);
+        all = rw e (v .all);
+        full = rw e (v .full);
       }
+
+  pub exactly-grown : (y : Answer) → VouchedExactly t y → VouchedExactly u y
+  unfolding vouched-grown
+  exactly-grown y v =
+      record { vouched = vouched-grown y (v .vouched); more = rw (grown-listed (y .query) (y .snapshot) (v .vouched .held)) (v .more) }
 
 -- ---- a page joined to the list
 
@@ -142,38 +165,51 @@ continues t L s k c same = go (L .started) refl (length (L .items)) refl
         }
 
 -- a page of size n joined to the list
-pub record Longer (t : Table) (L : Listing) (s n : ℕ) (r : List Item) (last : Bool) : Type 0 where
-  pub items : L .items ++ r ≡ take (length (L .items) + n) (listed (L .query) (t .claims) s)
-  pub whole : last ≡ true → L .items ++ r ≡ listed (L .query) (t .claims) s
-  pub some : last ≡ false → 0 < length (L .items ++ r)
+pub longer : (t : Table) (L : Listing) (s n : ℕ) → Continues t L s
+    → L .items ++ take n (after t (L .query) (presentPlace L) s) ≡ take (length (L .items) + n) (listed (L .query) (t .claims) s)
+longer t L s n c = join-front (L .items) (listed (L .query) (t .claims) s) (after t (L .query) (presentPlace L) s) n (c .had) (c .lacks)
 
-pub longer : (t : Table) (L : Listing) (s n : ℕ) → Continues t L s → 1 ≤ n
-    → Longer t L s n (take n (after t (L .query) (presentPlace L) s)) (lastOf n (after t (L .query) (presentPlace L) s))
-longer t L s n c one =
-    let l : List Item = listed (L .query) (t .claims) s in
-    let f : List Item = after t (L .query) (presentPlace L) s in
-    let e : L .items ++ take n f ≡ take (length (L .items) + n) l = join-front (L .items) l f n (c .had) (c .lacks) in
-    record {
-      items = e;
-      whole = λ q. e ∙ take-all (length (L .items) + n) l (omega (arith, last-all n f q, ap length (c .lacks), length-drop (length (L .items)) l));
-      some = λ q. omega (arith, last-more n f q, length-take n f, length-append (L .items) (take n f));
-    }
+module _ (t : Table) (L : Listing) (y : Answer) (k : ListTrue t L) (v : Vouched t y) (c : L .complete ≡ false) (f : FitsList L y) where
+  abbrev Whole : List Item
+  Whole = listed (L .query) (t .claims) (y .snapshot)
 
-pub kept-joined : (t : Table) (L : Listing) (y : Answer) → ListTrue t L → Vouched t y → L .complete ≡ false → FitsList L y → ListTrue t (joinedTo L y)
+  abbrev Left : List Item
+  Left = after t (y .query) (y .place) (y .snapshot)
+
+  on : Continues t L (y .snapshot)
+  on = continues t L (y .snapshot) k c (f .snapshot)
+
+  left : length Left ≡ length (drop (length (L .items)) Whole)
+  left = rw (← f .place, ← f .query) (ap length (on .lacks))
+
+  joined : L .items ++ y .items ≡ take (length (L .items) + v .size) Whole
+  joined =
+      let page : y .items ≡ take (v .size) (after t (L .query) (presentPlace L) (y .snapshot)) = rw (f .place, f .query) (v .page) in
+      rw page (longer t L (y .snapshot) (v .size) on)
+
+  -- a true list stays true
+  pub kept-joined : ListTrue t (joinedTo L y)
+  unfolding joinedTo
+  kept-joined =
+      record {
+        query = k .query;
+        unstarted = λ z. absurd (no-way z);
+        ours = λ z. rw (f .query) (v .ours);
+        held = v .held;
+        front = front-length _ (length (L .items) + v .size) _ joined;
+        whole = λ z. joined ∙ take-all (length (L .items) + v .size) Whole (omega (arith, v .all z, left, length-drop (length (L .items)) Whole));
+        going = λ z q. omega (arith, v .full q, v .one, ap length joined, length-take (length (L .items) + v .size) Whole, left, length-drop (length (L .items)) Whole);
+      }
+
+  -- and by 4.7 it lacks something as long as it is not complete
+  pub missing-joined : (y .last ≡ false → v .size < length Left) → y .last ≡ false → length (L .items ++ y .items) < length Whole
+  missing-joined more q = omega (arith, more q, ap length joined, length-take (length (L .items) + v .size) Whole, left, length-drop (length (L .items)) Whole)
+
+pub exact-joined : (t : Table) (L : Listing) (y : Answer) → ListExact t L → VouchedExactly t y → L .complete ≡ false → FitsList L y
+    → ListExact t (joinedTo L y)
 unfolding joinedTo
-kept-joined t L y k v c f =
-    let pg : y .items ≡ take (v .size) (after t (L .query) (presentPlace L) (y .snapshot)) = rw (f .place, f .query) (v .page) in
-    let fl : y .last ≡ lastOf (v .size) (after t (L .query) (presentPlace L) (y .snapshot)) = rw (f .place, f .query) (v .flag) in
-    let lo = longer t L (y .snapshot) (v .size) (continues t L (y .snapshot) k c (f .snapshot)) (v .one) in
-    record {
-      query = k .query;
-      unstarted = λ z. absurd (no-way z);
-      ours = λ z. rw (f .query) (v .ours);
-      held = v .held;
-      front = front-length _ (length (L .items) + v .size) _ (rw pg (lo .items));
-      whole = λ z. rw pg (lo .whole (sym fl ∙ z));
-      going = λ z q. rw pg (lo .some (sym fl ∙ q));
-    }
+exact-joined t L y x v c f =
+    record { kept = kept-joined t L y (x .kept) (v .vouched) c f; missing = λ z. missing-joined t L y (x .kept) (v .vouched) c f (v .more) }
 
 -- ---- handed on: a true list is sound
 

@@ -4,4 +4,5 @@ pub mod Answers
 pub mod Queries
 pub mod Growth
 pub mod Journey
+pub mod Former
 pub mod AnyLines

@@ -3,9 +3,10 @@ use Prim.Native.Nat.{ℕ, _+_, _≤_}
 use mathlib.Core.Path.{_≡_}
 use mathlib.Core.Bool.{true, false, cond}
 use mathlib.Core.List.{List, _∷_, _++_}
+use lib.Dec.{ltb}
 use lib.ListN.{length, take, drop}
-use Rattle.paper.specs.Orders.{Item, listed, lastOf}
-use Rattle.paper.specs.Ends.{Codec, Table, count, matches, answerOf, Listing, presentAsk, soundIn}
+use Rattle.paper.specs.Orders.{Item, listed, snapshotOf, pageOf, lastOf}
+use Rattle.paper.specs.Ends.{Ask, Answer, Codec, Table, count, matches, answerOf, Listing, presentAsk, soundIn}
 use Rattle.journey.specs.World.{World, theList, asks, receives, takes, next}
 use Rattle.paper.specs.Limits.{longestAnswer, longestAsk, mostPage}
 
@@ -27,6 +28,17 @@ askLineOf c L size = c .askLine (presentAsk L size)
 
 abbrev pub replyLineOf : Codec → Table → Listing → ℕ → List ℕ
 replyLineOf c t L size = c .answerLine (answerOf t (presentAsk L size))
+
+-- [7.15] an answer by the former rule: called the last just where it has fewer items than were asked for
+unfoldable pub formerAnswerOf : Table → Ask → Answer
+formerAnswerOf t a =
+    record {
+      query = a .query;
+      place = a .place;
+      snapshot = snapshotOf (a .place) (count t);
+      last = ltb (length (pageOf (a .query) (t .claims) (a .place) (a .size))) (a .size);
+      items = pageOf (a .query) (t .claims) (a .place) (a .size);
+    }
 
 -- [7.8] [4.3] a list that is for this table, is not complete, and may ask for a page of this size
 pub record MayAsk (t : Table) (L : Listing) (size : ℕ) : Type 0 where

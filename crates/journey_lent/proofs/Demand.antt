@@ -53,6 +53,13 @@ module _ (w : LentWorld) (r : LentReachable w) where
     unfolding listing
     complete-only-when-none-is-missing c = any.whole lines lawful _ (seen w) (reachable-seen r) (listing h) (mem-map listing h (w .lists) m) alone c
 
+    -- [7.12] and once it has started it is complete exactly when it has
+    pub complete-exactly-when-none-is-missing : h .list .started ≡ true
+        → (h .list .complete ≡ true → listing h .items ≡ allOf (tableOf (w .store)) (listing h)) × (listing h .items ≡ allOf (tableOf (w .store)) (listing h) → h .list .complete ≡ true)
+    unfolding listing
+    complete-exactly-when-none-is-missing started =
+        (complete-only-when-none-is-missing, any.ended lines lawful _ (seen w) (reachable-seen r) (listing h) (mem-map listing h (w .lists) m) alone started)
+
     -- [7.12] claim by claim
     pub a-complete-list-has-every-claim : h .list .complete ≡ true → (k : ℕ) → k < h .list .snapshot
         → itemOf (queryIn (h .list .query)) (claimsIn (w .store)) k .distance ≤ h .list .query .reach

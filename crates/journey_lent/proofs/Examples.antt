@@ -1,14 +1,15 @@
 -- The small world lives. Assumes nothing.
 use Prim.Native.Nat.{ℕ, _+_, _<_, _^_}
 use mathlib.Core.Path.{refl, ap, _∙_}
+use mathlib.Core.Bool.{Bool}
 use mathlib.Core.List.{List, [], _∷_}
 use native.Mathlib.Omega.{arith}
 use lib.IntN.{ℤ, pos}
-use lib.ListN.{length, take, replicate}
+use lib.ListN.{length, take, drop, replicate}
 use lib.Signed.{mag}
 use Rattle.paper.specs.declared.orders.Order.{Order}
 use Rattle.paper.specs.Points.{measureOf, weigh, joined, distance, point, inRange}
-use Rattle.paper.specs.Orders.{Item, Query, insert, itemOf, listed}
+use Rattle.paper.specs.Orders.{Item, Query, insert, itemOf, listed, lastOf}
 use Rattle.paper.specs.Tree.{newNode, enteredFrom, entered, built, claimsFrom, claimsIn, fits, sameFront, afresh, sound}
 use Rattle.paper.specs.Runs.{added, addedRun, enterCall}
 use Rattle.paper.specs.Ends.{tableOf, matches, opening}
@@ -56,9 +57,12 @@ module _ (order : Order) where
   abbrev found : Query → ℕ → List Item
   found q n = take (length (theListing (opened order) 0 .items) + 1) (listed q (claimsIn (opened order .store)) n)
 
+  abbrev ended : Query → ℕ → Bool
+  ended q n = lastOf 1 (drop (length (theListing (opened order) 0 .items)) (listed q (claimsIn (opened order .store)) n))
+
   pub lives : Lives order
   unfolding nextLent enterCall fits inRange sound afresh built sameFront addedRun added openingHeld opening openedAs entered newNode enteredFrom listing itemsIn
-      queryInSlots inSlots listed itemOf insert measureOf weigh joined distance claimsFrom point
+      queryInSlots inSlots listed itemOf insert measureOf weigh joined distance claimsFrom point lastOf
   lives =
       record {
         reached = reached;
@@ -67,4 +71,7 @@ module _ (order : Order) where
         items = grows .extended .front
             ∙ ap (λ (q : Query). found q (grows .grown .snapshot)) (grows .extended .query)
             ∙ ap (found (theListing (opened order) 0 .query)) (grows .extended .snapshot);
+        complete = grows .extended .complete
+            ∙ ap (λ (q : Query). ended q (grows .grown .snapshot)) (grows .extended .query)
+            ∙ ap (ended (theListing (opened order) 0 .query)) (grows .extended .snapshot);
       }

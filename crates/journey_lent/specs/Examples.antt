@@ -1,6 +1,7 @@
 -- A small world in lent memory, in which a list of either order may ask: the premises can be met, and the promise is of something.
 -- Definitions only.
 use mathlib.Core.Path.{_≡_}
+use mathlib.Core.Bool.{true}
 use mathlib.Core.List.{[], _∷_}
 use lib.IntN.{pos}
 use lib.ListN.{replicate}
@@ -30,5 +31,6 @@ pub record Lives (order : Order) : Type 0 where
   pub reached : LentReachable (opened order)
   pub asks : MayAsk (tableOf (opened order .store)) (theListing (opened order) 0) 1
   pub grows : GrowsHeld (opened order) (opened order) (opened order) 0 1
-  -- the list then has the claim
+  -- the list then has the claim, and [7.12] is complete
   pub items : grows .grown .items ≡ record { number = 0; reference = 5; distance = 1 } ∷ []
+  pub complete : grows .grown .complete ≡ true

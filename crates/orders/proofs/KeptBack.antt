@@ -42,7 +42,7 @@ module _ (q : Query) (cs : List Claim) (s : ℕ) where
   zeros-keep-claim-0 h mem = mark-keeps-its-claim startMark h mem
 
 -- what follows a place stays
-rest-has : (o : Order) (p : Place) (a : Item) (l : List Item) → follows o p a ≡ true → List·Memᴰ a l → List·Memᴰ a (rest o p l)
+pub rest-has : (o : Order) (p : Place) (a : Item) (l : List Item) → follows o p a ≡ true → List·Memᴰ a l → List·Memᴰ a (rest o p l)
 unfolding rest
 rest-has o p a [] f m = absurd (List·Memᴰ·not-nil m)
 rest-has o p a (b ∷ l) f m = go (follows o p b) refl (List·Memᴰ·cases-cons m) (λ n. rest-has o p a l f n)

@@ -5,6 +5,7 @@ pub mod Page
 pub mod Meaning
 pub mod Pages
 pub mod KeptBack
+pub mod LastPages
 pub mod Taking
 pub mod Sound
 pub mod Rooms

@@ -30,6 +30,15 @@ unfolding flat
 flat-length [] = refl
 flat-length (x ∷ l) = omega (arith, flat-length l)
 
+-- the first numbers of items that stand in a room are those of the first items
+pub flat-front : (n : ℕ) (l : List Item) (r : List ℕ) → n ≤ length l → take (3 * n) (flat l ++ r) ≡ flat (take n l)
+unfolding flat
+flat-front zero l r h = refl
+flat-front (suc n) [] r h = absurd (omega arith)
+flat-front (suc n) (x ∷ l) r h =
+    let e : 3 * suc n ≡ suc (suc (suc (3 * n))) = omega arith in
+    rw (e, flat-front n l r (omega arith))
+
 -- the items that a room holds, as numbers, are its front
 pub flat-in : (k : ℕ) (r : List ℕ) → 3 * k ≤ length r → flat (itemsIn k r) ≡ take (3 * k) r
 unfolding flat itemsIn

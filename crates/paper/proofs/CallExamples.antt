@@ -81,6 +81,7 @@ asking-marked =
       page = refl;
       next = refl;
       far = refl;
+      fullLast = refl;
       size0 = refl;
       sizeOver = refl;
       snapshot7 = refl;

@@ -14,4 +14,16 @@ unfolding measureOf weigh joined distance rank before insert itemOf listed follo
     matches answerOf answerTo lineAnswered office presentPlace every rising sameProbe sameQuery samePlace toPresent pageHolds joinedTo taken
     scopeOf placeIn answerLine askMeant readAsk be num glyph digit hexes lineOf frameOf pairsEnded isLine head front inRange coordBytes coordsIn inSlots
     scopeBytes scopeIn scopeOk itemFrame itemBytes reading headOk behind queryAt isAsk askRanges askOk askAt anAsk noAsk readAsAsk answerFrame
-ends-marked = record { first = refl; then = refl; still = refl; late = refl; small = refl; over = refl; sample = refl }
+ends-marked =
+    record {
+      first = refl;
+      then = refl;
+      exactly = refl;
+      former = refl;
+      afterFormer = refl;
+      still = refl;
+      late = refl;
+      small = refl;
+      over = refl;
+      sample = refl;
+    }

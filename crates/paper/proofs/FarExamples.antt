@@ -27,7 +27,7 @@ far-order-marked =
       farClaimBetweenTwoPages = (refl, refl);
       mark8 = refl;
       snapshot7 = refl;
-      full = (refl, refl);
+      full = (refl, refl, refl);
     }
 
 pub far-calls-marked : FarCallsMarked

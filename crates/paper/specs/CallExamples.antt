@@ -170,6 +170,8 @@ pub record AskingMarked : Type 0 where
   pub page : pageFrom fiveStored four Start 2 6 ≡ gives (record { items = item 1 102 1 ∷ item 4 105 1 ∷ []; last = false })
   pub next : pageFrom fiveStored four (after 5 1 4) 2 6 ≡ gives (record { items = item 0 101 2 ∷ item 3 104 2 ∷ []; last = false })
   pub far : pageCall fiveStored Far four 5 Start 1 3 ≡ gives (record { items = item 2 103 5 ∷ []; last = false })
+  -- [4.7] [8.12] all that are left, in a room for just these: the last page, though it is full
+  pub fullLast : pageFrom fiveStored four (after 5 1 4) 3 9 ≡ gives (record { items = item 0 101 2 ∷ item 3 104 2 ∷ item 2 103 5 ∷ []; last = true })
   pub size0 : pageFrom fiveStored four Start 0 6 ≡ refused 6
   pub sizeOver : pageFrom fiveStored four Start tooMany (3 * tooMany) ≡ refused 6
   -- examples h and g; a mark over reach; a room for one item too few

@@ -2,7 +2,7 @@
 -- Definitions only.
 use Prim.Native.Nat.{ℕ}
 use mathlib.Core.Path.{_≡_}
-use mathlib.Core.Bool.{true, false}
+use mathlib.Core.Bool.{Bool, true, false}
 use mathlib.Core.List.{List, [], _∷_, _++_}
 use Rattle.paper.specs.Points.{Claim}
 use Rattle.paper.specs.Outcomes.{Outcome, refused, gives}
@@ -10,7 +10,7 @@ use Rattle.paper.specs.Frames.{lineOf}
 use Rattle.paper.specs.Ends.{Answer, office, answerTo, Listing, fresh, presentAsk, taken}
 use Rattle.paper.specs.Codec.{lines}
 use Rattle.paper.specs.Limits.{longestAnswer}
-use Rattle.paper.specs.Examples.{claim, five, six, query, table, item}
+use Rattle.paper.specs.Examples.{claim, five, six, query, table, item, after}
 
 -- the answer to a list's present ask, taken into the list, in a room for so many items
 abbrev pub takesReply : ℕ → Listing → Outcome Answer → Outcome Listing
@@ -31,15 +31,29 @@ listAfterFirst =
       items = item 1 102 1 ∷ item 4 105 1 ∷ [];
     }
 
--- and when all five are in it
-abbrev pub listAfterAll : Listing
-listAfterAll =
+-- and when all five are in it, complete or not
+abbrev pub listWithAll : Bool → Listing
+listWithAll complete =
     record {
       query = query 5;
       started = true;
       snapshot = 5;
-      complete = true;
+      complete = complete;
       items = item 1 102 1 ∷ item 4 105 1 ∷ item 0 101 2 ∷ item 3 104 2 ∷ item 2 103 5 ∷ [];
+    }
+
+abbrev pub listAfterAll : Listing
+listAfterAll = listWithAll true
+
+-- [7.15] the answer that brings the last three, by the former rule: the page is full, so it is not called the last
+abbrev pub formerAnswer : Answer
+formerAnswer =
+    record {
+      query = query 5;
+      place = after 5 1 4;
+      snapshot = 5;
+      last = false;
+      items = item 0 101 2 ∷ item 3 104 2 ∷ item 2 103 5 ∷ [];
     }
 
 -- [5.5] an ask line: of table 7, near 4 within 5, a page of 2 from the start
@@ -54,6 +68,11 @@ pub record EndsMarked : Type 0 where
   -- [7.7] [7.8] the first page is taken, and so is the next one
   pub first : takesReply 5 (fresh (query 5)) (replies five (fresh (query 5)) 2) ≡ gives listAfterFirst
   pub then : takesReply 5 listAfterFirst (replies five listAfterFirst 4) ≡ gives listAfterAll
+  -- [4.7] [7.8] a page of exactly all that are left completes the list
+  pub exactly : takesReply 5 listAfterFirst (replies five listAfterFirst 3) ≡ gives listAfterAll
+  -- [7.15] by the former rule the same page does not, though nothing is missing; then an empty page does
+  pub former : taken 5 listAfterFirst formerAnswer ≡ gives (listWithAll false)
+  pub afterFormer : takesReply 5 (listWithAll false) (replies five (listWithAll false) 3) ≡ gives listAfterAll
   -- [4.5] a claim that was entered after the first page, at distance 2, is in none of the later ones
   pub still : takesReply 5 listAfterFirst (replies (five ++ (claim 106 6 ∷ [])) listAfterFirst 4) ≡ gives listAfterAll
   -- [7.5] [8.13] an answer from the start that comes late, with another snapshot

@@ -101,8 +101,8 @@ pub record Marked : Type 0 where
   pub h : officePage five (after 6 1 4) 2 ≡ refused 7
   -- [1.5] the least and the greatest coordinate
   pub i : distance CityBlock 1 (negsuc 2147483647 ∷ []) (pos 2147483647 ∷ []) ≡ 4294967295
-  -- [4.7] a full page is not the last, even where nothing is left
-  pub j : (officePage five Start 5 ≡ gives (page (1 ∷ 4 ∷ 0 ∷ 3 ∷ 2 ∷ []) false)) × (officePage five (after 5 5 2) 5 ≡ gives (page [] true))
+  -- [4.7] a page of exactly all that are left is the last; one asked for behind it is empty, and the last too
+  pub j : (officePage five Start 5 ≡ gives (page (1 ∷ 4 ∷ 0 ∷ 3 ∷ 2 ∷ []) true)) × (officePage five (after 5 5 2) 5 ≡ gives (page [] true))
 
 pub record MarkedBesides : Type 0 where
   -- [3.8] the left of two as near: a claim at 1 beside 0 and 2

@@ -42,8 +42,10 @@ pub record FarOrderMarked : Type 0 where
   -- [8.8] [8.7] a mark that no claim has, and a snapshot of more claims than there are
   pub mark8 : officePageIn Far five (after 5 2 4) 2 ≡ refused 8
   pub snapshot7 : officePageIn Far five (after 6 2 0) 2 ≡ refused 7
-  -- [4.7] a full page is not the last
-  pub full : (officePageIn Far five Start 5 ≡ gives (page (2 ∷ 0 ∷ 3 ∷ 1 ∷ 4 ∷ []) false)) × (officePageIn Far five (after 5 1 4) 5 ≡ gives (page [] true))
+  -- [4.7] a full page is the last just where no claim is left
+  pub full : (officePageIn Far five Start 5 ≡ gives (page (2 ∷ 0 ∷ 3 ∷ 1 ∷ 4 ∷ []) true))
+      × (officePageIn Far five Start 4 ≡ gives (page (2 ∷ 0 ∷ 3 ∷ 1 ∷ []) false))
+      × (officePageIn Far five (after 5 1 4) 5 ≡ gives (page [] true))
 
 -- ---- lists and lines
 

@@ -29,6 +29,10 @@ mostPage = 16
 abbrev pub itemRoom : ℕ
 itemRoom = 3 * mostPage
 
+-- [4.7] numbers of the items that are looked for: those of a page, and one that tells whether the page is the last
+abbrev pub scratchItems : ℕ
+scratchItems = 3 * (mostPage + 1)
+
 -- numbers of the nodes that a table is built into once more when it is tested
 abbrev pub scratchNodes : ℕ
 scratchNodes = 6 * mostClaims

@@ -10,6 +10,7 @@ use Rattle.paper.specs.declared.orders.Found.the-variants.{Nothing, Item
 use Rattle.paper.specs.declared.orders.Mark.{Mark}
 use Rattle.paper.specs.declared.orders.Order.{Order}
 use Rattle.paper.specs.declared.orders.Order.the-variants.{Near, Far}
+use Rattle.paper.specs.declared.orders.Paged.{Paged}
 use Rattle.paper.specs.declared.orders.Place.{Place}
 use Rattle.paper.specs.declared.orders.Place.the-variants.{Start, After}
 use Rattle.paper.specs.declared.queries.Query as queries
@@ -125,9 +126,13 @@ following q cs p = rest (q .order) p (listed q cs (snapshotOf p (length cs)))
 unfoldable pub pageOf : Query → List Claim → Place → ℕ → List Item
 pageOf q cs p size = take size (following q cs p)
 
--- [4.7] a page is the last when it has fewer items than its size
+-- [4.7] a page is the last when what it is taken from is no more than its size, so that nothing follows it
 unfoldable pub lastOf : ℕ → List Item → Bool
-lastOf size r = ltb (length (take size r)) size
+lastOf size r = leb (length r) size
+
+-- [4.6] [4.7] how many items a page has, and whether it is the last
+abbrev pub pagedOf : ℕ → List Item → Paged
+pagedOf size r = record { count = length (take size r); last = lastOf size r }
 
 -- [4.1] [4.2] what nearest and farthest give: nothing, or an item
 pub data Found : Type 0 where

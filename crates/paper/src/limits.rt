@@ -14,6 +14,9 @@ pub const MOST_NUMBER: u64 = MOST_CLAIMS as u64 - 1;
 // Numbers of a page's items.
 pub const ITEM_ROOM: usize = 3 * MOST_PAGE;
 
+// [4.7] Numbers of the items that are looked for: those of a page, and one that tells whether the page is the last.
+pub const SCRATCH_ITEMS: usize = 3 * (MOST_PAGE + 1);
+
 // Numbers of the nodes that a table is built into once more when it is tested.
 pub const SCRATCH_NODES: usize = 6 * MOST_CLAIMS;
 

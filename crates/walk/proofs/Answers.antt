@@ -1,13 +1,13 @@
 -- One law for each way through the questions. Assumes nothing.
-use Prim.Native.Nat.{ℕ, _*_, _<_, _≤_}
+use Prim.Native.Nat.{ℕ, _+_, _*_, _<_, _≤_}
 use mathlib.Core.Path.{_≡_, refl, sym, ap, subst, _∙_}
 use mathlib.Core.Bool.{Bool, true, false}
-use mathlib.Core.List.{List, [], _∷_}
+use mathlib.Core.List.{List, [], _∷_, _++_}
 use native.Mathlib.Omega.{arith}
-use lib.Dec.{ltb, leb}
+use lib.Dec.{leb}
 use lib.IntN.{ℤ}
-use lib.ListN.{length, getD, take, drop}
-use lib.Seq.{take-at}
+use lib.ListN.{length, getD, take, drop, length-take}
+use lib.Seq.{take-at, take-take, paste}
 use borrow.Author.Tests.{lt-ltb, le-ltb, eq-eqb, ne-eqb}
 use Rattle.paper.specs.declared.orders.Found.{Found as Answer}
 use Rattle.paper.specs.declared.orders.Found.the-variants.{Nothing, Item as AnItem}
@@ -20,7 +20,7 @@ use Rattle.paper.specs.declared.orders.Place.the-variants.{Start, After}
 use Rattle.paper.specs.declared.points.Measure.{Measure}
 use Rattle.paper.specs.declared.tables.Table.{Table}
 use Rattle.paper.specs.Points.{measureOf, greatestOf, Claim}
-use Rattle.paper.specs.Orders.{Item, Query, startMark, itemOf, listed, follows, snapshotOf, following, pageOf, lastOf, foundIn, firstOf, nearestOf, farthestOf, markHolds, flat, fronted}
+use Rattle.paper.specs.Orders.{Item, Query, startMark, itemOf, listed, follows, snapshotOf, following, pageOf, pagedOf, foundIn, firstOf, nearestOf, farthestOf, markHolds, flat, fronted}
 use Rattle.paper.specs.Tree.{Store, claimsFrom, claimsIn}
 use Rattle.paper.specs.Calls.{tableQuery}
 use Rattle.tree.specs.Soundness.{Good}
@@ -29,8 +29,9 @@ use Rattle.tree.proofs.PointsInMemory.{located-at, claims-length}
 use Rattle.walk_keep.specs.declared.Asked.{Asked}
 use Rattle.walk_keep.specs.Skips.{admitted}
 use Rattle.walk.specs.Walking.{distOf, distBy, InSight, PageAsk, AskFilled}
-use Rattle.walk.specs.Asking.{askedOf, Measurable, Answerable, Pageable, Markable, Fills, PageIs}
-use Rattle.orders.proofs.Rooms.{flat-length}
+use Rattle.walk.specs.Asking.{askedOf, Measurable, Answerable, Pageable, Markable, Fills, PageFound, PageIs}
+use Rattle.orders.proofs.Lists.{front-length}
+use Rattle.orders.proofs.Rooms.{flat-length, flat-front}
 use Rattle.orders.proofs.Sorted.{rest-start}
 use Rattle.walk.proofs.Bridge.{item-is, filled-page}
 
@@ -93,11 +94,44 @@ module _ (s : Store) (probe : List ℤ) (asks : Answerable s probe) (order : Ord
     pub fill-done : (o' : List ℕ) (r : ℕ) → FilledBy ask o o' r → Fills (Page place size) o o' r
     fill-done o' r f = done place size o o' r h (subst (λ (a : Asked). FilledBy a o o' r) is f)
 
--- a page is a filled front, and last where it is not full
-pub page-is : (q : Query) (cs : List Claim) (place : Place) (size : ℕ) (o o' : List ℕ) (r : ℕ) → Fills (pageOf q cs place size) o o' r
-    → PageIs q cs place size o o' (record { count = r; last = ltb r size })
-unfolding lastOf pageOf
-page-is q cs place size o o' r h = record { room = h .room; count = h .counts; last = ap (λ (x : ℕ). ltb x size) (h .counts) }
+-- ---- a page, found with one item more
+
+module _ (q : Query) (cs : List Claim) (place : Place) (size : ℕ) where
+  abbrev Rest : List Item
+  Rest = following q cs place
+
+  module _ (o o' : List ℕ) (r : ℕ) (h : Fills (pageOf q cs place (size + 1)) o o' r) where
+    -- the page is the front of what was looked for
+    front-is : (n : ℕ) → n ≡ length (take size Rest) → take (3 * n) o' ≡ flat (take size Rest)
+    unfolding pageOf fronted
+    front-is n e =
+        let few : n ≤ length (take (size + 1) Rest) = omega (arith, length-take size Rest, length-take (size + 1) Rest) in
+        ap (take (3 * n)) (h .room)
+        ∙ flat-front n (take (size + 1) Rest) _ few
+        ∙ ap flat (take-take n (size + 1) Rest (omega (arith, length-take size Rest)) ∙ rw e (sym (front-length (take size Rest) size Rest refl)))
+
+    pub page-found : (p : Paged) → ((l : List Item) → r ≡ length (take (size + 1) l) → p ≡ pagedOf size l) → PageFound q cs place size o' p
+    unfolding pageOf
+    page-found p counted =
+        let e : p ≡ pagedOf size Rest = counted Rest (h .counts) in
+        record { front = front-is (p .count) (ap (λ (x : Paged). x .count) e); count = ap (λ (x : Paged). x .count) e; last = ap (λ (x : Paged). x .last) e }
+
+  module _ (scratch : List ℕ) (r : Paged) (h : PageFound q cs place size scratch r) where
+    pub found-few : r .count ≤ size
+    unfolding pageOf
+    found-few = omega (arith, h .count, length-take size Rest)
+
+    -- copied to the front of the room
+    pub page-is : (o o' : List ℕ) → o' ≡ paste o 0 scratch (3 * r .count) → PageIs q cs place size o o' r
+    unfolding fronted
+    page-is o o' e =
+        let z : 0 + 3 * r .count ≡ 3 * r .count = omega arith in
+        record {
+          room = e ∙ ap (λ (n : ℕ). take (3 * r .count) scratch ++ drop n o) z
+              ∙ ap (λ (l : List ℕ). l ++ drop (3 * r .count) o) (h .front) ∙ ap (λ (n : ℕ). flat (pageOf q cs place size) ++ drop (3 * n) o) (h .count);
+          count = h .count;
+          last = h .last;
+        }
 
 -- ---- the first of the order: a front of one
 

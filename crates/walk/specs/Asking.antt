@@ -4,14 +4,14 @@ use mathlib.Core.Path.{_≡_}
 use mathlib.Core.Bool.{true, false}
 use mathlib.Core.List.{List}
 use lib.IntN.{ℤ}
-use lib.ListN.{length}
+use lib.ListN.{length, take}
 use Rattle.paper.specs.declared.orders.Order.{Order}
 use Rattle.paper.specs.declared.orders.Paged.{Paged}
 use Rattle.paper.specs.declared.orders.Place.{Place}
 use Rattle.paper.specs.declared.orders.Place.the-variants.{Start, After}
 use Rattle.paper.specs.declared.tables.Table.{Table}
 use Rattle.paper.specs.Points.{Claim}
-use Rattle.paper.specs.Orders.{Item, Query, startMark, snapshotOf, following, pageOf, lastOf, fronted}
+use Rattle.paper.specs.Orders.{Item, Query, startMark, snapshotOf, following, pageOf, lastOf, flat, fronted}
 use Rattle.paper.specs.Tree.{Store, apartIn}
 use Rattle.tree.specs.BuiltNodes.{Neartree, Located}
 use Rattle.walk_keep.specs.declared.Asked.{Asked}
@@ -71,6 +71,12 @@ pub record Markable (t : Table) (coordinates probe : List ℤ) (place : Place) :
 pub record Fills (items : List Item) (before after : List ℕ) (count : ℕ) : Type 0 where
   pub room : after ≡ fronted items before
   pub counts : count ≡ length items
+
+-- [4.6] [4.7] the page stands at the front of the scratch room, and count and last are the page's
+pub record PageFound (q : Query) (cs : List Claim) (place : Place) (size : ℕ) (after : List ℕ) (r : Paged) : Type 0 where
+  pub front : take (3 * r .count) after ≡ flat (pageOf q cs place size)
+  pub count : r .count ≡ length (pageOf q cs place size)
+  pub last : r .last ≡ lastOf size (following q cs place)
 
 -- [4.6] [4.7] [4.8] the page stands at the front of the room, what is behind it stays, and count and last are the page's
 pub record PageIs (q : Query) (cs : List Claim) (place : Place) (size : ℕ) (before after : List ℕ) (r : Paged) : Type 0 where

@@ -1,6 +1,6 @@
 // Nearest, farthest and page of a sound table, by the definitions in paper/specs.
 ghost use mathlib.Core.Path.{_≡_};
-ghost use Prim.Native.Nat.{ℕ};
+ghost use Prim.Native.Nat.{ℕ, _+_, _≤_};
 ghost use mathlib.Core.List.{List};
 ghost use Rattle.paper.specs.declared.orders.Order.{Order};
 ghost use Rattle.paper.specs.declared.orders.Order.the-variants.{Near, Far};
@@ -8,10 +8,12 @@ ghost use Rattle.paper.specs.Orders.{foundIn, listed, pageOf, firstOf, nearestO
 ghost use Rattle.paper.specs.Tree.{lent, claimsFrom, claimsIn};
 ghost use Rattle.paper.specs.declared.orders.Nearest.the-variants.{Answer};
 ghost use Rattle.paper.specs.Calls.{tableQuery, NothingJust};
+ghost use Rattle.paper.specs.Limits.{mostPage};
 ghost use Rattle.walk.specs.Walking.{RootBounded};
-ghost use Rattle.walk.specs.Asking.{askedOf, Answerable, Pageable, Markable, Fills, PageIs};
+ghost use Rattle.walk.specs.Asking.{askedOf, Answerable, Pageable, Markable, Fills, PageFound, PageIs};
 use super::walking::from_probe;
 use super::walking::page;
+use paper::limits::SCRATCH_ITEMS;
 use paper::orders::Found;
 use paper::orders::Mark;
 use paper::orders::Order;
@@ -19,7 +21,9 @@ use paper::orders::Paged;
 use paper::orders::Place;
 use paper::points::Measure;
 use paper::tables::Table;
+use rows::join;
 use walk_keep::Asked;
+use walk_keep::counted;
 
 // [4.4] [4.5] The question as the walk asks it.
 fn asked(t: Table, order: Order, reach: u64, place: Place, size: usize) -> Asked
@@ -76,7 +80,40 @@ pub fn fill(
     page(references, coordinates, nodes, probe, ask, room)
 }
 
-// [4.6] [4.7] A page: so many claims at the front of the room, and whether they are fewer than were asked for.
+// [4.6] [4.7] Looks for a page, and for one claim more: a walk skips branches without knowing whether they hold a claim, so only a claim
+// that it found tells that some follow the page. Where there is one, it stands behind the page in the scratch room.
+pub fn find_page(
+    t: Table,
+    references: &[u32],
+    coordinates: &[i32],
+    nodes: &[u64],
+    order: Order,
+    probe: &[i32],
+    reach: u64,
+    place: Place,
+    size: usize,
+    scratch: &mut [u64],
+) -> Paged
+    requires { ⌜ Answerable (lent t references coordinates nodes) (now probe) ⌝ }
+    requires { ⌜ Pageable t place (size + 1) (now scratch) ⌝ }
+    ensures { λ r. ⌜ PageFound (tableQuery t order (now (probe .entry)) reach) (claimsIn (lent t (references .entry) (coordinates .entry) (nodes .entry))) place size (now (scratch .exit)) r ⌝ }
+{
+    let count = fill(
+        t,
+        references,
+        coordinates,
+        nodes,
+        order,
+        probe,
+        reach,
+        place,
+        size + 1,
+        scratch,
+    );
+    counted(size, count)
+}
+
+// [4.6] [4.7] [4.8] A page: its claims at the front of the room, how many they are, and whether none follows them.
 pub fn page_of(
     t: Table,
     references: &[u32],
@@ -90,10 +127,12 @@ pub fn page_of(
     room: &mut [u64],
 ) -> Paged
     requires { ⌜ Answerable (lent t references coordinates nodes) (now probe) ⌝ }
+    requires { ⌜ size ≤ mostPage ⌝ }
     requires { ⌜ Pageable t place size (now room) ⌝ }
     ensures { λ r. ⌜ PageIs (tableQuery t order (now (probe .entry)) reach) (claimsIn (lent t (references .entry) (coordinates .entry) (nodes .entry))) place size (now (room .entry)) (now (room .exit)) r ⌝ }
 {
-    let count = fill(
+    let mut scratch = [0u64; SCRATCH_ITEMS];
+    let paged = find_page(
         t,
         references,
         coordinates,
@@ -103,12 +142,10 @@ pub fn page_of(
         reach,
         place,
         size,
-        room,
+        &mut scratch,
     );
-    Paged {
-        count,
-        last: count < size,
-    }
+    join(room, 0, &scratch, 3 * paged.count);
+    paged
 }
 
 // The first claim within reach, in the order.

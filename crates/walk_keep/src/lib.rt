@@ -1,13 +1,16 @@
-// The leaves of the walk: what a question admits, when a branch may be skipped, and keeping the first so many, in order, in the
-// front of the caller's room, three numbers an item: number, reference, distance.
+// The leaves of the walk: what a question admits, when a branch may be skipped, keeping the first so many, in order, in the front of
+// a room, three numbers an item (number, reference, distance), and what the number of items found tells of a page.
 ghost use mathlib.Core.Path.{_≡_};
 ghost use Prim.Native.Nat.{_+_, _*_, _<_, _≤_};
-ghost use lib.ListN.{length};
+ghost use lib.ListN.{length, take};
 ghost use mathlib.Core.Bool.{cond};
+ghost use mathlib.Core.List.{List};
+ghost use Rattle.paper.specs.Orders.{Item, pagedOf};
 ghost use Rattle.walk_keep.specs.Kept.{PageRoomy, PositionIs, shifted, heldAt, KeepIs};
 ghost use Rattle.walk_keep.specs.Skips.{admitted, boundOf, halfOf, beyondOf, passedOf};
 use paper::orders::Mark;
 use paper::orders::Order;
+use paper::orders::Paged;
 use rows::put_three;
 
 // A question to a table, as the walk asks it.
@@ -193,4 +196,21 @@ pub fn wanted(ask: Asked, room: &[u64], count: usize) -> u64
         };
     }
     order.rank(room[size * 3 - 1])
+}
+
+// [4.6] [4.7] A page of `size` items, where that many and one more were looked for and `found` are there: only the one more tells that some
+// follow the page.
+pub fn counted(size: usize, found: usize) -> Paged
+    ensures { λ r. ⌜ ((l : List Item) → found ≡ length (take (size + 1) l) → r ≡ pagedOf size l) ⌝ }
+{
+    if size < found {
+        return Paged {
+            count: size,
+            last: false,
+        };
+    }
+    Paged {
+        count: found,
+        last: true,
+    }
 }

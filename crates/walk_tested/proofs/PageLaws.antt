@@ -18,7 +18,7 @@ use Rattle.paper.specs.Outcomes.{Outcome, refused, gives, must, number, Promise
 use Rattle.paper.specs.Tree.{Store, claimsIn}
 use Rattle.paper.specs.Ends.{sizeHolds}
 use Rattle.paper.specs.Calls.{tableQuery, tableRefusal, ThePage, thePage, pageCall, pageShown, putPage}
-use Rattle.paper.proofs.Tests.{and-first}
+use Rattle.paper.proofs.Tests.{and-first, and-second}
 use Rattle.paper.proofs.Outcomes.{must-stop, must-go, number-0, number-is, promise-refused, promise-given}
 use Rattle.tree.proofs.PointsInMemory.{claims-length}
 use Rattle.walk.specs.Asking.{Answerable, Pageable, Markable, PageIs}
@@ -102,6 +102,9 @@ module _ (order : Order) (s : Store) (probe : List ℤ) (reach : ℕ) (place : P
             page-0 h = sym (ap number (past-8 ∙ must-go (leb (size * 3) room) 12 _ (le-leb (size * 3) room (omega arith))))
 
 -- ---- handed on
+
+pub page-few : (s : Store) (probe size : ℕ) → Askable s probe size → size ≤ mostPage
+page-few s probe size k = leb-true size mostPage (and-second (leb 1 size) (leb size mostPage) (k .size))
 
 -- the page itself, where the number says that nothing refuses it
 module _ (order : Order) (s : Store) (probe : List ℤ) (reach : ℕ) (place : Place) (size : ℕ) (room : List ℕ) where

@@ -92,7 +92,7 @@ impl Claims {
         (0..self.all.len()).map(|i| self.item(i, probe)).max_by_key(|item| (item.distance, Reverse(item.number)))
     }
 
-    /// What a page has, by its refusals 7 and 8.
+    /// What a page has, and whether none of the sorted claims stands behind it, by its refusals 7 and 8.
     pub fn page(&self, order: Order, probe: &[i32], reach: u64, place: Place, size: usize) -> Result<(Vec<Item>, bool), Refusal> {
         let (snapshot, mark) = match place {
             Place::Start => (self.all.len(), None),
@@ -106,9 +106,9 @@ impl Claims {
             None => 0,
             Some(mark) => 1 + all.iter().position(|item| item.mark() == mark).ok_or(Refusal::MarkNotHeld)?,
         };
-        let items: Vec<Item> = all[behind..].iter().copied().take(size).collect();
-        let last = items.len() < size;
-        Ok((items, last))
+        let mut left = all[behind..].iter().copied();
+        let items: Vec<Item> = left.by_ref().take(size).collect();
+        Ok((items, left.next().is_none()))
     }
 
     /// A place after some claim's mark, right or nearly so.

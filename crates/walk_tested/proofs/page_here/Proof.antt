@@ -1,6 +1,6 @@
 -- `walk_tested::page_here` meets its contract: refused before anything is written, or the walk's page. Assumes nothing.
 use Rattle.paper.specs.Tree.{store}
-use Rattle.walk_tested.proofs.PageLaws.{page-refuses, page-answerable, page-pageable, page-filled}
+use Rattle.walk_tested.proofs.PageLaws.{page-refuses, page-answerable, page-few, page-pageable, page-filled}
 use borrow.Author.Needs.{needs}
 use Rattle.walk_tested.proofs.page_here.Statement.{statement}
 use Rattle.walk_tested.proofs.page_here.Tie as tie
@@ -20,8 +20,13 @@ page-of-requires c κs =
     let place-refusal = c .before .before .place-refusal in
     let if1 = c .before .if1 in
     let a = args in
-    let s = store (a .t) (a .references .now) (a .coordinates .now) (a .nodes .now) in
-    (page-answerable (a .order) s (a .probe .now) (a .reach) (a .place) (a .size) (a .room .now) pre _ (place-refusal .ensures) (if1 .left), page-pageable (a .order) s (a .probe .now) (a .reach) (a .place) (a .size) (a .room .now) pre _ (place-refusal .ensures) (if1 .left))
+    let s = store (a .t) (a .references .now) (a .coordinates .now) (a .nodes .now) in (
+      page-answerable (a .order) s (a .probe .now) (a .reach) (a .place) (a .size) (a .room .now) pre _ (place-refusal .ensures) (if1 .left),
+      (
+        page-few s _ (a .size) pre,
+        page-pageable (a .order) s (a .probe .now) (a .reach) (a .place) (a .size) (a .room .now) pre _ (place-refusal .ensures) (if1 .left),
+      ),
+    )
 
 same-length : tie.Need-same-length
 same-length c = search needs

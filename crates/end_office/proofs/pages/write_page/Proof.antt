@@ -20,16 +20,16 @@ array-share-prefix-probe c =
     let long : 7 < length (c .before .before .before .before .before .args .q .probe) = search (needs, c .before .before .before .before .before .good .1 .1 .1 .1 .0) in
     omega (arith, c .before .before .before .before .before .pre .asking .ask .narrow)
 
-slice-aggregate-page-of : tie.Need-slice-aggregate-page-of
-slice-aggregate-page-of c =
+slice-aggregate-find-page : tie.Need-slice-aggregate-find-page
+slice-aggregate-find-page c =
     let long : 7 < length (c .before .before .before .before .before .before .args .q .probe) = search (needs, c .before .before .before .before .before .before .good .1 .1 .1 .1 .0) in
     sym (length-take-le _ (c .before .before .before .before .before .before .args .q .probe) (omega (arith, c .before .before .before .before .before .before .pre .asking .ask .narrow)))
 
-slice-aggregate-page-of-2 : tie.Need-slice-aggregate-page-of-2
-slice-aggregate-page-of-2 c = search needs
+slice-aggregate-find-page-2 : tie.Need-slice-aggregate-find-page-2
+slice-aggregate-find-page-2 c = search needs
 
-page-of-requires : tie.Need-page-of-requires
-page-of-requires c κs =
+find-page-requires : tie.Need-find-page-requires
+find-page-requires c κs =
     let a = c .before .before .before .before .before .before .before .args in
     let s = store (a .t) (a .references .now) (a .coordinates .now) (a .nodes .now) in
     let long : 7 < length (a .q .probe) = search (needs, c .before .before .before .before .before .before .before .good .1 .1 .1 .1 .0) in (
@@ -47,7 +47,7 @@ mul-n : tie.Need-mul-n
 mul-n c =
     let a = c .before .before .before .before .before .before .before .before .before .before .before .args in
     let s = store (a .t) (a .references .now) (a .coordinates .now) (a .nodes .now) in
-    let f = page-count s (a .q) (a .p) (a .size) _ (c .before .before .before .before .before .before .before .before .before .before .before .pre) _ _ _ _ (c .before .before .before .before .before .before .place-of .ensures) (c .before .before .before .page-of .ensures) in
+    let f = page-count s (a .q) (a .p) (a .size) _ (c .before .before .before .before .before .before .before .before .before .before .before .pre) _ _ _ (c .before .before .before .before .before .before .place-of .ensures) (c .before .before .before .find-page .ensures) in
     omega arith
 
 flag-requires : tie.Need-flag-requires
@@ -57,15 +57,15 @@ cast-write-answer : tie.Need-cast-write-answer
 cast-write-answer c =
     let a = c .before .before .before .before .before .before .before .before .before .before .before .before .args in
     let s = store (a .t) (a .references .now) (a .coordinates .now) (a .nodes .now) in
-    let f = page-count s (a .q) (a .p) (a .size) _ (c .before .before .before .before .before .before .before .before .before .before .before .before .pre) _ _ _ _ (c .before .before .before .before .before .before .before .place-of .ensures) (c .before .before .before .before .page-of .ensures) in
+    let f = page-count s (a .q) (a .p) (a .size) _ (c .before .before .before .before .before .before .before .before .before .before .before .before .pre) _ _ _ (c .before .before .before .before .before .before .before .place-of .ensures) (c .before .before .before .before .find-page .ensures) in
     omega arith
 
-array-share-prefix-room : tie.Need-array-share-prefix-room
-array-share-prefix-room c =
+array-share-prefix-scratch : tie.Need-array-share-prefix-scratch
+array-share-prefix-scratch c =
     let a = c .before .before .before .before .before .before .before .before .before .before .before .before .args in
     let s = store (a .t) (a .references .now) (a .coordinates .now) (a .nodes .now) in
-    let f = page-count s (a .q) (a .p) (a .size) _ (c .before .before .before .before .before .before .before .before .before .before .before .before .pre) _ _ _ _ (c .before .before .before .before .before .before .before .place-of .ensures) (c .before .before .before .before .page-of .ensures) in
-    let k = c .before .before .before .before .page-of .kept .1 .1 .1 .1 .1 .1 .1 .1 .1 .0 in
+    let f = page-count s (a .q) (a .p) (a .size) _ (c .before .before .before .before .before .before .before .before .before .before .before .before .pre) _ _ _ (c .before .before .before .before .before .before .before .place-of .ensures) (c .before .before .before .before .find-page .ensures) in
+    let k = c .before .before .before .before .find-page .kept .1 .1 .1 .1 .1 .1 .1 .1 .1 .0 in
     omega arith
 
 slice-aggregate-write-answer : tie.Need-slice-aggregate-write-answer
@@ -74,8 +74,8 @@ slice-aggregate-write-answer c =
     let s = store (a .t) (a .references .now) (a .coordinates .now) (a .nodes .now) in
     let f =
     page-count s (a .q) (a .p) (a .size) _ (c .before .before .before .before .before .before .before .before .before .before .before .before .before .pre)
-    _ _ _ _ (c .before .before .before .before .before .before .before .before .place-of .ensures) (c .before .before .before .before .before .page-of .ensures) in
-    let k = c .before .before .before .before .before .page-of .kept .1 .1 .1 .1 .1 .1 .1 .1 .1 .0 in
+    _ _ _ (c .before .before .before .before .before .before .before .before .place-of .ensures) (c .before .before .before .before .before .find-page .ensures) in
+    let k = c .before .before .before .before .before .find-page .kept .1 .1 .1 .1 .1 .1 .1 .1 .1 .0 in
     sym (length-take-le _ _ (omega arith))
 
 write-answer-requires : tie.Need-write-answer-requires
@@ -89,7 +89,7 @@ returns c =
     let a = c .before .before .before .before .before .before .before .before .before .before .before .before .before .before .before .before .before .args in
     let long : 7 < length (a .q .probe) = search (needs, c .before .before .before .before .before .before .before .before .before .before .before .before .before .before .before .before .before .good .1 .1 .1 .1 .0) in
     page-written (store (a .t) (a .references .now) (a .coordinates .now) (a .nodes .now)) (a .q) (a .p) (a .size) _ (c .before .before .before .before .before .before .before .before .before .before .before .before .before .before .before .before .before .pre)
-    _ _ _ _ (c .before .before .before .before .before .before .before .before .before .before .before .before .place-of .ensures) (c .before .before .before .before .before .before .before .before .before .page-of .ensures)
+    _ _ _ (c .before .before .before .before .before .before .before .before .before .before .before .before .place-of .ensures) (c .before .before .before .before .before .before .before .before .before .find-page .ensures)
     _ (c .before .before .before .before .before .before .answer-scope .ensures) _ (c .before .before .before .before .before .flag .ensures)
     _ refl (λ i. c .before .before .before .before .before .before .before .before .before .before .before .before .before .before .before .before .shared-slice-known .given i .fits) long
     _ _ _ (c .before .before .before .before .before .before .before .before .before .before .before .before .before .before .before .before .before .pre .asking .isOpen .room) (c .before .before .write-answer .ensures)
@@ -100,15 +100,15 @@ write-page-spec =
     (tie.spec
     place-of-requires
     array-share-prefix-probe
-    slice-aggregate-page-of
-    slice-aggregate-page-of-2
-    page-of-requires
+    slice-aggregate-find-page
+    slice-aggregate-find-page-2
+    find-page-requires
     cast-answer-scope
     answer-scope-requires
     mul-n
     flag-requires
     cast-write-answer
-    array-share-prefix-room
+    array-share-prefix-scratch
     slice-aggregate-write-answer
     write-answer-requires
     same-length
