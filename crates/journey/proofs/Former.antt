@@ -15,12 +15,12 @@ use Rattle.paper.proofs.Outcomes.{same-given}
 use Rattle.orders.specs.LawfulLines.{Lawful}
 use Rattle.journey.specs.World.{Unshared}
 use Rattle.journey.specs.Promise.{allOf, formerAnswerOf}
-use Rattle.journey.proofs.Kept.{ListTrue, after, Vouched, grown-same}
+use Rattle.journey.proofs.Kept.{ListTrue, after, Vouched, TableGrown, grown-same, vouched-grown}
 use Rattle.journey.proofs.Answers.{Replied, present-snapshot}
 use Rattle.journey.proofs.Growth.{MayAnswer, lacking}
 use Rattle.journey.proofs.Journey.{line-keeps}
 
--- the office that gave an answer by 4.7 to an ask would have given one by the former rule
+-- what an office gave by the former rule to an ask that it answered
 former-vouched : (t : Table) (a : Ask) → Replied t a (answerOf t a) → 1 ≤ a .size → Vouched t (formerAnswerOf t a)
 unfolding formerAnswerOf pageOf following
 former-vouched t a r one =
@@ -36,12 +36,13 @@ former-vouched t a r one =
     }
 
 module _ (c : Codec) (law : Lawful c) where
-  pub a-former-answer-keeps-a-list-true : (t : Table) (a : Ask) → Replied t a (answerOf t a) → 1 ≤ a .size → (s : List ℕ) → c .readAnswer s ≡ gives (formerAnswerOf t a)
-      → (room : ℕ) (L K : Listing) → taking c room L s ≡ gives K → ListTrue t L → ListTrue t K
+  -- table u is t or has grown from it
+  pub a-former-answer-keeps-a-list-true : (t u : Table) → TableGrown t u → (a : Ask) → Replied t a (answerOf t a) → 1 ≤ a .size
+      → (s : List ℕ) → c .readAnswer s ≡ gives (formerAnswerOf t a) → (room : ℕ) (L K : Listing) → taking c room L s ≡ gives K → ListTrue u L → ListTrue u K
   unfolding Unshared
-  a-former-answer-keeps-a-list-true t a r one s reads room L K e k =
-      line-keeps c law (λ x. ⊥) t room L K s (λ x f. absurd f) e
-      (λ y q. let is : formerAnswerOf t a ≡ y = same-given _ _ (sym reads ∙ q) in inl (rw (← is) (former-vouched t a r one))) k
+  a-former-answer-keeps-a-list-true t u g a r one s reads room L K e k =
+      line-keeps c law (λ x. ⊥) u room L K s (λ x f. absurd f) e
+      (λ y q. let is : formerAnswerOf t a ≡ y = same-given _ _ (sym reads ∙ q) in inl (rw (← is) (vouched-grown t u g _ (former-vouched t a r one)))) k
 
   -- of a true list that has started and lacks nothing: the answer to its next ask is empty, and completes it
   module _ (t : Table) (L : Listing) (size : ℕ) (r : MayAnswer t L size) (started : L .started ≡ true) (none : L .items ≡ allOf t L) where

@@ -122,7 +122,7 @@ module _ (t u : Table) (g : TableGrown t u) where
   pub exact-grown : (L : Listing) → ListExact t L → ListExact u L
   exact-grown L x = record { kept = kept-grown L (x .kept); missing = rw (grown-listed (L .query) (L .snapshot) (x .kept .held)) (x .missing) }
 
-  vouched-grown : (y : Answer) → Vouched t y → Vouched u y
+  pub vouched-grown : (y : Answer) → Vouched t y → Vouched u y
   vouched-grown y v =
       let e : listed (y .query) (u .claims) (y .snapshot) ≡ listed (y .query) (t .claims) (y .snapshot) =
       grown-listed (y .query) (y .snapshot) (v .held) in
