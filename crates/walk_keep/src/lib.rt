@@ -26,7 +26,7 @@ pub struct Asked {
     // Whether the mark applies.
     pub after: bool,
     pub mark: Mark,
-    // The page size.
+    // How many items are looked for.
     pub size: usize,
 }
 
