@@ -4,17 +4,19 @@ use Prim.Native.Nat.{ℕ, _<_, _≤_}
 use mathlib.Core.Path.{_≡_, ap}
 use mathlib.Core.Bool.{true}
 use mathlib.Core.List.{List, _∷_, map, List·Memᴰ, List·Memᴰ·head, List·Memᴰ·tail}
-use lib.ListN.{length}
+use lib.ListN.{length, take}
 use Rattle.paper.specs.declared.lists.List as lists
-use Rattle.paper.specs.Orders.{Query, itemOf, queryIn}
+use Rattle.paper.specs.Points.{Claim}
+use Rattle.paper.specs.Orders.{Item, Query, itemOf, listed, queryIn}
 use Rattle.paper.specs.Outcomes.{gives}
 use Rattle.paper.specs.Tree.{claimsIn}
 use Rattle.paper.specs.Ends.{tableOf}
 use Rattle.paper.specs.Lists.{Held, listing, openingHeld}
 use Rattle.paper.specs.Codec.{lines}
 use Rattle.orders.specs.LawfulLines.{Typed}
-use Rattle.orders.proofs.Lists.{all-mem}
-use Rattle.orders.proofs.Meaning.{listed-has}
+use Rattle.orders.proofs.Lists.{all-mem, all-take}
+use Rattle.orders.proofs.Sorted.{rising-take, IsOf, listed-are, listed-rising}
+use Rattle.orders.proofs.Meaning.{listed-has, listed-only}
 use Rattle.journey_lent.proofs.RealLines.{lawful}
 use Rattle.journey.specs.World.{Unshared}
 use Rattle.journey.specs.Promise.{allOf, MayAsk}
@@ -32,6 +34,15 @@ use Rattle.journey_lent.proofs.Queries.{query-kept}
 mem-map : {A B : Type 0} (f : A → B) (x : A) (l : List A) → List·Memᴰ x l → List·Memᴰ (f x) (map f l)
 mem-map f x (y ∷ l) (List·Memᴰ·head e) = List·Memᴰ·head (ap f e)
 mem-map f x (y ∷ l) (List·Memᴰ·tail m) = List·Memᴰ·tail (mem-map f x l m)
+
+-- a front of what is listed that has every claim is all of it
+front-with-all : (q : Query) (cs : List Claim) (s n : ℕ) (l : List Item) → l ≡ take n (listed q cs s)
+    → ((k : ℕ) → k < s → itemOf q cs k .distance ≤ q .reach → List·Memᴰ (itemOf q cs k) l) → l ≡ listed q cs s
+front-with-all q cs s n l e has =
+    listed-only q cs s l
+    (rw e (rising-take (q .order) n (listed q cs s) (listed-rising q cs s)))
+    (λ z m. all-mem (IsOf q cs s) z (take n (listed q cs s)) (all-take (IsOf q cs s) n (listed q cs s) (listed-are q cs s)) (rw e at m))
+    has
 
 module _ (w : LentWorld) (r : LentReachable w) where
   -- every list that is for the number of the world's table
@@ -67,6 +78,17 @@ module _ (w : LentWorld) (r : LentReachable w) where
     unfolding listing
     a-complete-list-has-every-claim c k below within =
         rw (complete-only-when-none-is-missing c) (listed-has (queryIn (h .list .query)) (claimsIn (w .store)) (h .list .snapshot) k below within)
+
+    -- [7.12] so one that has started and has every claim is complete
+    pub a-list-with-every-claim-is-complete : h .list .started ≡ true
+        → ((k : ℕ) → k < h .list .snapshot → itemOf (queryIn (h .list .query)) (claimsIn (w .store)) k .distance ≤ h .list .query .reach
+        → List·Memᴰ (itemOf (queryIn (h .list .query)) (claimsIn (w .store)) k) (listing h .items))
+        → h .list .complete ≡ true
+    unfolding listing
+    a-list-with-every-claim-is-complete started has =
+        complete-exactly-when-none-is-missing started .1
+        (front-with-all (queryIn (h .list .query)) (claimsIn (w .store)) (h .list .snapshot) (length (listing h .items)) (listing h .items)
+        (every-list-is-the-first-so-many .truthful .front) has)
 
   -- [7.13] the present ask of a list that is for the table is answered, wherever it reaches the office and finds room
   pub the-present-ask-is-answered : (v : LentWorld) → LentLater w v → (i size : ℕ) → i < length (w .lists)
