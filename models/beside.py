@@ -29,6 +29,11 @@ def codes(x, n, spread):
     return x, out
 
 
+def reference_of(k):
+    """Claim k's reference. The factor is odd, so no two claims of a table share one."""
+    return k * 2654435761 % 2**32
+
+
 def reach_of(x, other):
     return [0, NO_REACH, 2, 3, 4, 5000, other, other][pick(x, 8)]
 
@@ -55,11 +60,14 @@ class Table:
         self.measure, self.d, self.capacity, self.claims = measure, d, capacity, []
 
     def enter(self, run):
-        """Refusals 1, (2), 5, 3; the rooms are as many as the capacity, so 4 never comes."""
+        """Refusals 1, (2), 5, 17, 3; the rooms are as many as the capacity, so 4 never comes."""
         if not (1 <= self.measure <= 3 and 1 <= self.d <= 8 and 1 <= self.capacity <= 4096):
             return 1
         if any(len(point) != self.d for _, point in run):
             return 5
+        known, given = {reference for reference, _ in self.claims}, [reference for reference, _ in run]
+        if known & set(given) or len(set(given)) < len(given):
+            return 17
         if len(self.claims) + len(run) > self.capacity:
             return 3
         self.claims += run
@@ -177,7 +185,7 @@ class Tree:
 
 
 class Counts:
-    pages = far = refused = items = lasts = firsts = nothing = wrong = 0
+    claims = pages = far = refused = items = lasts = firsts = nothing = wrong = 0
 
 
 def drawn(table, probe, x):
@@ -231,8 +239,9 @@ def one_table(i, c):
     x, points = codes(20260000 + i * 7919, 384, spread)
     measure, d, n = 1 + i % 3, 1 + (i // 3) % 8, pick(x, 49)
     table = Table(measure, d, 48)
-    run = [(k % 11, [VALUES[code] for code in points[8 * k:8 * k + d]]) for k in range(n)]
-    assert table.enter(run) == 0
+    run = [(reference_of(k), [VALUES[code] for code in points[8 * k:8 * k + d]]) for k in range(n)]
+    assert table.enter(run) == 0 and len(table.claims) == n
+    c.claims += n
     tree = Tree(table)
     x = step(x)
     for _ in range(150):
@@ -247,6 +256,8 @@ def examples():
     """Examples a to j of crates/paper/specs/Examples.antt and those in far order of FarExamples.antt, so that the model itself is checked."""
     t = Table(1, 1, 1024)
     assert t.enter([(101 + i, [v]) for i, v in enumerate([2, 3, 9, 6, 5])]) == 0
+    assert t.enter([(103, [4])]) == 17 and t.enter([(106, [4]), (107, [4]), (106, [5])]) == 17 and len(t.claims) == 5
+    assert t.enter([(103, [4, 4])]) == 5 and Table(1, 1, 1).enter([(1, [4]), (1, [5])]) == 17 and t.enter([]) == 0
     tree = Tree(t)
     assert tree.root == [[0, 0, None], [1, 6, [[2, 0, None], [3, 1, [[4, 0, None]]]]]]
     assert [(i[0], i[2]) for i in t.page(False, [4], 5, None, 16, 16)[0]] == [(1, 1), (4, 1), (0, 2), (3, 2), (2, 5)]
@@ -271,6 +282,7 @@ def main():
     for i in range(96):
         one_table(i, c)
     for line in [
+        f"{c.claims} claims",
         f"{c.pages} pages, of them in far order {c.far}, refused for a mark beyond the reach {c.refused}",
         f"{c.items} items, {c.lasts} last pages",
         f"{c.firsts} nearest and farthest, of them nothing {c.nothing}",

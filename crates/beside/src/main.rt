@@ -1,5 +1,5 @@
 // Generated tables and questions beside a plain scan, which shares no code with the walk: its own distance, its own selection.
-// Prints how many pages were asked for, how many of them in far order and how many refused for their mark, how many items and last pages came, how many
+// Prints how many claims the tables have, how many pages were asked for, how many of them in far order and how many refused for their mark, how many items and last pages came, how many
 // nearest and farthest claims were asked for and how often there was none, and how many answers were not the scan's.
 mod checked;
 mod scan;
@@ -29,6 +29,7 @@ use walk::questions::page_of;
 
 // What was asked, and how much of it was not the scan's.
 struct Tally {
+    claims: u64,
     pages: u64,
     far: u64,
     refused: u64,
@@ -40,8 +41,24 @@ struct Tally {
 }
 
 impl Tally {
+    // A run that is refused would leave a table without claims, and every answer right.
+    fn table(self, claims: usize) -> Tally {
+        Tally {
+            claims: wrapping_add_u64(self.claims, claims as u64),
+            pages: self.pages,
+            far: self.far,
+            refused: self.refused,
+            items: self.items,
+            lasts: self.lasts,
+            firsts: self.firsts,
+            nothing: self.nothing,
+            wrong: self.wrong,
+        }
+    }
+
     fn page(self, far: bool, refused: bool, items: usize, last: bool, right: bool) -> Tally {
         Tally {
+            claims: self.claims,
             pages: wrapping_add_u64(self.pages, 1),
             far: wrapping_add_u64(self.far, far as u64),
             refused: wrapping_add_u64(self.refused, refused as u64),
@@ -55,6 +72,7 @@ impl Tally {
 
     fn first(self, nothing: bool, right: bool) -> Tally {
         Tally {
+            claims: self.claims,
             pages: self.pages,
             far: self.far,
             refused: self.refused,
@@ -380,6 +398,7 @@ fn number(x: u64, end: &[u8]) {
 }
 
 fn show(t: Tally) {
+    number(t.claims, b" claims\n");
     number(t.pages, b" pages, of them in far order ");
     number(t.far, b", refused for a mark beyond the reach ");
     number(t.refused, b"\n");
@@ -418,12 +437,13 @@ fn one_table(i: u64, seed: u64, tally: Tally) -> Tally {
         &points,
         spread,
         next(x),
-        tally,
+        tally.table(t.count),
     )
 }
 
 fn main() {
     let mut sum = Tally {
+        claims: 0,
         pages: 0,
         far: 0,
         refused: 0,

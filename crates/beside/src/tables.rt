@@ -65,9 +65,9 @@ pub fn pick(x: u64, n: u64) -> u64
     x / 65536 % n
 }
 
-// Claim k's reference: several claims share one.
+// Claim k's reference: no other claim has it, and it is not the claim's number.
 pub fn reference(k: u64) -> u32 {
-    (k % 11) as u32
+    (k % 4294967296 * 2654435761 % 4294967296) as u32
 }
 
 // Fills a run of codes below `spread`.

@@ -9,6 +9,7 @@ use lib.ListN.{length, length-append, length-set}
 use lib.Dec.{leb, eqb}
 use borrow.Author.Tests.{leb-true, eqb-true, not-true}
 use Rattle.paper.specs.Points.{Claim}
+use Rattle.paper.specs.References.{referencesOf, inForce, anew}
 use Rattle.paper.specs.Orders.{Query}
 use Rattle.paper.specs.Points.{inRange}
 use Rattle.paper.specs.Outcomes.{Outcome, refused, gives}
@@ -33,9 +34,10 @@ was-entered : (t : Table) (run : List Claim) (u : Table) → runEntering t run �
 unfolding runEntering
 was-entered t run u e =
     let e1 = must-rest (every (λ k. eqb (length (k .point)) (t .d)) run) 5 _ _ e in
+    let e2 = must-rest (anew (inForce (t .claims)) (referencesOf run)) 17 _ _ e1 in
     record {
-      roomy = leb-true _ _ (must-test (leb (count t + length run) (t .capacity)) 3 _ _ e1);
-      is = sym (same-given _ _ (must-rest (leb (count t + length run) (t .capacity)) 3 _ _ e1));
+      roomy = leb-true _ _ (must-test (leb (count t + length run) (t .capacity)) 3 _ _ e2);
+      is = sym (same-given _ _ (must-rest (leb (count t + length run) (t .capacity)) 3 _ _ e2));
     }
 
 -- a table that enters a run only grows

@@ -6,6 +6,7 @@ use mathlib.Core.List.{List, [], _∷_, _++_, List·Memᴰ}
 use lib.Dec.{leb, eqb}
 use lib.ListN.{length, getD, set}
 use Rattle.paper.specs.Points.{Claim}
+use Rattle.paper.specs.References.{referencesOf, inForce, anew}
 use Rattle.paper.specs.Orders.{Query, queryIn}
 use Rattle.paper.specs.Lines.{noQuery}
 use Rattle.paper.specs.Outcomes.{Outcome, refused, gives, must}
@@ -39,12 +40,13 @@ noListing = fresh (queryIn noQuery)
 abbrev pub theList : World → ℕ → Listing
 theList w i = getD (w .lists) i noListing
 
--- [9.6] [3.15] all claims of a run, or none, by 5 and 3: what 1, 2 and 4 are about is memory, which a world has none of
+-- [9.6] [3.15] all claims of a run, or none, by 5, 17 and 3: what 1, 2 and 4 are about is memory, which a world has none of
 unfoldable pub runEntering : Table → List Claim → Outcome Table
 runEntering t run =
     must (every (λ k. eqb (length (k .point)) (t .d)) run) 5
+    (must (anew (inForce (t .claims)) (referencesOf run)) 17
     (must (leb (count t + length run) (t .capacity)) 3
-    (gives (record { number = t .number; measure = t .measure; d = t .d; capacity = t .capacity; claims = t .claims ++ run })))
+    (gives (record { number = t .number; measure = t .measure; d = t .d; capacity = t .capacity; claims = t .claims ++ run }))))
 
 -- [9.2] a refusal changes nothing
 abbrev pub tableChanged : World → Outcome Table → World

@@ -4,27 +4,28 @@ use mathlib.Core.Path.{_≡_, refl, sym, ap, _∙_}
 use mathlib.Core.Bool.{Bool, true, false}
 use mathlib.Core.List.{List, [], _∷_, _++_}
 use native.Mathlib.Omega.{arith}
-use native.Mathlib.Nat.{zero-mul, suc-mul, mul-suc}
+use native.Mathlib.Nat.{le-refl, zero-mul, suc-mul, mul-suc}
 use lib.IntN.{ℤ}
 use lib.ListN.{length, getD, take, drop, length-append}
-use lib.Seq.{take-at, drop-append-add}
+use lib.Seq.{take-at, take-length, drop-append-add}
 use lib.Dec.{leb, eqb}
-use borrow.Author.Tests.{leb-true, leb-false, le-leb, lt-leb, eq-eqb, eqb-true}
+use borrow.Author.Tests.{leb-true, le-leb, eq-eqb, eqb-true}
 use Rattle.paper.specs.Points.{Claim, point}
-use Rattle.paper.specs.Outcomes.{Outcome, refused, gives, onto, number}
-use Rattle.paper.specs.Tree.{Store, fits, sound, claimsFrom}
+use Rattle.paper.specs.Outcomes.{Outcome, refused, gives, must, onto, number}
+use Rattle.paper.specs.Tree.{Store, fits, sound, claimsFrom, claimsIn}
+use Rattle.paper.specs.References.{referencesOf, inForce, anew}
 use Rattle.paper.specs.Runs.{addedRun, enterCall}
-use Rattle.paper.specs.Ends.{count, tableOf, every}
+use Rattle.paper.specs.Ends.{Table, count, tableOf, every}
 use Rattle.paper.proofs.Outcomes.{must-go, must-stop}
 use Rattle.orders.proofs.Lists.{All, all-append, all-map, every-true, every-all}
 use Rattle.tree.specs.Soundness.{Good, Roomy}
 use Rattle.tree.proofs.PointsInMemory.{claims-length}
 use Rattle.tree.proofs.TestedTables.{fits-fit, fit-fits, sound-good, good-sound}
 use Rattle.tree.proofs.Adding.{in-run, HeaderKept, run-claims, run-kept}
-use Rattle.tree.proofs.ClaimsInMemory.{point-length}
-use Rattle.tree.proofs.RunLaws.{enters-gives, zero-enters}
+use Rattle.tree.proofs.ClaimsInMemory.{references-are, point-length}
+use Rattle.tree.proofs.RunLaws.{Enters, enters-gives, zero-enters}
 use Rattle.journey.specs.World.{runEntering}
-use Rattle.journey_lent.specs.EnteredRuns.{runOf, referencesOf, pointsOf, callEnters}
+use Rattle.journey_lent.specs.EnteredRuns.{runOf, pointsOf, callEnters}
 
 -- ---- what the call enters, a world enters
 
@@ -51,45 +52,72 @@ module _ (s : Store) (given : List ℕ) (points : List ℤ) where
         claims-length (s .table .d) (length given) given points,
       )
 
-  -- a run for which there is room
-  enters : Good s → length points ≡ s .table .d * length given → s .table .count + length given ≤ s .table .capacity
-      → runEntering (tableOf s) (runOf s given points) ≡ callEnters s given points
-  unfolding runEntering callEnters
-  enters g whole free =
-      let r : Roomy s (length given) = record { good = g; free = free } in
-      let k : HeaderKept (s .table) (addedRun given points (length given) s .table) (length given) = run-kept s given points (length given) r whole in
-      let c = run-claims s given points (length given) r whole in
+  -- the run's references
+  run-references : referencesOf (runOf s given points) ≡ given
+  run-references = references-are (s .table .d) (length given) given points (le-refl (length given)) ∙ take-length given
+
+  -- the table with the run's claims behind its own
+  abbrev entered : Table
+  entered =
+      record {
+        number = s .table .number;
+        measure = s .table .measure;
+        d = s .table .d;
+        capacity = s .table .capacity;
+        claims = claimsIn s ++ runOf s given points;
+      }
+
+  -- what a world tests of a whole run is what the call tests
+  world-tests : length points ≡ s .table .d * length given
+      → runEntering (tableOf s) (runOf s given points)
+      ≡ must (anew (inForce (claimsIn s)) given) 17 (must (leb (s .table .count + length given) (s .table .capacity)) 3 (gives entered))
+  unfolding runEntering
+  world-tests whole =
       must-go _ 5 _ (run-whole whole)
-      ∙ must-go _ 3 _ (le-leb _ (s .table .capacity) (omega (arith, run-count)))
+      ∙ ap (λ (l : List ℕ). must (anew (inForce (claimsIn s)) l) 17 (must (leb (count (tableOf s) + length (runOf s given points)) (s .table .capacity)) 3 (gives entered))) run-references
+      ∙ ap (λ (n : ℕ). must (anew (inForce (claimsIn s)) given) 17 (must (leb n (s .table .capacity)) 3 (gives entered))) run-count
+
+  -- a run that nothing refuses
+  enters : Enters s given points → runEntering (tableOf s) (runOf s given points) ≡ callEnters s given points
+  unfolding callEnters
+  enters h =
+      let r : Roomy s (length given) = record { good = h .good; free = h .free } in
+      let k : HeaderKept (s .table) (addedRun given points (length given) s .table) (length given) = run-kept s given points (length given) r (h .whole) in
+      let c = run-claims s given points (length given) r (h .whole) in
+      world-tests (h .whole)
+      ∙ must-go _ 17 _ (h .new)
+      ∙ must-go _ 3 _ (le-leb _ (s .table .capacity) (h .free))
       ∙ (λ i. gives (record { number = sym (k .number) i; measure = sym (k .measure) i; d = sym (k .d) i; capacity = sym (k .capacity) i; claims = sym c i }))
-      ∙ ap (λ (o : Outcome Store). onto o (λ x. gives (tableOf x))) (sym (enters-gives s given points g whole free))
+      ∙ ap (λ (o : Outcome Store). onto o (λ x. gives (tableOf x))) (sym (enters-gives s given points h))
 
-  -- and one for which there is none
-  enters-3 : Good s → length points ≡ s .table .d * length given → s .table .capacity < s .table .count + length given
-      → enterCall s given points ≡ refused 3
-  unfolding enterCall
-  enters-3 g whole full =
-      rw (
-        fit-fits s (g .fit),
-        good-sound s g,
-        eq-eqb (length points) (s .table .d * length given) whole,
-        lt-leb (s .table .count + length given) (s .table .capacity) full,
-      )
-
-  refuses : Good s → length points ≡ s .table .d * length given → s .table .capacity < s .table .count + length given
+  -- one with a reference that is not new, and one for which there is no room
+  refused-17 : Good s → length points ≡ s .table .d * length given → anew (inForce (claimsIn s)) given ≡ false
       → runEntering (tableOf s) (runOf s given points) ≡ callEnters s given points
-  unfolding runEntering callEnters
-  refuses g whole full =
-      must-go _ 5 _ (run-whole whole)
-      ∙ must-stop _ 3 _ (lt-leb _ (s .table .capacity) (omega (arith, run-count)))
-      ∙ ap (λ (o : Outcome Store). onto o (λ x. gives (tableOf x))) (sym (enters-3 g whole full))
+  unfolding callEnters enterCall
+  refused-17 g whole old =
+      world-tests whole
+      ∙ must-stop _ 17 _ old
+      ∙ rw (fit-fits s (g .fit), good-sound s g, eq-eqb (length points) (s .table .d * length given) whole, old)
+
+  refused-3 : Good s → length points ≡ s .table .d * length given → anew (inForce (claimsIn s)) given ≡ true
+      → leb (s .table .count + length given) (s .table .capacity) ≡ false
+      → runEntering (tableOf s) (runOf s given points) ≡ callEnters s given points
+  unfolding callEnters enterCall
+  refused-3 g whole new full =
+      world-tests whole
+      ∙ must-go _ 17 _ new
+      ∙ must-stop _ 3 _ full
+      ∙ rw (fit-fits s (g .fit), good-sound s g, eq-eqb (length points) (s .table .d * length given) whole, new, full)
 
   good-alike : Good s → length points ≡ s .table .d * length given → runEntering (tableOf s) (runOf s given points) ≡ callEnters s given points
-  good-alike g whole = go (leb (s .table .count + length given) (s .table .capacity)) refl
+  good-alike g whole = go (anew (inForce (claimsIn s)) given) (leb (s .table .count + length given) (s .table .capacity)) refl refl
     where
-      go : (b : Bool) → leb (s .table .count + length given) (s .table .capacity) ≡ b → runEntering (tableOf s) (runOf s given points) ≡ callEnters s given points
-      go true e = enters g whole (leb-true (s .table .count + length given) (s .table .capacity) e)
-      go false e = refuses g whole (leb-false (s .table .count + length given) (s .table .capacity) e)
+      go : (n f : Bool) → anew (inForce (claimsIn s)) given ≡ n → leb (s .table .count + length given) (s .table .capacity) ≡ f
+          → runEntering (tableOf s) (runOf s given points) ≡ callEnters s given points
+      go true true n f =
+          enters (record { good = g; whole = whole; new = n; free = leb-true (s .table .count + length given) (s .table .capacity) f })
+      go true false n f = refused-3 g whole n f
+      go false b n f = refused-17 g whole n
 
   -- what the call enters, a world enters: the table in lent memory is then the world's next table
   pub the-world-enters-what-the-call-enters : (x : Store) → enterCall s given points ≡ gives x
@@ -99,7 +127,7 @@ module _ (s : Store) (given : List ℕ) (points : List ℤ) where
       let h = zero-enters s given points (ap number e) in
       good-alike (h .good) (h .whole) ∙ ap (λ (o : Outcome Store). onto o (λ y. gives (tableOf y))) e
 
-  -- on a table that fits and is sound, with d coordinates for each reference, the two are one: where the call refuses, with 3, so does the world
+  -- on a table that fits and is sound, with d coordinates for each reference, the two are one: where the call refuses, with 17 or 3, so does the world
   module _ (fit : fits s ≡ true) (well : sound s ≡ true) (whole : length points ≡ s .table .d * length given) where
     pub the-world-enters-as-the-call-does : runEntering (tableOf s) (runOf s given points) ≡ callEnters s given points
     the-world-enters-as-the-call-does = good-alike (sound-good s (fits-fit s fit) well) whole

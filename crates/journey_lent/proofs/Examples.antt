@@ -11,6 +11,7 @@ use Rattle.paper.specs.declared.orders.Order.{Order}
 use Rattle.paper.specs.Points.{measureOf, weigh, joined, distance, point, inRange}
 use Rattle.paper.specs.Orders.{Item, Query, insert, itemOf, listed, lastOf}
 use Rattle.paper.specs.Tree.{newNode, enteredFrom, entered, built, claimsFrom, claimsIn, fits, sameFront, afresh, sound}
+use Rattle.paper.specs.References.{referencesOf, isAmong, anew}
 use Rattle.paper.specs.Runs.{added, addedRun, enterCall}
 use Rattle.paper.specs.Ends.{tableOf, matches, opening}
 use Rattle.paper.specs.Fields.{inSlots, queryInSlots}
@@ -43,12 +44,12 @@ module _ (order : Order) where
       (happens (enters (5 ∷ []) (pos 3 ∷ [])) run-typed)) (happens (opens (around order) (replicate 3 9)) around-typed)
 
   may : MayAsk (tableOf (opened order .store)) (theListing (opened order) 0) 1
-  unfolding nextLent enterCall fits inRange sound afresh built sameFront addedRun added openingHeld opening openedAs matches entered newNode enteredFrom listing
+  unfolding nextLent enterCall anew isAmong referencesOf claimsFrom fits inRange sound afresh built sameFront addedRun added openingHeld opening openedAs matches entered newNode enteredFrom listing
       queryInSlots inSlots
   may = record { ours = refl; unfinished = refl; one = omega arith; most = omega arith }
 
   here : 0 < length (opened order .lists)
-  unfolding nextLent enterCall fits inRange sound afresh built sameFront addedRun added openingHeld opening
+  unfolding nextLent enterCall anew isAmong referencesOf claimsFrom fits inRange sound afresh built sameFront addedRun added openingHeld opening
   here = omega arith
 
   grows : GrowsHeld (opened order) (opened order) (opened order) 0 1
@@ -61,8 +62,8 @@ module _ (order : Order) where
   ended q n = lastOf 1 (drop (length (theListing (opened order) 0 .items)) (listed q (claimsIn (opened order .store)) n))
 
   pub lives : Lives order
-  unfolding nextLent enterCall fits inRange sound afresh built sameFront addedRun added openingHeld opening openedAs entered newNode enteredFrom listing itemsIn
-      queryInSlots inSlots listed itemOf insert measureOf weigh joined distance claimsFrom point lastOf
+  unfolding nextLent enterCall anew isAmong referencesOf claimsFrom fits inRange sound afresh built sameFront addedRun added openingHeld opening openedAs entered newNode enteredFrom listing itemsIn
+      queryInSlots inSlots listed itemOf insert measureOf weigh joined distance point lastOf
   lives =
       record {
         reached = reached;

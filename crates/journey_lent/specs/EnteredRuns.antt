@@ -13,11 +13,7 @@ use Rattle.paper.specs.Ends.{Table, tableOf}
 abbrev pub runOf : Store → List ℕ → List ℤ → List Claim
 runOf s given points = claimsFrom (s .table .d) (length given) given points
 
--- the references and the coordinates of a run, one after another
-unfoldable pub referencesOf : List Claim → List ℕ
-referencesOf [] = []
-referencesOf (c ∷ run) = c .reference ∷ referencesOf run
-
+-- the coordinates of a run's claims, one after another
 unfoldable pub pointsOf : List Claim → List ℤ
 pointsOf [] = []
 pointsOf (c ∷ run) = c .point ++ pointsOf run

@@ -6,18 +6,20 @@ use mathlib.Core.List.{List}
 use native.Mathlib.Omega.{arith}
 use lib.Dec.{leb, eqb}
 use lib.IntN.{ℤ}
-use lib.ListN.{length}
+use lib.ListN.{length, take}
 use borrow.Author.Tests.{le-leb, lt-leb, not-true, not-false}
 use Rattle.paper.specs.declared.tables.Table.{Table}
 use Rattle.paper.specs.declared.tables.Made.{Made}
 use Rattle.paper.specs.declared.tables.Entered.{Entered}
 use Rattle.paper.specs.Outcomes.{Outcome, gives, must, number, Promise}
-use Rattle.paper.specs.Tree.{Store, store, memory, fits}
+use Rattle.paper.specs.Tree.{Store, store, memory, claimsIn, fits}
+use Rattle.paper.specs.References.{inForce, anew}
 use Rattle.paper.specs.Runs.{makeCall, madeShown, addedRun, enterCall, enteredShown, putStore}
 use Rattle.paper.specs.Calls.{tableRefusal}
 use Rattle.paper.proofs.Outcomes.{must-stop, must-go, number-is, promise-refused, promise-given}
 use Rattle.tree.specs.Soundness.{Good}
 use Rattle.tree.proofs.TestedTables.{good-used}
+use Rattle.tree.proofs.ClaimsInMemory.{references-are}
 use Rattle.tree.proofs.RunLaws.{zero-enters, enters-gives}
 use Rattle.walk_tested.proofs.TableLaws.{fit-stops, fit-goes, table-refused, table-good, table-goes}
 
@@ -45,8 +47,11 @@ module _ (s : Store) (given : List ℕ) (points : List ℤ) where
   abbrev from-3 : Outcome Store
   from-3 = must (leb (s .table .count + length given) (s .table .capacity)) 3 from-4
 
+  abbrev from-17 : Outcome Store
+  from-17 = must (anew (inForce (claimsIn s)) given) 17 from-3
+
   abbrev from-5 : Outcome Store
-  from-5 = must (eqb (length points) (s .table .d * length given)) 5 from-3
+  from-5 = must (eqb (length points) (s .table .d * length given)) 5 from-17
 
   module _ (n : ℕ) (we : n ≡ tableRefusal s) where
     pub run-refused : (n ≡ 0 → ⊥) → n ≡ number call
@@ -63,6 +68,9 @@ module _ (s : Store) (given : List ℕ) (points : List ℤ) where
       pub run-count : s .table .count ≤ s .table .capacity
       run-count = good .count
 
+      pub run-stored : s .table .count ≤ length (s .references)
+      run-stored = omega (arith, good .count, good .fit .references)
+
       pub run-used : s .table .used ≤ s .table .capacity
       run-used = omega (arith, good .count, good-used s good)
 
@@ -72,32 +80,44 @@ module _ (s : Store) (given : List ℕ) (points : List ℤ) where
         past-2 = table-goes s n we ok from-5
 
         pub run-5 : not w ≡ true → 5 ≡ number call
-        run-5 h = sym (ap number (past-2 ∙ must-stop (eqb (length points) (s .table .d * length given)) 5 from-3 (sym we' ∙ not-true w h)))
+        run-5 h = sym (ap number (past-2 ∙ must-stop (eqb (length points) (s .table .d * length given)) 5 from-17 (sym we' ∙ not-true w h)))
 
-        module _ (hw : not w ≡ false) where
-          past-5 : call ≡ from-3
-          past-5 = past-2 ∙ must-go (eqb (length points) (s .table .d * length given)) 5 from-3 (sym we' ∙ not-false w hw)
+        module _ (hw : not w ≡ false) (a : Bool) (ae : a ≡ anew (take (s .table .count) (s .references)) given) where
+          past-5 : call ≡ from-17
+          past-5 = past-2 ∙ must-go (eqb (length points) (s .table .d * length given)) 5 from-17 (sym we' ∙ not-false w hw)
 
-          pub run-3 : s .table .capacity - s .table .count < length given → 3 ≡ number call
-          run-3 h =
-              sym (ap number (past-5 ∙ must-stop (leb (s .table .count + length given) (s .table .capacity)) 3 from-4
-              (lt-leb (s .table .count + length given) (s .table .capacity) (omega (arith, run-count)))))
+          -- what was looked at is what is in force
+          tested : anew (inForce (claimsIn s)) given ≡ a
+          tested =
+              ap (λ (l : List ℕ). anew l given) (references-are (s .table .d) (s .table .count) (s .references) (s .coordinates) run-stored) ∙ sym ae
 
-          module _ (room : length given ≤ s .table .capacity - s .table .count) where
-            past-3 : call ≡ from-4
-            past-3 =
-                past-5 ∙ must-go (leb (s .table .count + length given) (s .table .capacity)) 3 from-4
-                (le-leb (s .table .count + length given) (s .table .capacity) (omega (arith, run-count)))
+          pub run-17 : not a ≡ true → 17 ≡ number call
+          run-17 h = sym (ap number (past-5 ∙ must-stop (anew (inForce (claimsIn s)) given) 17 from-3 (tested ∙ not-true a h)))
 
-            pub run-4 : s .table .capacity - s .table .used < length given → 4 ≡ number call
-            run-4 h =
-                sym (ap number (past-3 ∙ must-stop (leb (s .table .used + length given) (s .table .capacity)) 4 _
-                (lt-leb (s .table .used + length given) (s .table .capacity) (omega (arith, run-used)))))
+          module _ (ha : not a ≡ false) where
+            past-17 : call ≡ from-3
+            past-17 = past-5 ∙ must-go (anew (inForce (claimsIn s)) given) 17 from-3 (tested ∙ not-false a ha)
 
-            pub run-0 : length given ≤ s .table .capacity - s .table .used → 0 ≡ number call
-            run-0 h =
-                sym (ap number (past-3 ∙ must-go (leb (s .table .used + length given) (s .table .capacity)) 4 _
-                (le-leb (s .table .used + length given) (s .table .capacity) (omega (arith, run-used)))))
+            pub run-3 : s .table .capacity - s .table .count < length given → 3 ≡ number call
+            run-3 h =
+                sym (ap number (past-17 ∙ must-stop (leb (s .table .count + length given) (s .table .capacity)) 3 from-4
+                (lt-leb (s .table .count + length given) (s .table .capacity) (omega (arith, run-count)))))
+
+            module _ (room : length given ≤ s .table .capacity - s .table .count) where
+              past-3 : call ≡ from-4
+              past-3 =
+                  past-17 ∙ must-go (leb (s .table .count + length given) (s .table .capacity)) 3 from-4
+                  (le-leb (s .table .count + length given) (s .table .capacity) (omega (arith, run-count)))
+
+              pub run-4 : s .table .capacity - s .table .used < length given → 4 ≡ number call
+              run-4 h =
+                  sym (ap number (past-3 ∙ must-stop (leb (s .table .used + length given) (s .table .capacity)) 4 _
+                  (lt-leb (s .table .used + length given) (s .table .capacity) (omega (arith, run-used)))))
+
+              pub run-0 : length given ≤ s .table .capacity - s .table .used → 0 ≡ number call
+              run-0 h =
+                  sym (ap number (past-3 ∙ must-go (leb (s .table .used + length given) (s .table .capacity)) 4 _
+                  (le-leb (s .table .used + length given) (s .table .capacity) (omega (arith, run-used)))))
 
   -- refused, or entered
   module _ (why : ℕ) (we : why ≡ number call) where
@@ -110,6 +130,6 @@ module _ (s : Store) (given : List ℕ) (points : List ℤ) where
     enter-done z t r l m e =
         let x = zero-enters s given points (sym we ∙ z) in
         promise-given enteredShown putStore call _ (addedRun given points (length given) s) (Entered.Table t) (memory r l m)
-        (enters-gives s given points (x .good) (x .whole) (x .free))
+        (enters-gives s given points x)
         (ap (λ (y : Store). Entered.Table (y .table)) e)
         (ap (λ (y : Store). memory (y .references) (y .coordinates) (y .nodes)) e)

@@ -11,6 +11,7 @@ use paper::tables::Table;
 use tree::runs::add_run;
 use tree::soundness::is_fit;
 use tree::soundness::is_sound;
+use tree_repeats::runs::are_new;
 
 // [9.4] [3.16] Refusal 1. The header alone is made: the lent memory keeps what it holds.
 pub fn make_table(
@@ -69,6 +70,9 @@ fn run_refusal(
     if !is_whole(t.d, given.len(), points.len()) {
         return 5;
     }
+    if !are_new(references, t.count, given) {
+        return 17;
+    }
     if t.capacity - t.count < given.len() {
         return 3;
     }
@@ -78,7 +82,7 @@ fn run_refusal(
     0
 }
 
-// [9.6] [3.15] Refusals 1, 2, 5, 3, 4. All claims of the run are entered, or none.
+// [9.6] [3.15] Refusals 1, 2, 5, 17, 3, 4. All claims of the run are entered, or none.
 pub fn enter(
     t: Table,
     references: &mut [u32],

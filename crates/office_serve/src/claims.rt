@@ -8,6 +8,7 @@ use super::refusing::refuse;
 use checks::is_ours;
 use paper::lines::ClaimLine;
 use paper::tables::Table;
+use tree_repeats::one::is_known;
 
 // What a line leads to: the table after it, and where what was said ends.
 pub struct Step {
@@ -48,6 +49,10 @@ pub fn take_claim(
     let header = header_for(t, c);
     if !is_ours(header, c.table, c.measure, c.d as usize) {
         let end = refuse(out, at, 11);
+        return Step { table: t, at: end };
+    }
+    if is_known(references, header.count, c.reference) {
+        let end = refuse(out, at, 17);
         return Step { table: t, at: end };
     }
     if header.capacity <= header.count {

@@ -3,6 +3,7 @@ use mathlib.Core.Path.{refl}
 use Rattle.paper.specs.Points.{measureOf, weigh, joined, distance, greatestOf, inRange, point}
 use Rattle.paper.specs.Orders.{rank, before, insert, itemOf, listed, follows, rest, following, pageOf, lastOf, firstOf, nearestOf, farthestOf, snapshotHolds, markHolds, flat}
 use Rattle.paper.specs.Tree.{cleared, newNode, nearSide, raise, enteredFrom, entered, built, apart, claimsFrom, fits, sameFront, afresh, sound}
+use Rattle.paper.specs.References.{referencesOf, isAmong, anew}
 use Rattle.paper.specs.Runs.{makeCall, added, addedRun, enterCall}
 use Rattle.paper.specs.Frames.{be, num, glyph, digit, hexes, lineOf, frameOf, pairsEnded}
 use Rattle.paper.specs.Frames as Frames
@@ -40,8 +41,8 @@ making-marked =
 -- ---- entering
 
 pub entering-marked : EnteringMarked
-unfolding measureOf weigh joined distance inRange point cleared newNode nearSide raise enteredFrom entered built apart fits sameFront afresh sound
-    added addedRun enterCall
+unfolding measureOf weigh joined distance inRange point cleared newNode nearSide raise enteredFrom entered built apart claimsFrom fits sameFront afresh sound
+    referencesOf isAmong anew added addedRun enterCall
 entering-marked =
     record {
       tested = refl;
@@ -53,6 +54,14 @@ entering-marked =
       nothingEntered = refl;
       full3 = refl;
       uneven5 = refl;
+      known17 = refl;
+      twice17 = refl;
+      unused0 = refl;
+      twinsTested = refl;
+      twinsEnter0 = refl;
+      twins17 = refl;
+      first17 = refl;
+      known5 = refl;
       first5 = refl;
       first2 = refl;
       first1 = refl;

@@ -55,6 +55,10 @@ fiveIn capacity nodes =
 abbrev pub fiveStored : Store
 fiveStored = fiveIn 6 (roomsOf 6 0)
 
+-- the same with a reference that two claims share
+abbrev pub twins : Store
+twins = store (fiveStored .table) (101 ∷ 102 ∷ 101 ∷ 104 ∷ 105 ∷ 9 ∷ []) (fiveStored .coordinates) (fiveStored .nodes)
+
 -- one field of a room changed: not sound
 abbrev pub changed : Store
 changed = fiveIn 6 (roomsOf 5 0)
@@ -143,7 +147,17 @@ pub record EnteringMarked : Type 0 where
   pub nothingEntered : enterCall fiveStored [] [] ≡ gives fiveStored
   pub full3 : enterCall fiveStored (106 ∷ 107 ∷ []) (pos 4 ∷ pos 4 ∷ []) ≡ refused 3
   pub uneven5 : enterCall fiveStored (106 ∷ []) (pos 4 ∷ pos 4 ∷ []) ≡ refused 5
-  -- with too many claims; with a room changed; with memory too small
+  -- [8.17] a reference of the table; one that the run has twice, another between; one that only unused memory holds
+  pub known17 : enterCall fiveStored (103 ∷ []) four ≡ refused 17
+  pub twice17 : enterCall none (106 ∷ 107 ∷ 106 ∷ []) (pos 4 ∷ pos 5 ∷ pos 6 ∷ []) ≡ refused 17
+  pub unused0 : number (enterCall fiveStored (9 ∷ []) four) ≡ 0
+  -- [3.17] a table that holds a repeat is sound, and takes a reference that is new to it
+  pub twinsTested : passed twins ≡ gives (header 1 1 6 5 3)
+  pub twinsEnter0 : number (enterCall twins (103 ∷ []) four) ≡ 0
+  pub twins17 : enterCall twins (101 ∷ []) four ≡ refused 17
+  -- with too many claims; with a reference of the table; with too many claims; with a room changed; with memory too small
+  pub first17 : enterCall fiveStored (106 ∷ 106 ∷ []) wide ≡ refused 17
+  pub known5 : enterCall fiveStored (103 ∷ []) wide ≡ refused 5
   pub first5 : enterCall fiveStored (106 ∷ 107 ∷ []) (pos 4 ∷ []) ≡ refused 5
   pub first2 : enterCall changed (106 ∷ []) (pos 4 ∷ pos 4 ∷ []) ≡ refused 2
   pub first1 : enterCall short (106 ∷ []) (pos 4 ∷ []) ≡ refused 1

@@ -3,6 +3,7 @@ pub mod Points
 pub mod Orders
 pub mod Tree
 pub mod Outcomes
+pub mod References
 pub mod Runs
 pub mod Frames
 pub mod Fields

@@ -6,6 +6,7 @@ use lib.Dec.{ltb, leb, eqb}
 use lib.ListN.{take}
 use Rattle.paper.specs.declared.lines.ClaimLine.{ClaimLine}
 use Rattle.paper.specs.Points.{Claim}
+use Rattle.paper.specs.References.{inForce, anew}
 use Rattle.paper.specs.Outcomes.{Outcome, refused, gives, must, onto}
 use Rattle.paper.specs.Frames.{frameOf, isLine}
 use Rattle.paper.specs.Lines.{isAsk, askAt, claimOk, claimAt}
@@ -38,9 +39,13 @@ unfoldable pub withClaim : Table → Claim → Table
 withClaim t c =
     record { number = t .number; measure = t .measure; d = t .d; capacity = t .capacity; claims = t .claims ++ (c ∷ []) }
 
--- [10.6] [8.11] [8.3] a claim is tested for 11 and 3, and entered
+-- [10.6] [8.11] [8.17] [8.3] a claim is tested for 11, 17 and 3, and entered
 unfoldable pub claimEntering : Table → ClaimLine → Outcome Table
-claimEntering t c = must (ours t c) 11 (must (leb (count t + 1) (t .capacity)) 3 (gives (withClaim t (claimIn c))))
+claimEntering t c =
+    must (ours t c) 11
+    (must (anew (inForce (t .claims)) (c .reference ∷ [])) 17
+    (must (leb (count t + 1) (t .capacity)) 3
+    (gives (withClaim t (claimIn c)))))
 
 -- [10.6] [6.1] an ask is tested for 11, 7 and 8, and answered
 unfoldable pub replyTo : Table → Ask → Outcome (List ℕ)

@@ -9,7 +9,8 @@ use Rattle.paper.specs.declared.tables.Table.{Table}
 use Rattle.paper.specs.declared.tables.Made.{Made}
 use Rattle.paper.specs.declared.tables.Entered.{Entered}
 use Rattle.paper.specs.Points.{point}
-use Rattle.paper.specs.Tree.{Grown, entered, Store, store, Memory, memory, apart, referenceAt, withReference, fits, sound}
+use Rattle.paper.specs.Tree.{Grown, entered, Store, store, Memory, memory, apart, referenceAt, withReference, claimsIn, fits, sound}
+use Rattle.paper.specs.References.{inForce, anew}
 use Rattle.paper.specs.Outcomes.{Outcome, refused, gives, must}
 
 -- [3.16] a table before any claim: nothing is entered, and no node is in use
@@ -50,16 +51,17 @@ unfoldable pub addedRun : List ℕ → List ℤ → ℕ → Store → Store
 addedRun given points zero s = s
 addedRun given points (suc i) s = added (addedRun given points i s) (referenceAt given i) (point (s .table .d) points i)
 
--- [9.6] [3.15] all claims of a run are entered, or none: 5 where there are not d coordinates for each [8.5], 3 where the capacity leaves
--- too few claims free [8.3], 4 where it leaves too few nodes, one for each claim [8.4]
+-- [9.6] [3.15] all claims of a run are entered, or none: 5 where there are not d coordinates for each [8.5], 17 where a reference is not
+-- new [8.17], 3 where the capacity leaves too few claims free [8.3], 4 where it leaves too few nodes, one for each claim [8.4]
 unfoldable pub enterCall : Store → List ℕ → List ℤ → Outcome Store
 enterCall s given points =
     must (fits s) 1
     (must (sound s) 2
     (must (eqb (length points) (s .table .d * length given)) 5
+    (must (anew (inForce (claimsIn s)) given) 17
     (must (leb (s .table .count + length given) (s .table .capacity)) 3
     (must (leb (s .table .used + length given) (s .table .capacity)) 4
-    (gives (addedRun given points (length given) s))))))
+    (gives (addedRun given points (length given) s)))))))
 
 -- how its outcome is shown, the header that comes back, and what it makes of lent memory
 abbrev pub enteredShown : Outcome Store → Entered

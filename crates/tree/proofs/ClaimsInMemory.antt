@@ -5,10 +5,11 @@ use mathlib.Core.List.{List, [], _∷_, _++_, append-assoc}
 use native.Mathlib.Omega.{arith}
 use lib.IntN.{ℤ, pos}
 use lib.ListN.{length, getD, take, drop, length-append, length-drop, take-append-drop, List·getD-append}
-use lib.Seq.{length-take-le, take-append-le, drop-append-le, take-at, drop-at, getD-take, getD-drop, paste}
+use lib.Seq.{length-take-le, take-append-le, drop-append-le, take-at, drop-at, take-suc, getD-take, getD-drop, paste}
 use Rattle.paper.specs.declared.points.Measure.{Measure}
 use Rattle.paper.specs.Points.{measureOf, distance, Claim, point}
 use Rattle.paper.specs.Tree.{apart, referenceAt, claimsFrom}
+use Rattle.paper.specs.References.{referencesOf}
 use Rattle.tree.proofs.PointsInMemory.{before-next}
 
 -- ---- distances
@@ -92,6 +93,21 @@ unfolding claimsFrom
 claims-ext d zero r r' l l' hr hp = refl
 claims-ext d (suc n) r r' l l' hr hp =
     rw (claims-ext d n r r' l l' (λ i h. hr i (omega arith)) (λ i h. hp i (omega arith)), hr n (omega arith), hp n (omega arith))
+
+-- [3.17] the references of the first n claims are the first n references
+pub references-append : (a b : List Claim) → referencesOf (a ++ b) ≡ referencesOf a ++ referencesOf b
+unfolding referencesOf
+references-append [] b = refl
+references-append (c ∷ a) b = ap (λ (l : List ℕ). c .reference ∷ l) (references-append a b)
+
+pub references-are : (d n : ℕ) (references : List ℕ) (coordinates : List ℤ) → n ≤ length references
+    → referencesOf (claimsFrom d n references coordinates) ≡ take n references
+unfolding claimsFrom referencesOf
+references-are d zero references coordinates h = refl
+references-are d (suc n) references coordinates h =
+    references-append (claimsFrom d n references coordinates) _
+    ∙ ap (λ (l : List ℕ). l ++ (referenceAt references n ∷ [])) (references-are d n references coordinates (omega arith))
+    ∙ sym (take-suc references n 0 (omega arith))
 
 -- a run's place has d numbers
 pub point-length : (d : ℕ) (points : List ℤ) (i : ℕ) → i * d + d ≤ length points → length (point d points i) ≡ d

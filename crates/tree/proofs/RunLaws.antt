@@ -1,6 +1,7 @@
 -- Entering a run: when nothing refuses it, and what it then leaves. Assumes nothing.
 use Prim.Native.Nat.{ℕ, _+_, _*_, _≤_}
 use mathlib.Core.Path.{_≡_, sym, ap, _∙_}
+use mathlib.Core.Bool.{true}
 use mathlib.Core.List.{List, _++_}
 use native.Mathlib.Omega.{arith}
 use lib.IntN.{ℤ}
@@ -9,6 +10,7 @@ use lib.Dec.{leb, eqb}
 use borrow.Author.Tests.{leb-true, eqb-true, le-leb, eq-eqb}
 use Rattle.paper.specs.Outcomes.{refused, gives, number}
 use Rattle.paper.specs.Tree.{Store, fits, sound, claimsFrom, claimsIn}
+use Rattle.paper.specs.References.{inForce, anew}
 use Rattle.paper.specs.Runs.{addedRun, enterCall}
 use Rattle.paper.proofs.Outcomes.{must-go, must-other, number-0, same-given}
 use Rattle.tree.specs.Soundness.{Good, Roomy}
@@ -19,6 +21,7 @@ use Rattle.tree.proofs.Adding.{run-claims, run-good}
 pub record Enters (s : Store) (given : List ℕ) (points : List ℤ) : Type 0 where
   pub good : Good s
   pub whole : length points ≡ s .table .d * length given
+  pub new : anew (inForce (claimsIn s)) given ≡ true
   pub free : s .table .count + length given ≤ s .table .capacity
 
 module _ (s : Store) (given : List ℕ) (points : List ℤ) where
@@ -28,24 +31,26 @@ module _ (s : Store) (given : List ℕ) (points : List ℤ) where
       let h1 = number-0 (fits s) 0 _ z in
       let h2 = number-0 (sound s) 1 _ (h1 .1) in
       let h5 = number-0 (eqb (length points) (s .table .d * length given)) 4 _ (h2 .1) in
-      let h3 = number-0 (leb (s .table .count + length given) (s .table .capacity)) 2 _ (h5 .1) in
+      let h17 = number-0 (anew (inForce (claimsIn s)) given) 16 _ (h5 .1) in
+      let h3 = number-0 (leb (s .table .count + length given) (s .table .capacity)) 2 _ (h17 .1) in
       record {
         good = sound-good s (fits-fit s (h1 .0)) (h2 .0);
         whole = eqb-true (length points) (s .table .d * length given) (h5 .0);
+        new = h17 .0;
         free = leb-true (s .table .count + length given) (s .table .capacity) (h3 .0);
       }
 
-  -- a run that is whole and has node is entered: no other test refuses it
-  pub enters-gives : Good s → length points ≡ s .table .d * length given → s .table .count + length given ≤ s .table .capacity
-      → enterCall s given points ≡ gives (addedRun given points (length given) s)
+  -- such a run is entered
+  pub enters-gives : Enters s given points → enterCall s given points ≡ gives (addedRun given points (length given) s)
   unfolding enterCall
-  enters-gives g whole free =
-      must-go (fits s) 1 _ (fit-fits s (g .fit))
-      ∙ must-go (sound s) 2 _ (good-sound s g)
-      ∙ must-go (eqb (length points) (s .table .d * length given)) 5 _ (eq-eqb (length points) (s .table .d * length given) whole)
-      ∙ must-go (leb (s .table .count + length given) (s .table .capacity)) 3 _ (le-leb (s .table .count + length given) (s .table .capacity) free)
+  enters-gives h =
+      must-go (fits s) 1 _ (fit-fits s (h .good .fit))
+      ∙ must-go (sound s) 2 _ (good-sound s (h .good))
+      ∙ must-go (eqb (length points) (s .table .d * length given)) 5 _ (eq-eqb (length points) (s .table .d * length given) (h .whole))
+      ∙ must-go (anew (inForce (claimsIn s)) given) 17 _ (h .new)
+      ∙ must-go (leb (s .table .count + length given) (s .table .capacity)) 3 _ (le-leb (s .table .count + length given) (s .table .capacity) (h .free))
       ∙ must-go (leb (s .table .used + length given) (s .table .capacity)) 4 _
-      (le-leb (s .table .used + length given) (s .table .capacity) (omega (arith, good-used s g)))
+      (le-leb (s .table .used + length given) (s .table .capacity) (omega (arith, h .free, good-used s (h .good))))
 
   -- what entering a run asks of the table
   pub enters-roomy : (why : ℕ) → why ≡ number (enterCall s given points) → why ≡ 0
@@ -60,7 +65,8 @@ module _ (s : Store) (given : List ℕ) (points : List ℤ) where
       let h1 = must-other (fits s) 1 _ 4 e (λ q. omega arith) in
       let h2 = must-other (sound s) 2 _ 4 (h1 .1) (λ q. omega arith) in
       let h5 = must-other (eqb (length points) (s .table .d * length given)) 5 _ 4 (h2 .1) (λ q. omega arith) in
-      let h3 = must-other (leb (s .table .count + length given) (s .table .capacity)) 3 _ 4 (h5 .1) (λ q. omega arith) in
+      let h17 = must-other (anew (inForce (claimsIn s)) given) 17 _ 4 (h5 .1) (λ q. omega arith) in
+      let h3 = must-other (leb (s .table .count + length given) (s .table .capacity)) 3 _ 4 (h17 .1) (λ q. omega arith) in
       let free = leb-true (s .table .count + length given) (s .table .capacity) (h3 .0) in
       let room = le-leb (s .table .used + length given) (s .table .capacity) (omega (arith, good-used s (sound-good s (fits-fit s (h1 .0)) (h2 .0)), free)) in
       let z : _≡_ {A = ℕ} 0 4 = ap number (sym (must-go (leb (s .table .used + length given) (s .table .capacity)) 4 _ room) ∙ h3 .1) in
@@ -71,6 +77,6 @@ module _ (s : Store) (given : List ℕ) (points : List ℤ) where
       → Good x × (claimsIn x ≡ claimsIn s ++ claimsFrom (s .table .d) (length given) given points)
   entered-good x e =
       let h = zero-enters (ap number e) in
-      let q : x ≡ addedRun given points (length given) s = same-given _ _ (sym e ∙ enters-gives (h .good) (h .whole) (h .free)) in
+      let q : x ≡ addedRun given points (length given) s = same-given _ _ (sym e ∙ enters-gives h) in
       let r : Roomy s (length given) = record { good = h .good; free = h .free } in
       rw q (run-good s given points (length given) r (h .whole), run-claims s given points (length given) r (h .whole))

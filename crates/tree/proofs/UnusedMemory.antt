@@ -97,5 +97,5 @@ run-unused s given points n h whole (suc i) more e =
 pub enter-keeps-unused : (s : Store) (given : List ℕ) (points : List ℤ) (x : Store) → enterCall s given points ≡ gives x → UnusedKept s x
 enter-keeps-unused s given points x e =
     let h = zero-enters s given points (ap number e) in
-    let q : x ≡ addedRun given points (length given) s = same-given _ _ (sym e ∙ enters-gives s given points (h .good) (h .whole) (h .free)) in
+    let q : x ≡ addedRun given points (length given) s = same-given _ _ (sym e ∙ enters-gives s given points h) in
     rw q (run-unused s given points (length given) (record { good = h .good; free = h .free }) (h .whole) (length given) 0 (omega arith))

@@ -1,6 +1,6 @@
 -- `nearby::tables::run_refusal` meets its contract: one law for each way through it. Assumes nothing.
 use Rattle.paper.specs.Tree.{store}
-use Rattle.nearby.proofs.TablesAndRuns.{run-refused, run-wide, run-count, run-used, run-5, run-3, run-4, run-0}
+use Rattle.nearby.proofs.TablesAndRuns.{run-refused, run-wide, run-stored, run-count, run-used, run-5, run-17, run-3, run-4, run-0}
 use borrow.Author.Needs.{needs}
 use Rattle.nearby.proofs.tables.run_refusal.Statement.{statement}
 use Rattle.nearby.proofs.tables.run_refusal.Tie as tie
@@ -10,53 +10,67 @@ table-refusal-requires c κs = search needs
 
 returns : tie.Need-returns
 returns c =
-    let a = c .before .before .before .before .before .args in
-    run-refused (store (a .t) (a .references .now) (a .coordinates .now) (a .nodes .now)) (a .given .now) (a .points .now) _ (c .before .table-refusal .ensures) (c .if1 .taken)
+    let tested = c .before in
+    let a = tested .before .before .before .before .args in
+    run-refused (store (a .t) (a .references .now) (a .coordinates .now) (a .nodes .now)) (a .given .now) (a .points .now) _ (tested .table-refusal .ensures) (c .if1 .taken)
 
 is-whole-requires : tie.Need-is-whole-requires
 is-whole-requires c κs =
-    let a = c .before .before .before .before .before .args in
-    run-wide (store (a .t) (a .references .now) (a .coordinates .now) (a .nodes .now)) (a .given .now) (a .points .now) _ (c .before .table-refusal .ensures) (c .if1 .left)
+    let tested = c .before in
+    let a = tested .before .before .before .before .args in
+    run-wide (store (a .t) (a .references .now) (a .coordinates .now) (a .nodes .now)) (a .given .now) (a .points .now) _ (tested .table-refusal .ensures) (c .if1 .left)
 
 returns-2 : tie.Need-returns-2
 returns-2 c =
-    let a = c .before .before .before .before .before .before .before .args in
-    run-5 (store (a .t) (a .references .now) (a .coordinates .now) (a .nodes .now)) (a .given .now) (a .points .now) _ (c .before .before .before .table-refusal .ensures) (c .before .before .if1 .left) _ (c .before .is-whole .ensures) (c .if2 .taken)
+    let tested = c .before .before .before in
+    let a = tested .before .before .before .before .args in
+    run-5 (store (a .t) (a .references .now) (a .coordinates .now) (a .nodes .now)) (a .given .now) (a .points .now) _ (tested .table-refusal .ensures) (c .before .before .if1 .left) _ (c .before .is-whole .ensures) (c .if2 .taken)
 
-sub-if3 : tie.Need-sub-if3
-sub-if3 c =
-    let a = c .before .before .before .before .before .before .before .before .args in
-    run-count (store (a .t) (a .references .now) (a .coordinates .now) (a .nodes .now)) (a .given .now) (a .points .now) _ (c .before .before .before .before .table-refusal .ensures) (c .before .before .before .if1 .left)
+are-new-requires : tie.Need-are-new-requires
+are-new-requires c κs =
+    let tested = c .before .before .before in
+    let a = tested .before .before .before .before .args in
+    run-stored (store (a .t) (a .references .now) (a .coordinates .now) (a .nodes .now)) (a .given .now) (a .points .now) _ (tested .table-refusal .ensures) (c .before .before .if1 .left)
 
 returns-3 : tie.Need-returns-3
 returns-3 c =
-    let args = c .before .before .before .before .before .before .before .before .before .args in
-    let table-refusal = c .before .before .before .before .before .table-refusal in
-    let a = args in
-    run-3 (store (a .t) (a .references .now) (a .coordinates .now) (a .nodes .now)) (a .given .now) (a .points .now) _ (table-refusal .ensures) (c .before .before .before .before .if1 .left) _ (c .before .before .before .is-whole .ensures) (c .before .before .if2 .left) (c .if3 .taken)
+    let tested = c .before .before .before .before .before in
+    let a = tested .before .before .before .before .args in
+    run-17 (store (a .t) (a .references .now) (a .coordinates .now) (a .nodes .now)) (a .given .now) (a .points .now) _ (tested .table-refusal .ensures) (c .before .before .before .before .if1 .left) _ (c .before .before .before .is-whole .ensures) (c .before .before .if2 .left) _
+    (c .before .are-new .ensures) (c .if3 .taken)
 
 sub-if4 : tie.Need-sub-if4
 sub-if4 c =
-    let a = c .before .before .before .before .before .before .before .before .before .before .args in
-    run-used (store (a .t) (a .references .now) (a .coordinates .now) (a .nodes .now)) (a .given .now) (a .points .now) _ (c .before .before .before .before .before .before .table-refusal .ensures) (c .before .before .before .before .before .if1 .left)
+    let tested = c .before .before .before .before .before .before in
+    let a = tested .before .before .before .before .args in
+    run-count (store (a .t) (a .references .now) (a .coordinates .now) (a .nodes .now)) (a .given .now) (a .points .now) _ (tested .table-refusal .ensures) (c .before .before .before .before .before .if1 .left)
 
 returns-4 : tie.Need-returns-4
 returns-4 c =
-    let args = c .before .before .before .before .before .before .before .before .before .before .before .args in
-    let table-refusal = c .before .before .before .before .before .before .before .table-refusal in
-    let if1 = c .before .before .before .before .before .before .if1 in
-    let is-whole = c .before .before .before .before .before .is-whole in
-    let a = args in
-    run-4 (store (a .t) (a .references .now) (a .coordinates .now) (a .nodes .now)) (a .given .now) (a .points .now) _ (table-refusal .ensures) (if1 .left) _ (is-whole .ensures) (c .before .before .before .before .if2 .left) (c .before .before .if3 .left) (c .if4 .taken)
+    let tested = c .before .before .before .before .before .before .before in
+    let a = tested .before .before .before .before .args in
+    run-3 (store (a .t) (a .references .now) (a .coordinates .now) (a .nodes .now)) (a .given .now) (a .points .now) _ (tested .table-refusal .ensures) (c .before .before .before .before .before .before .if1 .left) _ (c .before .before .before .before .before .is-whole .ensures) (c .before .before .before .before .if2 .left) _
+    (c .before .before .before .are-new .ensures) (c .before .before .if3 .left) (c .if4 .taken)
+
+sub-if5 : tie.Need-sub-if5
+sub-if5 c =
+    let tested = c .before .before .before .before .before .before .before .before in
+    let a = tested .before .before .before .before .args in
+    run-used (store (a .t) (a .references .now) (a .coordinates .now) (a .nodes .now)) (a .given .now) (a .points .now) _ (tested .table-refusal .ensures) (c .before .before .before .before .before .before .before .if1 .left)
 
 returns-5 : tie.Need-returns-5
 returns-5 c =
-    let args = c .before .before .before .before .before .before .before .before .before .before .before .args in
-    let table-refusal = c .before .before .before .before .before .before .before .table-refusal in
-    let if1 = c .before .before .before .before .before .before .if1 in
-    let is-whole = c .before .before .before .before .before .is-whole in
-    let a = args in
-    run-0 (store (a .t) (a .references .now) (a .coordinates .now) (a .nodes .now)) (a .given .now) (a .points .now) _ (table-refusal .ensures) (if1 .left) _ (is-whole .ensures) (c .before .before .before .before .if2 .left) (c .before .before .if3 .left) (c .if4 .left)
+    let tested = c .before .before .before .before .before .before .before .before .before in
+    let a = tested .before .before .before .before .args in
+    run-4 (store (a .t) (a .references .now) (a .coordinates .now) (a .nodes .now)) (a .given .now) (a .points .now) _ (tested .table-refusal .ensures) (c .before .before .before .before .before .before .before .before .if1 .left) _ (c .before .before .before .before .before .before .before .is-whole .ensures) (c .before .before .before .before .before .before .if2 .left) _
+    (c .before .before .before .before .before .are-new .ensures) (c .before .before .before .before .if3 .left) (c .before .before .if4 .left) (c .if5 .taken)
+
+returns-6 : tie.Need-returns-6
+returns-6 c =
+    let tested = c .before .before .before .before .before .before .before .before .before in
+    let a = tested .before .before .before .before .args in
+    run-0 (store (a .t) (a .references .now) (a .coordinates .now) (a .nodes .now)) (a .given .now) (a .points .now) _ (tested .table-refusal .ensures) (c .before .before .before .before .before .before .before .before .if1 .left) _ (c .before .before .before .before .before .before .before .is-whole .ensures) (c .before .before .before .before .before .before .if2 .left) _
+    (c .before .before .before .before .before .are-new .ensures) (c .before .before .before .before .if3 .left) (c .before .before .if4 .left) (c .if5 .left)
 
 pub run-refusal-spec : {M : Type 1} → statement M
 run-refusal-spec =
@@ -66,8 +80,10 @@ run-refusal-spec =
     returns
     is-whole-requires
     returns-2
-    sub-if3
+    are-new-requires
     returns-3
     sub-if4
     returns-4
-    returns-5)
+    sub-if5
+    returns-5
+    returns-6)

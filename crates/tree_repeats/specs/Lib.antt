@@ -1,0 +1,3 @@
+pub mod NewReferences
+pub mod Index
+pub mod Windows
