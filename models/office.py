@@ -78,9 +78,11 @@ class Office:
         self.for_whom, self.claims = None, []
 
     def enter(self, for_whom, reference, point):
-        """[10.2] [10.3] [10.6]"""
+        """[10.2] [10.3] [10.6] [3.17]"""
         if self.claims and for_whom != self.for_whom:
             raise Refused(11)
+        if any(reference == known for known, _ in self.claims):
+            raise Refused(17)
         if len(self.claims) == CAPACITY:
             raise Refused(3)
         self.for_whom = for_whom

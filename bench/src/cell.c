@@ -123,7 +123,8 @@ void make_cell(struct cell *cell, size_t n, size_t d, uint8_t measure, enum spre
         compared_coordinates = d;
         qsort(cell->coordinates, n, d * sizeof *cell->coordinates, compare_points);
     }
+    /* Spread over 32 bits, and no two alike: the lower twelve are the claim's number. */
     for (size_t k = 0; k < n; k++)
-        cell->references[k] = (uint32_t)next(&s);
+        cell->references[k] = (uint32_t)next(&s) / NEARBY_MOST_CLAIMS * NEARBY_MOST_CLAIMS + (uint32_t)k;
     make_questions(&s, cell);
 }

@@ -3,18 +3,25 @@
 
 #include <stdlib.h>
 
-void *our_table(const struct cell *cell)
+void *our_table_in_runs(const struct cell *cell, size_t run)
 {
     struct our_table *t = need(sizeof *t);
     nearby_tabled made = nearby_make_table(TABLE_NUMBER, cell->measure, cell->d, cell->n, t->references, cell->n, t->coordinates,
                                            cell->n * cell->d, t->nodes, cell->n * NEARBY_NODE);
-    if (made.refusal == 0)
-        made = nearby_enter(made.table, t->references, cell->n, t->coordinates, cell->n * cell->d, t->nodes, cell->n * NEARBY_NODE,
-                            cell->references, cell->n, cell->coordinates, cell->n * cell->d);
+    t->header = made.table;
+    while (made.refusal == 0 && t->header.count < cell->n) {
+        const size_t at = t->header.count, length = cell->n - at < run ? cell->n - at : run;
+        made = nearby_enter(OUR_TABLE(t), &cell->references[at], length, &cell->coordinates[at * cell->d], length * cell->d);
+        t->header = made.table;
+    }
     if (made.refusal != 0)
         fail("entering was refused: %s", nearby_refusal_meaning(made.refusal));
-    t->header = made.table;
     return t;
+}
+
+void *our_table(const struct cell *cell)
+{
+    return our_table_in_runs(cell, cell->n);
 }
 
 static void many_answers(struct our_table *t, const struct cell *cell, size_t count, struct answers *answers)

@@ -16,7 +16,8 @@ struct our_table {
     (t)->header, (t)->references, (t)->header.capacity, (t)->coordinates, (t)->header.capacity * (t)->header.d, \
         (t)->nodes, (t)->header.capacity * NEARBY_NODE
 
-/* Makes a table and enters the claims of a cell in one run. */
+/* Makes a table and enters the claims of a cell, in runs of so many or in one. */
+void *our_table_in_runs(const struct cell *cell, size_t run);
 void *our_table(const struct cell *cell);
 
 #endif

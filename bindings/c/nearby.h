@@ -107,14 +107,17 @@ nearby_tabled nearby_make_table(uint32_t number, uint8_t measure, size_t d, size
                                 const int32_t *coordinates, size_t coordinates_length,
                                 const uint64_t *nodes, size_t nodes_length);
 
-/* [9.5] Tests a table as every call on a table does: 0 where it is sound, otherwise 1 or 2. It costs as much as building it. */
+/* [9.5] Tests a table as every call on a table does: 0 where it is sound, otherwise 1 or 2. It costs as much as building it.
+ * References play no part in it: a table whose memory holds one twice is sound [3.17]. */
 uint8_t nearby_test_table(nearby_table table,
                           const uint32_t *references, size_t references_length,
                           const int32_t *coordinates, size_t coordinates_length,
                           const uint64_t *nodes, size_t nodes_length);
 
 /* [9.6] [3.15] Enters all claims of a run, or none: a reference in `given` and d coordinates in `points` for each. It gives the
- * header that counts from now on. Refusals 1, 2, 5, 3, 4. */
+ * header that counts from now on. Each reference has to be new [3.17]: 17 is given where a claim of the table has it already, or
+ * where it stands twice in the run, be the run too long for the table or not. So a claim that two tablets send is entered once; the
+ * second is told 17, and the table has the claim. What unused memory holds is no reference in force. Refusals 1, 2, 5, 17, 3, 4. */
 nearby_tabled nearby_enter(nearby_table table,
                            uint32_t *references, size_t references_length,
                            int32_t *coordinates, size_t coordinates_length,
@@ -363,7 +366,8 @@ nearby_claim_read nearby_read_claim_line(const uint8_t *line, size_t line_length
     row(13, "the answer is not to the list's present ask") \
     row(14, "the answer's page does not hold") \
     row(15, "the page does not fit what is left of the list's room") \
-    row(16, "the list is complete already")
+    row(16, "the list is complete already") \
+    row(17, "a reference that a claim of the table has already, or that stands twice in the run")
 
 /* What a refusal's number means. */
 static inline const char *nearby_refusal_meaning(uint8_t refusal)

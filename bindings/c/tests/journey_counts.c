@@ -71,7 +71,7 @@ static bool often_enough(event what)
 
 /* How often each refusal has to come. Where nothing is stated it never comes: both ends are sound, and only they write lines. */
 static const size_t stated_refused[CALLS][NUMBERS] = {
-    [ENTER] = { [3] = 4000, [5] = 1500 },
+    [ENTER] = { [3] = 4000, [5] = 1500, [17] = 1000 },
     [ANSWER] = { [9] = 1000, [10] = 5000, [11] = 10000 },
     [WRITE_ASK] = { [6] = 4000, [16] = 600 },
     [TAKE] = { [9] = 1000, [10] = 20000, [13] = 20000, [15] = 5000, [16] = 2500 },

@@ -23,22 +23,39 @@ typedef struct {
     bool ours;
 } drawn_list;
 
-/* The office with the memory of its table, the claims as they were handed over to it, the lists, and the link, which keeps its lines
- * from one journey to the next: some come late from another table. */
+/* The office with the memory of its table, the claims as they were handed over to it, how many references were made up so far, the
+ * lists, and the link, which keeps its lines from one journey to the next: some come late from another table. */
 typedef struct {
     seeded *from;
     style how;
     store office, handed_over;
+    size_t made_up;
     drawn_list lists[TABLETS];
     wire *link;
 } journey;
 
 /* ---- The office ---- */
 
-/* Several claims share a reference. */
-static uint32_t any_reference(seeded *from)
+/* Mostly one that was never handed over. Some are of few, so that now and then a claim is handed over twice. */
+static uint32_t any_reference(journey *j)
 {
-    return one_in(from, 2) ? (uint32_t)next_number(from) : one_in(from, 4) ? UINT32_MAX : 100 + (uint32_t)below(from, 5);
+    if (one_in(j->from, 16))
+        return one_in(j->from, 3) ? UINT32_MAX : (uint32_t)below(j->from, 5);
+    return reference_of(&j->office.table, j->made_up++);
+}
+
+/* Whether some reference of a run stands in it twice, or is that of a claim that was entered. */
+static bool some_repeat(const store *s, const uint32_t *given, size_t n)
+{
+    for (size_t i = 0; i < n; i++) {
+        for (size_t k = 0; k < i; k++)
+            if (given[k] == given[i])
+                return true;
+        for (size_t claim = 0; claim < s->table.count; claim++)
+            if (s->references[claim] == given[i])
+                return true;
+    }
+    return false;
 }
 
 static void keep_run(store *s, const uint32_t *given, size_t n, const int32_t *run)
@@ -49,7 +66,8 @@ static void keep_run(store *s, const uint32_t *given, size_t n, const int32_t *r
     s->table.count += n;
 }
 
-/* A run, perhaps of no claims, perhaps of more than there is room for; rarely it has a coordinate too many. */
+/* A run, perhaps of no claims, perhaps of more than there is room for, perhaps with a reference that is no longer new; rarely it has a
+ * coordinate too many. */
 static void enter_some(journey *j)
 {
     uint32_t given[LONGEST_RUN];
@@ -57,14 +75,15 @@ static void enter_some(journey *j)
     const nearby_table *t = &j->office.table;
     size_t n = below(j->from, LONGEST_RUN + 1), too_many = one_in(j->from, 10), left = t->capacity - t->count;
     for (size_t i = 0; i < n; i++)
-        given[i] = any_reference(j->from);
+        given[i] = any_reference(j);
     put_coordinates(j->from, one_in(j->from, 8) ? (style)below(j->from, STYLES) : j->how, run, n * t->d + too_many);
     uint8_t refusal = try_enter(&j->office, given, n, (points){ run, n * t->d + too_many }).refusal;
-    CHECK(refusal == (too_many ? 5 : n > left ? 3 : 0));
+    CHECK(refusal == (too_many ? 5 : some_repeat(&j->handed_over, given, n) ? 17 : n > left ? 3 : 0));
     count_call(ENTER, refusal);
     if (refusal == 0) {
         count_event(RUNS, 1);
         keep_run(&j->handed_over, given, n, run);
+        CHECK(t->count == j->handed_over.table.count);
         count_event(CLAIMS, n);
     }
 }

@@ -30,10 +30,9 @@ static bool is_line(const uint8_t *line, size_t length, const char *told)
     return length == strlen(told) && memcmp(line, told, length) == 0;
 }
 
-/* [4.5] In pages of 2. A claim at 4 is entered after each page; the list never gets it. */
+/* [4.5] In pages of 2. After each page a new claim is entered at 4; the list never gets it. */
 static void read_examples(uint8_t order, const exchange *pages, size_t length, const uint64_t *in_order)
 {
-    const uint32_t reference[] = { 0x6a };
     uint8_t line[NEARBY_ANSWER_LINE];
     output out = { line, sizeof line };
     seeded from = seed(31);
@@ -46,7 +45,8 @@ static void read_examples(uint8_t order, const exchange *pages, size_t length, c
         t.list = try_take(t.list, t.items, (text){ line, answered }).list;
         CHECK(t.list.snapshot == 5 && t.list.count == pages[i].count && t.list.complete == pages[i].complete);
         CHECK(memcmp(t.items.at, in_order, pages[i].count * NEARBY_ITEM * sizeof(uint64_t)) == 0);
-        CHECK(try_enter(&s, reference, 1, (points){ four, 1 }).refusal == 0);
+        const uint32_t reference = 0x6a + (uint32_t)i;
+        CHECK(try_enter(&s, &reference, 1, (points){ four, 1 }).refusal == 0);
     }
     free_room(t.items);
     free_store(&s);

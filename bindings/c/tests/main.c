@@ -6,6 +6,8 @@ int main(void)
     table_tests();
     table_trial_tests();
     table_refusal_tests();
+    repeat_tests();
+    long_run_tests();
     example_tests();
     question_tests();
     last_page_tests();

@@ -1,4 +1,4 @@
-/* Tables: the measures, the tree, soundness, making and entering. */
+/* Tables: the measures, the tree, soundness, making, references in force and entering. */
 #include "model.h"
 
 #include <stdlib.h>
@@ -132,19 +132,55 @@ nearby_tabled model_make(uint32_t number, uint8_t measure, size_t d, size_t capa
     return memory_fits(&s) ? (nearby_tabled){ 0, s.table } : (nearby_tabled){ .refusal = 1 };
 }
 
-static uint8_t enter_refusal(const store *s, size_t given_length, points run)
+/* ---- References in force ---- */
+
+static int rising(const void *a, const void *b)
+{
+    uint32_t x = *(const uint32_t *)a, y = *(const uint32_t *)b;
+    return (x > y) - (x < y);
+}
+
+/* Whether some reference stands twice: in a sorted copy it is its own neighbour. */
+static bool stands_twice(const uint32_t *given, size_t n)
+{
+    bool twice = false;
+    uint32_t *sorted = malloc((n + 1) * sizeof(uint32_t));
+    for (size_t i = 0; i < n; i++)
+        sorted[i] = given[i];
+    qsort(sorted, n, sizeof(uint32_t), rising);
+    for (size_t i = 1; i < n; i++)
+        twice |= sorted[i - 1] == sorted[i];
+    free(sorted);
+    return twice;
+}
+
+/* Whether some claim of the table has one of these references. */
+static bool in_force(const store *s, const uint32_t *given, size_t n)
+{
+    for (size_t claim = 0; claim < s->table.count; claim++)
+        for (size_t i = 0; i < n; i++)
+            if (s->references[claim] == given[i])
+                return true;
+    return false;
+}
+
+/* ---- Entering ---- */
+
+static uint8_t enter_refusal(const store *s, const uint32_t *given, size_t given_length, points run)
 {
     uint8_t refusal = model_test(s);
     if (refusal != 0)
         return refusal;
     if (run.length % s->table.d != 0 || run.length / s->table.d != given_length)
         return 5;
+    if (stands_twice(given, given_length) || in_force(s, given, given_length))
+        return 17;
     return given_length > s->table.capacity - s->table.count ? 3 : 0;
 }
 
 nearby_tabled model_enter(store *s, const uint32_t *given, size_t given_length, points run)
 {
-    uint8_t refusal = enter_refusal(s, given_length, run);
+    uint8_t refusal = enter_refusal(s, given, given_length, run);
     if (refusal != 0)
         return (nearby_tabled){ .refusal = refusal };
     nearby_table *t = &s->table;

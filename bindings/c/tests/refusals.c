@@ -8,7 +8,7 @@
 const uint8_t call_numbers[CALLS][MOST_NUMBERS] = {
     [MAKE] = { 1 },
     [TEST] = { 1, 2 },
-    [ENTER] = { 1, 2, 5, 3 },
+    [ENTER] = { 1, 2, 5, 17, 3 },
     [NEAREST] = { 1, 2, 5 },
     [FARTHEST] = { 1, 2, 5 },
     [PAGE] = { 1, 2, 5, 6, 7, 8, 12 },

@@ -41,17 +41,27 @@ void free_store(store *s)
     brink_free(s->nodes, s->nodes_length * sizeof(uint64_t));
 }
 
-void enter_run(seeded *from, store *s, size_t n, style how)
+/* Each step can be undone, so two claims of a table never come to the same. */
+uint32_t reference_of(const nearby_table *t, size_t claim)
+{
+    uint32_t x = t->number + (uint32_t)claim;
+    x = (x ^ (x >> 16)) * 0x85ebca6bu;
+    x = (x ^ (x >> 13)) * 0xc2b2ae35u;
+    return x ^ (x >> 16);
+}
+
+bool enter_run(seeded *from, store *s, size_t n, style how)
 {
     size_t d = s->table.d;
     uint32_t *given = malloc((n + 1) * sizeof(uint32_t));
     int32_t *run = malloc((n + 1) * d * sizeof(int32_t));
     for (size_t i = 0; i < n; i++)
-        given[i] = (uint32_t)next_number(from);
+        given[i] = reference_of(&s->table, s->table.count + i);
     put_coordinates(from, how, run, n * d);
-    CHECK(try_enter(s, given, n, (points){ run, n * d }).refusal == 0);
+    bool entered = CHECK(try_enter(s, given, n, (points){ run, n * d }).refusal == 0);
     free(given);
     free(run);
+    return entered;
 }
 
 /* Long runs for large tables: each run tests the whole table. */
@@ -61,10 +71,12 @@ store full_store(seeded *from, uint8_t measure, size_t d, size_t capacity, size_
 {
     store s = lend_store(from, d, capacity, below(from, 3));
     s.table = try_make((uint32_t)next_number(from), measure, d, capacity, &s).table;
-    while (s.table.count < n) {
+    bool entered = true;
+    while (entered && s.table.count < n) {
         size_t left = n - s.table.count;
-        enter_run(from, &s, left <= FEW ? below(from, left + 1) : s.table.count == 0 ? left / 2 : left, how);
+        entered = enter_run(from, &s, left <= FEW ? below(from, left + 1) : s.table.count == 0 ? left / 2 : left, how);
     }
+    CHECK(s.table.count == n);
     return s;
 }
 
@@ -74,7 +86,7 @@ store marked_store(seeded *from, size_t capacity)
     s.table = try_make(7, NEARBY_CITY_BLOCK, 1, capacity, &s).table;
     uint32_t given[] = { 0x65, 0x66, 0x67, 0x68, 0x69 };
     int32_t run[] = { 2, 3, 9, 6, 5 };
-    CHECK(try_enter(&s, given, 5, (points){ run, 5 }).refusal == 0);
+    CHECK(try_enter(&s, given, 5, (points){ run, 5 }).refusal == 0 && s.table.count == 5);
     return s;
 }
 

@@ -13,11 +13,14 @@ void put_coordinates(seeded *from, style how, int32_t *out, size_t length);
 store lend_store(seeded *from, size_t d, size_t capacity, size_t longer);
 void free_store(store *s);
 
+/* The reference that a generated table's claim of some number gets: it looks like any other number, and no two of a table are alike. */
+uint32_t reference_of(const nearby_table *t, size_t claim);
+
 /* A table of n claims, entered in runs of any length. */
 store full_store(seeded *from, uint8_t measure, size_t d, size_t capacity, size_t n, style how);
 
-/* Enters one run of n claims. */
-void enter_run(seeded *from, store *s, size_t n, style how);
+/* Enters one run of n claims; whether it was entered, which is a test's failure where it was not. */
+bool enter_run(seeded *from, store *s, size_t n, style how);
 
 /* The table of examples a to j: claims at 2, 3, 9, 6 and 5, d = 1 and measure 1, number 7, references 0x65 and on. */
 store marked_store(seeded *from, size_t capacity);

@@ -67,10 +67,19 @@ static const refusal_case entering[] = {
     { { COUNT_OVER_CAPACITY }, 2 },
     { { COORDINATE_TOO_MANY }, 5 },
     { { COORDINATE_MISSING }, 5 },
+    { { REFERENCE_OF_CLAIM_2 }, 17 },
+    { { REFERENCE_TWICE }, 17 },
     { { RUN_OVER_CAPACITY }, 3 },
     { { MEASURE_0, NODE_NUMBER_CHANGED }, 1 },
+    { { MEASURE_0, REFERENCE_OF_CLAIM_2 }, 1 },
     { { NODE_NUMBER_CHANGED, COORDINATE_TOO_MANY }, 2 },
+    { { NODE_NUMBER_CHANGED, REFERENCE_OF_CLAIM_2 }, 2 },
+    { { NODE_NUMBER_CHANGED, REFERENCE_TWICE }, 2 },
     { { COORDINATE_MISSING, RUN_OVER_CAPACITY }, 5 },
+    { { COORDINATE_MISSING, REFERENCE_OF_CLAIM_2 }, 5 },
+    { { COORDINATE_TOO_MANY, REFERENCE_TWICE }, 5 },
+    { { REFERENCE_OF_CLAIM_2, RUN_OVER_CAPACITY }, 17 },
+    { { REFERENCE_TWICE, RUN_OVER_CAPACITY }, 17 },
 };
 
 static const refusal_case nearest_or_farthest[] = {

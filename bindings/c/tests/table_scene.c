@@ -6,13 +6,13 @@
 /* What each byte of an output room holds before the call. */
 enum { HELD = 0xa5 };
 
-static const uint32_t given[] = { 106, 107, 108, 109 };
-static const int32_t fours[] = { 4, 4, 4, 4 };
+static const int32_t fours[LONGEST_RUN + 1] = { 4, 4, 4, 4, 4, 4, 4 };
 
 scene set_scene(seeded *from, uint8_t order)
 {
     return (scene){
         .s = marked_store(from, 8),
+        .given = { 106, 107, 108, 109, 110, 111 },
         .given_length = 1, .run_length = 1, .probe_length = 1, .probes_length = ASKED, .starts_length = NEARBY_PLACE * ASKED,
         .order = order, .start = { 1, 5, 1, 4 }, .reach = 5,
         .size = 2, .room_length = LARGE_SIZE * NEARBY_ITEM,
@@ -34,6 +34,8 @@ void put_fault(scene *c, fault f)
     case COORDINATE_MISSING: c->run_length--, c->probe_length--, c->probes_length--; break;
     case START_NUMBER_MISSING: c->starts_length--; break;
     case RUN_OVER_CAPACITY: c->given_length += 3, c->run_length += 3; break;
+    case REFERENCE_OF_CLAIM_2: c->given[0] = 0x67; break;
+    case REFERENCE_TWICE: c->given_length += 2, c->run_length += 2, c->given[2] = c->given[0]; break;
     case SIZE_0: c->size = 0; break;
     case SIZE_17: c->size = 17; break;
     case SNAPSHOT_4: c->start.snapshot = 4; break;
@@ -146,7 +148,7 @@ uint8_t call_scene(call which, scene *c)
     points run = { fours, c->run_length }, probe = { fours, c->probe_length }, probes = { fours, c->probes_length };
     switch (which) {
     case TEST: return try_test(&c->s);
-    case ENTER: return try_enter(&c->s, given, c->given_length, run).refusal;
+    case ENTER: return try_enter(&c->s, c->given, c->given_length, run).refusal;
     case NEAREST: return try_nearest(&c->s, probe, c->reach).refusal;
     case FARTHEST: return try_farthest(&c->s, probe).refusal;
     case PAGE: return call_page(c, probe);

@@ -5,7 +5,7 @@
 #include "stores.h"
 
 /* The calls for many ask so many questions. Rooms are long enough for a page size that is one too large. */
-enum { ASKED = 3, LARGE_SIZE = NEARBY_MOST_PAGE + 1 };
+enum { ASKED = 3, LARGE_SIZE = NEARBY_MOST_PAGE + 1, LONGEST_RUN = 6 };
 
 /* The kind of line that comes in as an ask. */
 typedef enum { AN_ASK_LINE, A_CLAIM_LINE, AN_ANSWER_LINE } line_kind;
@@ -13,6 +13,7 @@ typedef enum { AN_ASK_LINE, A_CLAIM_LINE, AN_ANSWER_LINE } line_kind;
 /* `order` and `start` are those of the page, of the second of many pages, and of the ask line; that line is also the last of many. */
 typedef struct {
     store s;
+    uint32_t given[LONGEST_RUN];
     size_t given_length, run_length, probe_length, probes_length, starts_length;
     uint8_t order;
     nearby_start start;
@@ -33,7 +34,7 @@ typedef enum {
     /* the table */
     MEASURE_0, CAPACITY_OVER_THE_MEMORY, NODE_NUMBER_CHANGED, COUNT_OVER_CAPACITY,
     /* the run, and lengths that go with d or with the number of questions */
-    COORDINATE_TOO_MANY, COORDINATE_MISSING, START_NUMBER_MISSING, RUN_OVER_CAPACITY,
+    COORDINATE_TOO_MANY, COORDINATE_MISSING, START_NUMBER_MISSING, RUN_OVER_CAPACITY, REFERENCE_OF_CLAIM_2, REFERENCE_TWICE,
     /* the page */
     SIZE_0, SIZE_17, SNAPSHOT_4, SNAPSHOT_6, MARK_NUMBER_5, MARK_NUMBER_6, MARK_DISTANCE_WRONG, MARK_OVER_REACH,
     /* the rooms that are written */

@@ -1,6 +1,7 @@
 /*
  * Full tables, entered in runs: after each run the nodes in use are compared with those of the second builder; runs that do not fit
- * are refused; each number in use is damaged, and each damage found; the nodes behind are filled anew, which changes nothing.
+ * or bring a reference of the table are refused; each number in use is damaged, and each damage found; the nodes behind are filled
+ * anew, which changes nothing.
  */
 #include "second_builder.h"
 #include "stores.h"
@@ -59,7 +60,7 @@ static void enter_runs(seeded *from, store *s, trial x, score *sum)
     uint32_t *given = malloc(x.n * sizeof(uint32_t));
     int32_t *run = malloc(x.n * x.d * sizeof(int32_t));
     for (size_t i = 0; i < x.n; i++)
-        given[i] = (uint32_t)next_number(from);
+        given[i] = reference_of(&s->table, i);
     lay_claims(from, x, run);
     for (size_t i = 0; i < LENGTH(ends); i++) {
         size_t at = s->table.count, more = ends[i] - at;
@@ -70,13 +71,14 @@ static void enter_runs(seeded *from, store *s, trial x, score *sum)
     free(run);
 }
 
-/* A full table refuses one claim more, and first that its run has a coordinate too many. */
-static void refuse_runs(store *s, score *sum)
+/* A full table refuses one claim more, but first that its reference is in force, and before that a coordinate too many. */
+static void refuse_runs(seeded *from, store *s, score *sum)
 {
-    const uint32_t given[] = { 9 };
+    const uint32_t fresh[] = { reference_of(&s->table, s->table.count) }, known[] = { s->references[below(from, s->table.count)] };
     const int32_t run[NEARBY_MOST_COORDINATES + 1] = { 0 };
-    sum->refused += try_enter(s, given, 1, (points){ run, s->table.d }).refusal == 3;
-    sum->refused += try_enter(s, given, 1, (points){ run, s->table.d + 1 }).refusal == 5;
+    sum->refused += try_enter(s, fresh, 1, (points){ run, s->table.d }).refusal == 3;
+    sum->refused += try_enter(s, known, 1, (points){ run, s->table.d }).refusal == 17;
+    sum->refused += try_enter(s, known, 1, (points){ run, s->table.d + 1 }).refusal == 5;
 }
 
 /* One number of the nodes changed, and changed back. Testing the table finds it, and so does an empty run. */
@@ -116,7 +118,7 @@ static void run_trial(seeded *from, trial x, score *sum)
     s.table = try_make((uint32_t)next_number(from), x.measure, x.d, x.n, &s).table;
     sum->tables++;
     enter_runs(from, &s, x, sum);
-    refuse_runs(&s, sum);
+    refuse_runs(from, &s, sum);
     damage_rooms(from, &s, sum);
     fill_unused(from, &s, sum);
     free_store(&s);
@@ -132,11 +134,11 @@ static void run_trials(seeded *from, const size_t *counts, size_t length, score 
                     run_trial(from, (trial){ measure, d, counts[i], way }, sum);
 }
 
-/* Of so many tables, three runs of each were entered and two refused, and nothing went unnoticed. */
+/* Of so many tables, three runs of each were entered and three refused, and nothing went unnoticed. */
 static void check_score(score is, size_t tables)
 {
     CHECK(is.tables == tables && is.runs == 3 * tables && is.equal == 3 * tables);
-    CHECK(is.refused == 2 * tables && is.found == is.damages && is.kept == tables);
+    CHECK(is.refused == 3 * tables && is.found == is.damages && is.kept == tables);
 }
 
 /* 3 measures, 8 d, 7 ways and 6 counts are 1,008 tables. A room has two claims at most, so the six counts take at least

@@ -5,18 +5,21 @@
 static void all_of_a_run_or_nothing(void)
 {
     seeded from = seed(4);
-    uint32_t given[12] = { 0 };
+    uint32_t given[12];
     int32_t run[24] = { 0 };
     for (size_t capacity = 1; capacity <= 6; capacity++)
         for (size_t n = 0; n <= capacity; n++)
             for (size_t more = 0; more <= 12; more++) {
                 store s = full_store(&from, 1, 2, capacity, n, TIED);
+                for (size_t i = 0; i < more; i++)
+                    given[i] = reference_of(&s.table, n + i);
                 nearby_tabled entered = try_enter(&s, given, more, (points){ run, 2 * more });
                 CHECK(entered.refusal == (n + more > capacity ? 3 : 0));
                 free_store(&s);
             }
 }
 
+/* The references are all alike, but what is told first is the coordinates. */
 static void runs_with_coordinates_amiss(void)
 {
     seeded from = seed(5);

@@ -5,6 +5,8 @@
 void table_tests(void);
 void table_trial_tests(void);
 void table_refusal_tests(void);
+void repeat_tests(void);
+void long_run_tests(void);
 void example_tests(void);
 void question_tests(void);
 void last_page_tests(void);

@@ -1,6 +1,6 @@
 //! An office that serves tablets over TCP: lines ended by 0A, an answer line to each ask, nothing to a claim that is entered, and
-//! `refused N` to the rest, as the program `office` does. Tablets load lists, every other one from its far end, while another connection
-//! enters claims.
+//! `refused N` to the rest, as the program `office` does. Tablets load lists, every other one from its far end, while two adjusters send
+//! the same claims: each is entered once, and who sent it second is told 17.
 //!
 //!     cargo run --example tcp_office [TABLETS [CLAIMS]]
 
@@ -22,6 +22,7 @@ const NUMBER: u32 = 7;
 const MEASURE: Measure = Measure::Maximum;
 /// As many connections as surely wait until the office takes them up.
 const MOST_TABLETS: usize = 64;
+const ADJUSTERS: usize = 2;
 
 /// The next line with its 0A; a last one without it comes as it is. Of an overlong line the front is kept, one character more than a
 /// line may have, so that it is refused once and takes no more memory.
@@ -85,19 +86,26 @@ fn office(table: &RwLock<Table>, listener: TcpListener, connections: usize) -> O
 
 // ---- those who call it
 
-/// The claim that is entered as number i.
-fn claim(i: usize) -> ClaimLine {
+/// The i-th claim as an adjuster has it: the same reference for both, and points that are a step apart.
+fn claim(i: usize, adjuster: usize) -> ClaimLine {
     let at = i as i32;
-    let coordinates = vec![at.wrapping_mul(7919) % 1000, at.wrapping_mul(104_729) % 1000];
+    let coordinates = vec![at.wrapping_mul(7919) % 1000 + adjuster as i32, at.wrapping_mul(104_729) % 1000];
     ClaimLine { table: NUMBER, measure: MEASURE, reference: 1000 + i as u32, coordinates }
 }
 
-/// Enters claims, and then sends lines that the office has to refuse; gives how many.
-fn adjuster(mut stream: TcpStream, claims: Range<usize>) -> Outcome<usize> {
+/// What an adjuster heard: how many of its claims were in the table already, and how many damaged lines were refused.
+struct Heard {
+    repeated: usize,
+    damaged: usize,
+}
+
+/// Sends claims, and then lines that the office has to refuse.
+fn adjuster(mut stream: TcpStream, claims: Range<usize>, at: usize) -> Outcome<Heard> {
     let mut reader = BufReader::new(stream.try_clone()?);
     for i in claims {
-        stream.write_all(&claim(i).to_line()?)?;
+        stream.write_all(&claim(i, at).to_line()?)?;
     }
+    let mut heard = Heard { repeated: 0, damaged: 0 };
     let elsewhere = ClaimLine { table: NUMBER + 1, measure: MEASURE, reference: 0, coordinates: vec![0, 0] };
     let damaged: [(&[u8], &[u8]); 4] = [
         (b"no digits\n", b"refused 9\n"),
@@ -107,11 +115,21 @@ fn adjuster(mut stream: TcpStream, claims: Range<usize>) -> Outcome<usize> {
     ];
     for (line, expected) in damaged {
         stream.write_all(line)?;
-        if !expected.is_empty() && next_line(&mut reader)?.as_deref() != Some(expected) {
+        if expected.is_empty() {
+            continue;
+        }
+        let mut said = next_line(&mut reader)?;
+        // What the office said to the claims comes first. It is no fault: the other adjuster's claim is in the table.
+        while said.as_deref() == Some(b"refused 17\n") {
+            heard.repeated += 1;
+            said = next_line(&mut reader)?;
+        }
+        if said.as_deref() != Some(expected) {
             return Err("the office did not refuse a line as it should".into());
         }
+        heard.damaged += 1;
     }
-    Ok(damaged.iter().filter(|(_, expected)| !expected.is_empty()).count())
+    Ok(heard)
 }
 
 /// Loads a list to its end; gives it with the number of its pages.
@@ -157,7 +175,8 @@ fn run() -> Outcome<()> {
     let mut table = Table::new(NUMBER, MEASURE, 2, claims)?;
     let early = claims / 3;
     for i in 0..early {
-        table.enter(&[claim(i).reference], &claim(i).coordinates)?;
+        let ClaimLine { reference, coordinates, .. } = claim(i, 0);
+        table.enter(&[reference], &coordinates)?;
     }
     let table = RwLock::new(table);
     let listener = TcpListener::bind("127.0.0.1:0")?;
@@ -165,22 +184,30 @@ fn run() -> Outcome<()> {
     println!("the office listens on {address} and has {early} claims");
 
     // Connected before the office takes them up, so that it never waits for one that does not come.
-    let entering = TcpStream::connect(address)?;
+    let entering = (0..ADJUSTERS).map(|_| TcpStream::connect(address)).collect::<io::Result<Vec<_>>>()?;
     let loading = (0..tablets).map(|_| TcpStream::connect(address)).collect::<io::Result<Vec<_>>>()?;
-    let (refused, loaded) = thread::scope(|scope| -> Outcome<_> {
-        let office = scope.spawn(|| office(&table, listener, tablets + 1));
-        let adjuster = scope.spawn(move || adjuster(entering, early..claims));
+    let (heard, loaded) = thread::scope(|scope| -> Outcome<_> {
+        let office = scope.spawn(|| office(&table, listener, tablets + ADJUSTERS));
+        let adjusters: Vec<_> = entering
+            .into_iter()
+            .enumerate()
+            .map(|(at, stream)| scope.spawn(move || adjuster(stream, early..claims, at)))
+            .collect();
         let tablets: Vec<_> =
             loading.into_iter().enumerate().map(|(at, stream)| scope.spawn(move || tablet(stream, at))).collect();
         let lists = tablets.into_iter().map(|t| t.join().expect("a tablet does not panic")).collect::<Outcome<Vec<_>>>()?;
-        let refused = adjuster.join().expect("the adjuster does not panic")?;
+        let heard = adjusters.into_iter().map(|a| a.join().expect("an adjuster does not panic")).collect::<Outcome<Vec<_>>>()?;
         office.join().expect("the office does not panic")?;
-        Ok((refused, lists))
+        Ok((heard, lists))
     })?;
-    report(&table.into_inner().expect("no thread panicked with the table"), &loaded, refused)
+    let table = table.into_inner().expect("no thread panicked with the table");
+    if table.len() != claims || heard.iter().map(|one| one.repeated).sum::<usize>() != claims - early {
+        return Err("a claim that both adjusters sent is in the table more or less than once".into());
+    }
+    report(&table, &loaded, &heard)
 }
 
-fn report(table: &Table, loaded: &[(List, usize)], refused: usize) -> Outcome<()> {
+fn report(table: &Table, loaded: &[(List, usize)], heard: &[Heard]) -> Outcome<()> {
     for (at, (list, pages)) in loaded.iter().enumerate() {
         if !holds(table, list) {
             return Err(format!("the list of tablet {at} is not what measuring every claim gives").into());
@@ -196,7 +223,10 @@ fn report(table: &Table, loaded: &[(List, usize)], refused: usize) -> Outcome<()
             list.reach()
         );
     }
-    println!("the table has {} claims now; {refused} damaged lines were refused as they should be.", table.len());
+    for (at, Heard { repeated, damaged }) in heard.iter().enumerate() {
+        println!("adjuster {at}: {repeated} claims were there already; {damaged} damaged lines were refused as they should be");
+    }
+    println!("the table has {} claims now, each once.", table.len());
     Ok(())
 }
 

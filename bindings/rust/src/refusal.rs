@@ -52,6 +52,7 @@ refusals! {
     PageDoesNotHold = 14, "the answer's page does not hold";
     ListRoomTooSmall = 15, "the page does not fit what is left of the list's room", "[`List::grow`](crate::List::grow) makes room.";
     Complete = 16, "the list is complete already";
+    RepeatedReference = 17, "a reference that a claim of the table has already, or that stands twice in the run", "Another tablet sent the claim before: show that one.";
 }
 
 impl Refusal {

@@ -88,7 +88,8 @@ impl Table {
 
     /// A table out of its parts, as [`into_parts`](Table::into_parts) gave them: a table that was kept somewhere comes back this way.
     ///
-    /// Refused with [`Refusal::OutOfRange`] and [`Refusal::NotSound`], so that damaged parts never become a table.
+    /// Refused with [`Refusal::OutOfRange`] and [`Refusal::NotSound`], so that damaged parts never become a table. Parts that hold a
+    /// reference twice are not damaged; [`enter`](Table::enter) only keeps one from coming again.
     ///
     /// ```
     /// use nearby::{Measure, Refusal, Table};
@@ -160,9 +161,23 @@ impl Table {
         &self.nodes[..self.header.used * NODE]
     }
 
-    /// Enters a run of claims, whole or not at all: a reference and d coordinates for each.
+    /// Enters a run of claims, whole or not at all: a reference and d coordinates for each. Every reference has to be new, to the
+    /// table and within the run.
     ///
-    /// Refused with [`Refusal::WrongLength`] and [`Refusal::OverCapacity`].
+    /// Refused with [`Refusal::WrongLength`], [`Refusal::RepeatedReference`] and [`Refusal::OverCapacity`], in this order: a run that
+    /// repeats a reference is told so even where it is too long. Two tablets may send one claim. It is entered once, and who comes second
+    /// has nothing to send again: the claim is in the table, and can be shown.
+    ///
+    /// ```
+    /// use nearby::{Measure, Refusal, Table};
+    ///
+    /// let mut table = Table::new(7, Measure::CityBlock, 2, 100)?;
+    /// table.enter(&[500], &[30, 41])?;
+    /// assert_eq!(table.enter(&[500], &[30, 42]), Err(Refusal::RepeatedReference));
+    /// let there = (0..table.len()).filter_map(|number| table.claim(number)).find(|claim| claim.reference == 500);
+    /// assert_eq!(there.map(|claim| claim.place), Some(&[30, 41][..]));
+    /// # Ok::<(), Refusal>(())
+    /// ```
     pub fn enter(&mut self, references: &[u32], points: &[i32]) -> Result<(), Refusal> {
         // Safety: the table's memory is borrowed mutably, in three slices that do not overlap; the run is alive and only read.
         let entered = unsafe {

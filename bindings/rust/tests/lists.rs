@@ -285,19 +285,19 @@ fn a_list_from_the_far_end() {
     let mut table = Table::new(7, Measure::CityBlock, 1, 8).unwrap();
     table.enter(&[101, 102, 103, 104, 105], &[2, 3, 9, 6, 5]).unwrap();
     let mut list = List::open(Order::Far, 7, Measure::CityBlock, &[4], 5, 5).unwrap();
-    for (behind, numbers) in [
-        ("0000000000000000000000000002", &[2, 0][..]),
-        ("0100050000000000000002000002", &[2, 0, 3, 1]),
-        ("0100050000000000000001000102", &[2, 0, 3, 1, 4]),
+    for (entered, behind, numbers) in [
+        (106, "0000000000000000000000000002", &[2, 0][..]),
+        (107, "0100050000000000000002000002", &[2, 0, 3, 1]),
+        (108, "0100050000000000000001000102", &[2, 0, 3, 1, 4]),
     ] {
         let ask = list.write_ask(2).unwrap();
         assert_eq!(ask, format!("04000000070101000000040000000000000005{behind}\n").into_bytes());
         list.take(&table.answer(&ask).unwrap()).unwrap();
         assert!(list.items().map(|item| item.number).eq(numbers.iter().copied()));
         // Nearer than all others, and on no page of this list.
-        table.enter(&[106], &[4]).unwrap();
+        table.enter(&[entered], &[4]).unwrap();
     }
-    assert_eq!((list.is_complete(), list.snapshot()), (true, Some(5)));
+    assert_eq!((list.is_complete(), list.snapshot(), table.len()), (true, Some(5), 8));
 }
 
 #[test]

@@ -66,8 +66,9 @@ fn all_of_a_run_is_entered_or_nothing() {
     assert_eq!(table.enter(&[], &[]), Ok(()));
     assert_eq!((table.clone().into_parts(), table.nodes().to_vec()), before);
     assert_eq!(table.enter(&[1, 2], &[0; 4]), Ok(()));
-    assert_eq!(table.enter(&[1], &[0; 2]), Err(Refusal::OverCapacity));
+    assert_eq!(table.enter(&[3], &[0; 2]), Err(Refusal::OverCapacity));
     assert_eq!(table.enter(&[], &[]), Ok(()));
+    assert_eq!(table.len(), 20);
 }
 
 #[test]

@@ -12,4 +12,5 @@ pub mod Elsewhere
 pub mod Answers
 pub mod Queries
 pub mod Demand
+pub mod NoRepeats
 pub mod Examples

@@ -54,6 +54,10 @@ entering-marked =
       nothingEntered = refl;
       full3 = refl;
       uneven5 = refl;
+      first5 = refl;
+      first2 = refl;
+      first1 = refl;
+      fills0 = refl;
       known17 = refl;
       twice17 = refl;
       unused0 = refl;
@@ -62,10 +66,6 @@ entering-marked =
       twins17 = refl;
       first17 = refl;
       known5 = refl;
-      first5 = refl;
-      first2 = refl;
-      first1 = refl;
-      fills0 = refl;
     }
 
 -- ---- nearest, farthest and a page

@@ -147,6 +147,12 @@ pub record EnteringMarked : Type 0 where
   pub nothingEntered : enterCall fiveStored [] [] ≡ gives fiveStored
   pub full3 : enterCall fiveStored (106 ∷ 107 ∷ []) (pos 4 ∷ pos 4 ∷ []) ≡ refused 3
   pub uneven5 : enterCall fiveStored (106 ∷ []) (pos 4 ∷ pos 4 ∷ []) ≡ refused 5
+  -- with too many claims; with a room changed; with memory too small
+  pub first5 : enterCall fiveStored (106 ∷ 107 ∷ []) (pos 4 ∷ []) ≡ refused 5
+  pub first2 : enterCall changed (106 ∷ []) (pos 4 ∷ pos 4 ∷ []) ≡ refused 2
+  pub first1 : enterCall short (106 ∷ []) (pos 4 ∷ []) ≡ refused 1
+  -- [8.3] a run that just fills the table
+  pub fills0 : number (enterCall fiveStored (106 ∷ []) (pos 4 ∷ [])) ≡ 0
   -- [8.17] a reference of the table; one that the run has twice, another between; one that only unused memory holds
   pub known17 : enterCall fiveStored (103 ∷ []) four ≡ refused 17
   pub twice17 : enterCall none (106 ∷ 107 ∷ 106 ∷ []) (pos 4 ∷ pos 5 ∷ pos 6 ∷ []) ≡ refused 17
@@ -155,14 +161,9 @@ pub record EnteringMarked : Type 0 where
   pub twinsTested : passed twins ≡ gives (header 1 1 6 5 3)
   pub twinsEnter0 : number (enterCall twins (103 ∷ []) four) ≡ 0
   pub twins17 : enterCall twins (101 ∷ []) four ≡ refused 17
-  -- with too many claims; with a reference of the table; with too many claims; with a room changed; with memory too small
+  -- with too many claims; and where the run has not d coordinates for each
   pub first17 : enterCall fiveStored (106 ∷ 106 ∷ []) wide ≡ refused 17
   pub known5 : enterCall fiveStored (103 ∷ []) wide ≡ refused 5
-  pub first5 : enterCall fiveStored (106 ∷ 107 ∷ []) (pos 4 ∷ []) ≡ refused 5
-  pub first2 : enterCall changed (106 ∷ []) (pos 4 ∷ pos 4 ∷ []) ≡ refused 2
-  pub first1 : enterCall short (106 ∷ []) (pos 4 ∷ []) ≡ refused 1
-  -- [8.3] a run that just fills the table
-  pub fills0 : number (enterCall fiveStored (106 ∷ []) (pos 4 ∷ [])) ≡ 0
 
 -- ---- [9.7] nearest and farthest; [9.8] a page
 

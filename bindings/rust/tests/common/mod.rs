@@ -140,14 +140,25 @@ pub fn filled(from: &mut Seeded, measure: Measure, d: usize, capacity: usize, n:
         let run = if left > 200 { left } else { 1 + from.below(left) };
         enter(from, &mut table, &mut claims, run, style);
     }
+    assert_eq!(table.len(), n);
     (table, claims)
 }
 
+/// The reference that a generated table's claim gets: it looks like any other number. Each step can be undone, so no two of a table are
+/// alike.
+pub fn reference(table: &Table, claim: usize) -> u32 {
+    let mut x = table.number().wrapping_add(claim as u32);
+    x = (x ^ (x >> 16)).wrapping_mul(0x85eb_ca6b);
+    x = (x ^ (x >> 13)).wrapping_mul(0xc2b2_ae35);
+    x ^ (x >> 16)
+}
+
 pub fn enter(from: &mut Seeded, table: &mut Table, claims: &mut Claims, n: usize, style: Style) {
-    let references: Vec<u32> = (0..n).map(|_| from.next() as u32).collect();
+    let references: Vec<u32> = (table.len()..table.len() + n).map(|claim| reference(table, claim)).collect();
     let run = drawn(from, style, n * claims.d);
     table.enter(&references, &run).unwrap();
     claims.all.extend(references.into_iter().zip(run.chunks(claims.d).map(<[i32]>::to_vec)));
+    assert_eq!(table.len(), claims.all.len());
 }
 
 /// [3.3] A node of the tree.

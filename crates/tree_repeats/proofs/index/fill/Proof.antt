@@ -12,11 +12,6 @@ use Rattle.tree_repeats.proofs.EachTested.{Below, below-none, below-mor
 use Rattle.tree_repeats.proofs.Chains.{index-part}
 use Rattle.tree_repeats.proofs.index.fill.Statement.{statement}
 use Rattle.tree_repeats.proofs.index.fill.Tie as tie
-use Rattle.tree_repeats.proofs.index.fill.Reads as reads
-use Rattle.tree_repeats.proofs.index.fill.Lts as lts
-use Rattle.tree.proofs.rows.reference.Reads as reference-reads
-use Rattle.tree_repeats.proofs.index.lacks.Reads as lacks-reads
-use Rattle.tree_repeats.proofs.index.put.Reads as put-reads
 
 -- the part that is lent is the first i references
 part-is : (given : List ℕ) (i : ℕ) → take (i - 0) given ≡ take i given
@@ -37,39 +32,30 @@ Inv-loop heads₀ links₀ given i₀ heads links i =
 abbrev μ-loop : tie.MeasureT-loop
 μ-loop heads₀ links₀ given i₀ heads links i = length given - i
 
--- src/index.rt:73:5
 loop-holds : tie.Need-loop-holds Inv-loop μ-loop
 loop-holds c = ((refl, refl), (c .before .before .before .pre .0, below-none _))
 
--- src/index.rt:74:33
 sub-lacks : tie.Need-sub-lacks Inv-loop μ-loop
 sub-lacks c = omega arith
 
--- src/index.rt:74:33
 part-lacks-start : tie.Need-part-lacks-start Inv-loop μ-loop
 part-lacks-start c = omega arith
 
--- src/index.rt:74:33
 part-lacks-end : tie.Need-part-lacks-end Inv-loop μ-loop
 part-lacks-end c = omega arith
 
--- src/index.rt:74:47
 reference-requires : tie.Need-reference-requires Inv-loop μ-loop
 reference-requires c κs = omega arith
 
--- src/index.rt:74:13
 lacks-requires : tie.Need-lacks-requires Inv-loop μ-loop
 lacks-requires c κs = index-part _ _ _ _ (c .before .before .before .before .before .loop .inv .1 .0) _ (part-is (c .before .before .before .before .before .before .before .before .before .args .given .now) (c .before .before .before .before .before .loop .i))
 
--- src/index.rt:75:13
 same-length : tie.Need-same-length Inv-loop μ-loop
 same-length c = c .before .before .before .before .before .before .before .loop .inv .0 .0
 
--- src/index.rt:75:13
 same-length-2 : tie.Need-same-length-2 Inv-loop μ-loop
 same-length-2 c = c .before .before .before .before .before .before .before .loop .inv .0 .1
 
--- src/index.rt:75:13
 returns : tie.Need-returns Inv-loop μ-loop
 unfolding Differ
 returns c = (
@@ -78,22 +64,18 @@ returns c = (
   λ t. absurd (no-way (sym t)),
 )
 
--- src/index.rt:77:9
 put-requires : tie.Need-put-requires Inv-loop μ-loop
 put-requires c κs =
     let v = c .before .before .before .before .before .before .before .before .before .loop .inv in
     let p = c .before .before .before .before .before .before .before .before .before .before .before .before .before .pre in
     (v .1 .0, (omega arith, (omega (arith, v .0 .1, p .1 .0), omega (arith, p .1 .1))))
 
--- src/index.rt:78:9
 add-i : tie.Need-add-i Inv-loop μ-loop
 add-i c = omega arith
 
--- src/index.rt:73:5
 loop-less : tie.Need-loop-less Inv-loop μ-loop
 loop-less c = omega arith
 
--- src/index.rt:73:5
 loop-again : tie.Need-loop-again Inv-loop μ-loop
 loop-again c =
     let v = c .before .before .before .before .before .before .before .before .before .before .before .before .before .before .loop .inv in
@@ -102,15 +84,12 @@ loop-again c =
     let new = rw (part-lacks _ _ _ _ (c .before .before .before .before .before .before .before .before .before .reference .ensures)) at (tells .yes (not-false _ (c .before .before .before .before .before .before .before .if1 .left))) in
     ((put .kept .0 ∙ v .0 .0, put .kept .1 .0 ∙ v .0 .1), (put .ensures, below-more (AtEarlier _) _ (v .1 .1) new))
 
--- src/index.rt:67:1
 same-length-3 : tie.Need-same-length-3 Inv-loop μ-loop
 same-length-3 c = c .before .loop .inv .0 .0
 
--- src/index.rt:67:1
 same-length-4 : tie.Need-same-length-4 Inv-loop μ-loop
 same-length-4 c = c .before .loop .inv .0 .1
 
--- src/index.rt:67:1
 returns-2 : tie.Need-returns-2 Inv-loop μ-loop
 unfolding Differ
 returns-2 c =

@@ -1,14 +1,10 @@
+-- `tree_repeats::index::lacks` meets its contract: the search along a bucket's chain passes every reference of the bucket. Assumes nothing.
 use borrow.Author.Needs.{needs}
 use lib.ListN.{length}
 use native.Mathlib.Omega.{arith}
 use Rattle.tree_repeats.proofs.Chains.{Passed, search-starts, search-goes-on, search-falls, search-finds, search-ends}
 use Rattle.tree_repeats.proofs.index.lacks.Statement.{statement}
 use Rattle.tree_repeats.proofs.index.lacks.Tie as tie
-use Rattle.tree_repeats.proofs.index.lacks.Reads as reads
-use Rattle.tree_repeats.proofs.index.lacks.Lts as lts
-use Rattle.tree.proofs.rows.reference.Reads as reference-reads
-use Rattle.tree_repeats.proofs.index.bucket.Reads as bucket-reads
-use Rattle.tree_repeats.proofs.index.wide.Reads as wide-reads
 
 abbrev Inv-loop : tie.InvT-loop
 Inv-loop heads links indexed r x₀ x = Passed indexed r (length indexed) x
@@ -16,65 +12,50 @@ Inv-loop heads links indexed r x₀ x = Passed indexed r (length indexed) x
 abbrev μ-loop : tie.MeasureT-loop
 μ-loop heads links indexed r x₀ x = x
 
--- src/index.rt:31:28
 bucket-requires : tie.Need-bucket-requires Inv-loop μ-loop
 bucket-requires c κs = search needs
 
--- src/index.rt:31:22
 mul-wide : tie.Need-mul-wide Inv-loop μ-loop
 mul-wide c = search needs
 
--- src/index.rt:31:22
 shared-slice-read-wide : tie.Need-shared-slice-read-wide Inv-loop μ-loop
 shared-slice-read-wide c = search needs
 
--- src/index.rt:31:9
 wide-requires : tie.Need-wide-requires Inv-loop μ-loop
 wide-requires c κs = search needs
 
--- src/index.rt:32:5
 loop-holds : tie.Need-loop-holds Inv-loop μ-loop
 loop-holds c = search-starts _ _ _ _ _ (c .before .before .before .before .before .before .pre) _ _ (c .before .before .bucket .ensures .0) (c .wide .ensures)
 
--- src/index.rt:33:31
 sub-reference : tie.Need-sub-reference Inv-loop μ-loop
 sub-reference c = search needs
 
--- src/index.rt:33:12
 reference-requires : tie.Need-reference-requires Inv-loop μ-loop
 reference-requires c κs = search needs
 
--- src/index.rt:34:13
 returns : tie.Need-returns Inv-loop μ-loop
 returns c = search-finds _ _ _ _ (omega (arith, c .before .before .before .loop .inv .before)) (c .before .reference .ensures) (c .if1 .taken)
 
--- src/index.rt:36:24
 sub-wide : tie.Need-sub-wide Inv-loop μ-loop
 sub-wide c = search needs
 
--- src/index.rt:36:18
 mul-wide-2 : tie.Need-mul-wide-2 Inv-loop μ-loop
 mul-wide-2 c = search needs
 
--- src/index.rt:36:18
 shared-slice-read-wide-2 : tie.Need-shared-slice-read-wide-2 Inv-loop μ-loop
 shared-slice-read-wide-2 c = search needs
 
--- src/index.rt:36:9
 wide-requires-2 : tie.Need-wide-requires-2 Inv-loop μ-loop
 wide-requires-2 c κs = search needs
 
--- src/index.rt:32:5
 loop-less : tie.Need-loop-less Inv-loop μ-loop
 loop-less c =
     search-falls _ _ _ _ _ (c .before .before .before .before .before .before .before .before .before .before .before .before .pre) _ _ _ (c .before .before .before .before .before .loop .inv) (c .before .before .before .before .loop-test .taken) (c .before .before .before .reference .ensures) (c .before .before .if1 .left) (c .wide2 .ensures)
 
--- src/index.rt:32:5
 loop-again : tie.Need-loop-again Inv-loop μ-loop
 loop-again c =
     search-goes-on _ _ _ _ _ (c .before .before .before .before .before .before .before .before .before .before .before .before .pre) _ _ _ (c .before .before .before .before .before .loop .inv) (c .before .before .before .before .loop-test .taken) (c .before .before .before .reference .ensures) (c .before .before .if1 .left) (c .wide2 .ensures)
 
--- src/index.rt:27:1
 returns-2 : tie.Need-returns-2 Inv-loop μ-loop
 returns-2 c = search-ends _ _ _ (c .before .loop .inv) (c .loop-test .left)
 

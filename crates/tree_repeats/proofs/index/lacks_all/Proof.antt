@@ -9,10 +9,6 @@ use Rattle.tree_repeats.specs.NewReferences.{Lacks}
 use Rattle.tree_repeats.proofs.EachTested.{Below, below-none, below-more, below-fails, below-all}
 use Rattle.tree_repeats.proofs.index.lacks_all.Statement.{statement}
 use Rattle.tree_repeats.proofs.index.lacks_all.Tie as tie
-use Rattle.tree_repeats.proofs.index.lacks_all.Reads as reads
-use Rattle.tree_repeats.proofs.index.lacks_all.Lts as lts
-use Rattle.tree.proofs.rows.reference.Reads as reference-reads
-use Rattle.tree_repeats.proofs.index.lacks.Reads as lacks-reads
 
 -- reference k of the others is none of those that are indexed
 abbrev AtOther : List ℕ → List ℕ → ℕ → Type 0
@@ -24,38 +20,30 @@ Inv-loop heads links indexed others n k₀ k = (k ≤ n) × Below (AtOther index
 abbrev μ-loop : tie.MeasureT-loop
 μ-loop heads links indexed others n k₀ k = n - k
 
--- src/index.rt:47:5
 loop-holds : tie.Need-loop-holds Inv-loop μ-loop
 loop-holds c = (omega arith, below-none _)
 
--- src/index.rt:48:42
 reference-requires : tie.Need-reference-requires Inv-loop μ-loop
 reference-requires c κs = omega (arith, c .before .before .before .before .before .before .pre .1)
 
--- src/index.rt:48:13
 lacks-requires : tie.Need-lacks-requires Inv-loop μ-loop
 lacks-requires c κs = c .before .before .before .before .before .before .before .pre .0
 
--- src/index.rt:49:13
 returns : tie.Need-returns Inv-loop μ-loop
 returns c =
     below-fails _ _ _ (c .before .before .before .loop-test .taken)
     (λ p. c .before .lacks .ensures .no (not-true _ (c .if1 .taken)) (rw (c .before .before .reference .ensures) p))
 
--- src/index.rt:51:9
 add-k : tie.Need-add-k Inv-loop μ-loop
 add-k c = omega arith
 
--- src/index.rt:47:5
 loop-less : tie.Need-loop-less Inv-loop μ-loop
 loop-less c = omega arith
 
--- src/index.rt:47:5
 loop-again : tie.Need-loop-again Inv-loop μ-loop
 loop-again c =
     (omega arith, below-more _ _ (c .before .before .before .before .loop .inv .1) (rw (c .before .before .reference .ensures) at (c .before .lacks .ensures .yes (not-false _ (c .if1 .left)))))
 
--- src/index.rt:42:1
 returns-2 : tie.Need-returns-2 Inv-loop μ-loop
 returns-2 c =
     let end : c .before .loop .k ≡ c .before .before .before .before .before .before .args .n = omega (arith, c .before .loop .inv .0) in

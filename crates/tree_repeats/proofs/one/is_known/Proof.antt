@@ -1,3 +1,4 @@
+-- `tree_repeats::one::is_known` meets its contract: what was found among the first i. Assumes nothing.
 use Prim.Native.Nat.{_≤_, _<_, _-_}
 use mathlib.Core.Path.{_≡_}
 use borrow.Author.Needs.{needs}
@@ -7,10 +8,6 @@ use Rattle.paper.specs.References.{isAmong}
 use Rattle.tree_repeats.proofs.Among.{search-more, search-all}
 use Rattle.tree_repeats.proofs.one.is_known.Statement.{statement}
 use Rattle.tree_repeats.proofs.one.is_known.Tie as tie
-use Rattle.tree_repeats.proofs.one.is_known.Reads as reads
-use Rattle.tree_repeats.proofs.one.is_known.Lts as lts
-use Rattle.tree.proofs.rows.reference.Reads as reference-reads
-use Rattle.tree_repeats.proofs.one.wide.Reads as wide-reads
 
 abbrev Inv-loop : tie.InvT-loop
 Inv-loop references n r wanted known₀ i₀ known i = (i ≤ n) × (known ≡ isAmong (take i references) r)
@@ -18,28 +15,22 @@ Inv-loop references n r wanted known₀ i₀ known i = (i ≤ n) × (known ≡ i
 abbrev μ-loop : tie.MeasureT-loop
 μ-loop references n r wanted known₀ i₀ known i = n - i
 
--- src/one.rt:20:9
 wide-requires : tie.Need-wide-requires Inv-loop μ-loop
 wide-requires c κs = search needs
 
--- src/one.rt:23:5
 loop-holds : tie.Need-loop-holds Inv-loop μ-loop
 unfolding isAmong
 loop-holds c = search needs
 
--- src/one.rt:24:26
 reference-requires : tie.Need-reference-requires Inv-loop μ-loop
 reference-requires c κs = search needs
 
--- src/one.rt:25:9
 add-i : tie.Need-add-i Inv-loop μ-loop
 add-i c = search needs
 
--- src/one.rt:23:5
 loop-less : tie.Need-loop-less Inv-loop μ-loop
 loop-less c = search needs
 
--- src/one.rt:23:5
 loop-again : tie.Need-loop-again Inv-loop μ-loop
 loop-again c =
     let v = c .before .before .loop .inv in
@@ -47,7 +38,6 @@ loop-again c =
     let inside : c .before .before .loop .i < length (a .references .now) = omega (arith, v .0) in
     (omega arith, search-more _ _ _ _ (v .1) inside _ _ (c .reference .ensures) (c .before .before .before .wide .ensures))
 
--- src/one.rt:16:1
 returns : tie.Need-returns Inv-loop μ-loop
 returns c =
     let v = c .before .loop .inv in

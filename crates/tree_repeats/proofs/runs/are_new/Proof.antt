@@ -9,10 +9,6 @@ use Rattle.tree_repeats.proofs.Among.{anew-is, is-anew}
 use Rattle.tree_repeats.proofs.Windows.{AllNew, new-further}
 use Rattle.tree_repeats.proofs.runs.are_new.Statement.{statement}
 use Rattle.tree_repeats.proofs.runs.are_new.Tie as tie
-use Rattle.tree_repeats.proofs.runs.are_new.Reads as reads
-use Rattle.tree_repeats.proofs.runs.are_new.Lts as lts
-use Rattle.tree_repeats.proofs.runs.window_end.Reads as window-end-reads
-use Rattle.tree_repeats.proofs.runs.window_is_new.Reads as window-is-new-reads
 
 abbrev Inv-loop : tie.InvT-loop
 Inv-loop references n given from₀ from = (from ≤ length given) × AllNew (take n references) given 0 from
@@ -20,37 +16,30 @@ Inv-loop references n given from₀ from = (from ≤ length given) × AllNew (ta
 abbrev μ-loop : tie.MeasureT-loop
 μ-loop references n given from₀ from = length given - from
 
--- src/runs.rt:49:5
 loop-holds : tie.Need-loop-holds Inv-loop μ-loop
 loop-holds c = (omega arith, λ i h l. absurd (omega arith))
 
--- src/runs.rt:50:13
 window-end-requires : tie.Need-window-end-requires Inv-loop μ-loop
 window-end-requires c κs = omega arith
 
--- src/runs.rt:51:13
 window-is-new-requires : tie.Need-window-is-new-requires Inv-loop μ-loop
 window-is-new-requires c κs = (c .window-end .ensures .window, c .before .before .before .before .before .pre)
 
--- src/runs.rt:52:13
 returns : tie.Need-returns Inv-loop μ-loop
 returns c =
     let w = c .before .before .window-end .ensures .window in
     sym (refuted _ (λ e. c .before .window-is-new .ensures .no (not-true _ (c .if1 .taken)) (λ i h l. anew-is _ _ e i (omega (arith, w .inside)))))
 
--- src/runs.rt:49:5
 loop-less : tie.Need-loop-less Inv-loop μ-loop
 loop-less c =
     let w = c .before .before .window-end .ensures in
     omega (arith, w .some, w .window .inside)
 
--- src/runs.rt:49:5
 loop-again : tie.Need-loop-again Inv-loop μ-loop
 loop-again c =
     let w = c .before .before .window-end .ensures .window in
     (w .inside, new-further _ _ _ _ (c .before .before .before .before .loop .inv .1) (c .before .window-is-new .ensures .yes (not-false _ (c .if1 .left))))
 
--- src/runs.rt:44:1
 returns-2 : tie.Need-returns-2 Inv-loop μ-loop
 returns-2 c =
     let v = c .before .loop .inv in

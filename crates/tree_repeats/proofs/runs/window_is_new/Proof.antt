@@ -2,7 +2,6 @@
 use Prim.Native.Nat.{ℕ, _+_, _-_, _≤_}
 use mathlib.Core.List.{List}
 use native.Mathlib.Omega.{arith}
-use native.Mathlib.Nat.{le-refl}
 use lib.Dec.{lit≤}
 use lib.ListN.{length, take, drop, replicate, length-replicate}
 use borrow.Author.Tests.{not-true, not-false}
@@ -14,12 +13,7 @@ use Rattle.tree_repeats.proofs.Windows.{part-length, new-differ, new-kn
 use borrow.Author.Needs.{needs}
 use Rattle.tree_repeats.proofs.runs.window_is_new.Statement.{statement}
 use Rattle.tree_repeats.proofs.runs.window_is_new.Tie as tie
-use Rattle.tree_repeats.proofs.runs.window_is_new.Reads as reads
-use Rattle.tree_repeats.proofs.runs.window_is_new.Lts as lts
-use Rattle.tree_repeats.proofs.index.fill.Reads as fill-reads
-use Rattle.tree_repeats.proofs.index.lacks_all.Reads as lacks-all-reads
 
--- src/runs.rt:21:18
 -- the window fits the index
 window-fits : (given : List ℕ) (from to : ℕ) → Window (length given) from to
     → (length (take (to - from) (drop from given)) ≤ length (replicate {A = ℕ} mostClaims 0)) × (length (take (to - from) (drop from given)) ≤ mostClaims)
@@ -30,27 +24,21 @@ window-fits given from to w =
 mul-window : tie.Need-mul-window
 mul-window c = search needs
 
--- src/runs.rt:21:18
 sub-window : tie.Need-sub-window
 sub-window c = search needs
 
--- src/runs.rt:21:18
 part-window-start : tie.Need-part-window-start
 part-window-start c = search needs
 
--- src/runs.rt:21:18
 part-window-end : tie.Need-part-window-end
 part-window-end c = search needs
 
--- src/runs.rt:22:14
 slice-aggregate-fill : tie.Need-slice-aggregate-fill
 slice-aggregate-fill c = search needs
 
--- src/runs.rt:22:26
 slice-aggregate-fill-2 : tie.Need-slice-aggregate-fill-2
 slice-aggregate-fill-2 c = search needs
 
--- src/runs.rt:22:9
 fill-requires : tie.Need-fill-requires
 fill-requires c κs =
     let start = c .before .before .before .before .before in
@@ -58,59 +46,46 @@ fill-requires c κs =
     let w = start .pre .0 in
     (index-none mostClaims _ _ (lit≤ tt), window-fits (a .given .now) (a .from) (a .to) w)
 
--- src/runs.rt:23:9
 returns : tie.Need-returns
 returns c =
     let start = c .before .before .before .before .before .before .before .before .before in
     tells-no (λ new. c .before .before .before .fill .ensures .0 .no (not-true _ (c .if1 .taken)) (new-differ _ _ _ _ _ (start .pre .1) (start .pre .0) new))
 
--- src/runs.rt:25:19
 slice-aggregate-lacks-all : tie.Need-slice-aggregate-lacks-all
 slice-aggregate-lacks-all c = search needs
 
--- src/runs.rt:25:27
 slice-aggregate-lacks-all-2 : tie.Need-slice-aggregate-lacks-all-2
 slice-aggregate-lacks-all-2 c = search needs
 
--- src/runs.rt:25:9
 lacks-all-requires : tie.Need-lacks-all-requires
 lacks-all-requires c κs = (c .before .before .before .before .before .fill .ensures .1 (not-false _ (c .before .before .if1 .left)), c .before .before .before .before .before .before .before .before .before .before .before .pre .1)
 
--- src/runs.rt:26:9
 returns-2 : tie.Need-returns-2
 returns-2 c =
     let start = c .before .before .before .before .before .before .before .before .before .before .before .before .before in
     tells-no (λ new. c .before .lacks-all .ensures .no (not-true _ (c .if2 .taken)) (new-known _ _ _ _ _ (start .pre .1) (start .pre .0) new))
 
--- src/runs.rt:28:18
 mul-behind : tie.Need-mul-behind
 mul-behind c = search needs
 
--- src/runs.rt:28:18
 sub-behind : tie.Need-sub-behind
 sub-behind c = search needs
 
--- src/runs.rt:28:18
 part-behind-start : tie.Need-part-behind-start
 part-behind-start c = search needs
 
--- src/runs.rt:28:18
 part-behind-end : tie.Need-part-behind-end
 part-behind-end c = search needs
 
--- src/runs.rt:29:15
 slice-aggregate-lacks-all-3 : tie.Need-slice-aggregate-lacks-all-3
 slice-aggregate-lacks-all-3 c = search needs
 
--- src/runs.rt:29:23
 slice-aggregate-lacks-all-4 : tie.Need-slice-aggregate-lacks-all-4
 slice-aggregate-lacks-all-4 c = search needs
 
--- src/runs.rt:29:5
 lacks-all-requires-2 : tie.Need-lacks-all-requires-2
-lacks-all-requires-2 c κs = (c .before .before .before .before .before .before .before .before .before .before .fill .ensures .1 (not-false _ (c .before .before .before .before .before .before .before .if1 .left)), le-refl _)
+lacks-all-requires-2 c κs = (c .before .before .before .before .before .before .before .before .before .before .fill .ensures .1 (not-false _ (c .before .before .before .before .before .before .before .if1 .left)), omega arith)
 
--- src/runs.rt:15:1
 returns-3 : tie.Need-returns-3
 returns-3 c =
     let start = c .before .before .before .before .before .before .before .before .before .before .before .before .before .before .before .before .before in
