@@ -6,7 +6,7 @@ use mathlib.Core.List.{List, [], _∷_, List·Memᴰ}
 use native.Mathlib.Omega.{arith}
 use lib.Dec.{ltb}
 use lib.IntN.{ℤ}
-use lib.ListN.{length, getD, take, length-take}
+use lib.ListN.{length, getD, length-take}
 use lib.Seq.{getD-take}
 use borrow.Author.Tests.{ltb-true, ltb-false}
 use Rattle.paper.specs.declared.lists.List as lists
@@ -16,7 +16,6 @@ use Rattle.paper.specs.Outcomes.{Outcome, refused, gives, leaves}
 use Rattle.paper.specs.Tree.{Store, claimsIn}
 use Rattle.paper.specs.References.{referencesOf, inForce, anew}
 use Rattle.paper.specs.Runs.{enterCall}
-use Rattle.paper.specs.Ends.{tableOf}
 use Rattle.paper.specs.Lists.{Held, listing, openingHeld, askingHeld}
 use Rattle.paper.specs.Calls.{officeCall}
 use Rattle.paper.specs.Codec.{lines}

@@ -161,7 +161,7 @@ pub record EnteringMarked : Type 0 where
   pub twinsTested : passed twins ≡ gives (header 1 1 6 5 3)
   pub twinsEnter0 : number (enterCall twins (103 ∷ []) four) ≡ 0
   pub twins17 : enterCall twins (101 ∷ []) four ≡ refused 17
-  -- with too many claims; and where the run has not d coordinates for each
+  -- a run that does not fit either; and one that has not d coordinates for each, where 5 comes first
   pub first17 : enterCall fiveStored (106 ∷ 106 ∷ []) wide ≡ refused 17
   pub known5 : enterCall fiveStored (103 ∷ []) wide ≡ refused 5
 

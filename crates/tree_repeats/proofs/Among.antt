@@ -8,10 +8,10 @@ use native.Mathlib.Numerals.{add-one}
 use lib.Dec.{eqb}
 use lib.ListN.{length, getD, take}
 use lib.Seq.{take-suc}
-use borrow.Author.Tests.{eqb-true, eq-eqb, ne-eqb, not-true}
+use borrow.Author.Tests.{eq-eqb, ne-eqb, not-true}
 use Rattle.paper.specs.Tree.{referenceAt}
 use Rattle.paper.specs.References.{isAmong, anew}
-use Rattle.paper.proofs.Tests.{never, and-first, and-second, or-right, false-not}
+use Rattle.paper.proofs.Tests.{never, and-first, and-second, or-right}
 use Rattle.tree_repeats.specs.NewReferences.{Lacks, NewAt}
 
 -- ---- one reference

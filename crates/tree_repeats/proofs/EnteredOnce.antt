@@ -16,7 +16,7 @@ use Rattle.paper.specs.References.{inForce, anew}
 use Rattle.paper.specs.Runs.{enterCall}
 use Rattle.tree.proofs.ClaimsInMemory.{references-append, references-are}
 use Rattle.tree.proofs.RunLaws.{zero-enters, entered-good}
-use Rattle.tree_repeats.specs.NewReferences.{Lacks, NewAt}
+use Rattle.tree_repeats.specs.NewReferences.{Lacks}
 use Rattle.tree_repeats.proofs.Among.{anew-is, is-anew}
 
 -- what is new to a list without repeats, behind it

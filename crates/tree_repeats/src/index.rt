@@ -3,18 +3,20 @@
 ghost use mathlib.Core.Path.{_≡_};
 ghost use mathlib.Core.Bool.{true};
 ghost use Prim.Native.Nat.{ℕ, _+_, _<_, _≤_};
-ghost use lib.ListN.{length, getD};
+ghost use lib.ListN.{length};
 ghost use Rattle.paper.specs.Tree.{referenceAt};
 ghost use Rattle.paper.specs.Limits.{mostClaims};
 ghost use Rattle.tree_repeats.specs.NewReferences.{Lacks, Differ, Decides};
 ghost use Rattle.tree_repeats.specs.Index.{bucketOf, Indexed};
+use paper::limits::MOST_CLAIMS;
 use tree::rows::reference;
 
-// The bucket of a reference, by the upper bits of a product: references that follow each other, or are multiples of some number, spread.
+// The bucket of a reference: bits 20 to 31 of its product with an odd number that has no pattern, so that references which follow each
+// other, or are multiples of some number, spread.
 fn bucket(r: u64) -> usize
     ensures { λ b. ⌜ (b ≡ bucketOf r) × (b < mostClaims) ⌝ }
 {
-    (r % 4294967296 * 2654435761 / 1048576 % 4096) as usize
+    (r % 4294967296 * 2654435761 / 1048576 % MOST_CLAIMS as u64) as usize
 }
 
 fn wide(x: u16) -> usize
@@ -24,7 +26,7 @@ fn wide(x: u16) -> usize
 }
 
 // Whether r is none of the references that are indexed.
-pub fn lacks(heads: &[u16], links: &[u16], indexed: &[u32], r: u64) -> bool
+fn lacks(heads: &[u16], links: &[u16], indexed: &[u32], r: u64) -> bool
     requires { ⌜ Indexed (now heads) (now links) (now indexed) (length (now indexed)) ⌝ }
     ensures { λ b. ⌜ Decides (Lacks (now (indexed .entry)) r) b ⌝ }
 {

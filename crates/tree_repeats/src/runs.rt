@@ -1,10 +1,8 @@
 // The references of a run, which may be of any length: a window of them at a time is indexed, and all others are looked up there.
 ghost use mathlib.Core.Path.{_≡_};
-ghost use mathlib.Core.Bool.{true};
-ghost use Prim.Native.Nat.{ℕ, _+_, _<_, _≤_};
+ghost use Prim.Native.Nat.{ℕ, _<_, _≤_};
 ghost use lib.ListN.{length, take};
 ghost use Rattle.paper.specs.References.{anew};
-ghost use Rattle.paper.specs.Limits.{mostClaims};
 ghost use Rattle.tree_repeats.specs.NewReferences.{NewAt, Decides};
 ghost use Rattle.tree_repeats.specs.Windows.{Window, NextWindow};
 use super::index::fill;

@@ -1,5 +1,5 @@
 -- `tree_repeats::runs::window_is_new` meets its contract: what its index tells of the window, of the table and of what is behind. Assumes nothing.
-use Prim.Native.Nat.{ℕ, _+_, _-_, _≤_}
+use Prim.Native.Nat.{ℕ, _-_, _≤_}
 use mathlib.Core.List.{List}
 use native.Mathlib.Omega.{arith}
 use lib.Dec.{lit≤}
