@@ -19,30 +19,11 @@ use Rattle.paper.specs.Codec.{placeIn, scopeOf, askMeant, answerLine}
 use Rattle.paper.specs.Program.{tableFor, ours, claimIn, withClaim, claimEntering, replyTo, reply, claimTurn, askTurn, frameTurn, lineTurn, lineDone, byte, fed, inputDone, officeStart, program, refusal, decimal}
 use Rattle.paper.specs.FarExamples.{farAsk, farAnswer}
 
-abbrev claim2 : List ℕ
-claim2 =
-    48 ∷ 51 ∷ 48 ∷ 48 ∷ 48 ∷ 48 ∷ 48 ∷ 48 ∷ 48 ∷ 55 ∷ 48 ∷ 49 ∷ 48 ∷ 49 ∷ 48 ∷ 48 ∷ 48 ∷ 48 ∷ 48 ∷ 48 ∷ 54 ∷ 53 ∷ 48 ∷ 48 ∷ 48 ∷ 48 ∷ 48 ∷
-    48 ∷ 48 ∷ 50 ∷ 10 ∷ []
-
-abbrev claim3 : List ℕ
-claim3 =
-    48 ∷ 51 ∷ 48 ∷ 48 ∷ 48 ∷ 48 ∷ 48 ∷ 48 ∷ 48 ∷ 55 ∷ 48 ∷ 49 ∷ 48 ∷ 49 ∷ 48 ∷ 48 ∷ 48 ∷ 48 ∷ 48 ∷ 48 ∷ 54 ∷ 54 ∷ 48 ∷ 48 ∷ 48 ∷ 48 ∷ 48 ∷
-    48 ∷ 48 ∷ 51 ∷ 10 ∷ []
-
-abbrev claim9 : List ℕ
-claim9 =
-    48 ∷ 51 ∷ 48 ∷ 48 ∷ 48 ∷ 48 ∷ 48 ∷ 48 ∷ 48 ∷ 55 ∷ 48 ∷ 49 ∷ 48 ∷ 49 ∷ 48 ∷ 48 ∷ 48 ∷ 48 ∷ 48 ∷ 48 ∷ 54 ∷ 55 ∷ 48 ∷ 48 ∷ 48 ∷ 48 ∷ 48 ∷
-    48 ∷ 48 ∷ 57 ∷ 10 ∷ []
-
-abbrev claim6 : List ℕ
-claim6 =
-    48 ∷ 51 ∷ 48 ∷ 48 ∷ 48 ∷ 48 ∷ 48 ∷ 48 ∷ 48 ∷ 55 ∷ 48 ∷ 49 ∷ 48 ∷ 49 ∷ 48 ∷ 48 ∷ 48 ∷ 48 ∷ 48 ∷ 48 ∷ 54 ∷ 56 ∷ 48 ∷ 48 ∷ 48 ∷ 48 ∷ 48 ∷
-    48 ∷ 48 ∷ 54 ∷ 10 ∷ []
-
-abbrev claim5 : List ℕ
-claim5 =
-    48 ∷ 51 ∷ 48 ∷ 48 ∷ 48 ∷ 48 ∷ 48 ∷ 48 ∷ 48 ∷ 55 ∷ 48 ∷ 49 ∷ 48 ∷ 49 ∷ 48 ∷ 48 ∷ 48 ∷ 48 ∷ 48 ∷ 48 ∷ 54 ∷ 57 ∷ 48 ∷ 48 ∷ 48 ∷ 48 ∷ 48 ∷
-    48 ∷ 48 ∷ 53 ∷ 10 ∷ []
+-- a claim line, by the last digits of its table, its reference, which begins with 6, and its point
+abbrev claimLine : ℕ → ℕ → ℕ → List ℕ
+claimLine table reference point =
+    48 ∷ 51 ∷ 48 ∷ 48 ∷ 48 ∷ 48 ∷ 48 ∷ 48 ∷ 48 ∷ table ∷ 48 ∷ 49 ∷ 48 ∷ 49 ∷ 48 ∷ 48 ∷ 48 ∷ 48 ∷ 48 ∷ 48 ∷ 54 ∷ reference ∷ 48 ∷ 48 ∷ 48 ∷ 48 ∷ 48 ∷
+    48 ∷ 48 ∷ point ∷ 10 ∷ []
 
 abbrev ask : List ℕ
 ask =
@@ -58,19 +39,9 @@ answer =
     48 ∷ 48 ∷ 48 ∷ 48 ∷ 48 ∷ 48 ∷ 48 ∷ 48 ∷ 48 ∷ 48 ∷ 48 ∷ 48 ∷ 48 ∷ 48 ∷ 49 ∷ 48 ∷ 48 ∷ 48 ∷ 52 ∷ 48 ∷ 48 ∷ 48 ∷ 48 ∷ 48 ∷ 48 ∷ 54 ∷ 57 ∷
     48 ∷ 48 ∷ 48 ∷ 48 ∷ 48 ∷ 48 ∷ 48 ∷ 48 ∷ 48 ∷ 48 ∷ 48 ∷ 48 ∷ 48 ∷ 48 ∷ 48 ∷ 49 ∷ 10 ∷ []
 
+-- the five claims of examples a to j, for table 7
 abbrev claims : List ℕ
-claims = claim2 ++ (claim3 ++ (claim9 ++ (claim6 ++ claim5)))
-
--- claim3's reference at another point, and in a line for table 8
-abbrev repeat3 : List ℕ
-repeat3 =
-    48 ∷ 51 ∷ 48 ∷ 48 ∷ 48 ∷ 48 ∷ 48 ∷ 48 ∷ 48 ∷ 55 ∷ 48 ∷ 49 ∷ 48 ∷ 49 ∷ 48 ∷ 48 ∷ 48 ∷ 48 ∷ 48 ∷ 48 ∷ 54 ∷ 54 ∷ 48 ∷ 48 ∷ 48 ∷ 48 ∷ 48 ∷
-    48 ∷ 48 ∷ 52 ∷ 10 ∷ []
-
-abbrev foreign3 : List ℕ
-foreign3 =
-    48 ∷ 51 ∷ 48 ∷ 48 ∷ 48 ∷ 48 ∷ 48 ∷ 48 ∷ 48 ∷ 56 ∷ 48 ∷ 49 ∷ 48 ∷ 49 ∷ 48 ∷ 48 ∷ 48 ∷ 48 ∷ 48 ∷ 48 ∷ 54 ∷ 54 ∷ 48 ∷ 48 ∷ 48 ∷ 48 ∷ 48 ∷
-    48 ∷ 48 ∷ 52 ∷ 10 ∷ []
+claims = claimLine 55 53 50 ++ (claimLine 55 54 51 ++ (claimLine 55 55 57 ++ (claimLine 55 56 54 ++ claimLine 55 57 53)))
 
 -- [10.5] `refused 1`, and a second digit
 abbrev refused1 : ℕ → List ℕ
@@ -94,8 +65,8 @@ pub record ProgramMarked : Type 0 where
   pub sample : program (claims ++ ask) ≡ answer
   -- [10.6] an ask in far order is answered in far order, between asks in near order; an answer, of either kind, is no line for the office
   pub bothKinds : program (claims ++ (farAsk ++ (ask ++ (farAnswer ++ answer)))) ≡ farAnswer ++ (answer ++ (refused1 48 ++ refused1 48))
-  -- [8.17] a reference of the table is refused with 17, and the table stays as it was; in a line for another table it is 11
-  pub repeated : program (claims ++ (repeat3 ++ (foreign3 ++ ask))) ≡ refused1 55 ++ (refused1 49 ++ answer)
+  -- [8.17] a reference of the table, at another point, is refused with 17, and the table stays as it was; in a line for table 8 it is 11
+  pub repeated : program (claims ++ (claimLine 55 54 52 ++ (claimLine 56 54 52 ++ ask))) ≡ refused1 55 ++ (refused1 49 ++ answer)
   -- 17 before 3
   pub full17 : claimEntering fullTable (lineFor 101) ≡ refused 17
   pub full3 : claimEntering fullTable (lineFor 103) ≡ refused 3
