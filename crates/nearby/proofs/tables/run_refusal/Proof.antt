@@ -34,10 +34,11 @@ are-new-requires c κs =
 
 returns-3 : tie.Need-returns-3
 returns-3 c =
-    let tested = c .before .before .before .before .before in
+    let new = c .before in
+    let tested = new .before .before .before .before in
     let a = tested .before .before .before .before .args in
-    run-17 (store (a .t) (a .references .now) (a .coordinates .now) (a .nodes .now)) (a .given .now) (a .points .now) _ (tested .table-refusal .ensures) (c .before .before .before .before .if1 .left) _ (c .before .before .before .is-whole .ensures) (c .before .before .if2 .left) _
-    (c .before .are-new .ensures) (c .if3 .taken)
+    run-17 (store (a .t) (a .references .now) (a .coordinates .now) (a .nodes .now)) (a .given .now) (a .points .now) _ (tested .table-refusal .ensures) (new .before .before .before .if1 .left) _
+    (new .before .before .is-whole .ensures) (new .before .if2 .left) _ (new .are-new .ensures) (c .if3 .taken)
 
 sub-if4 : tie.Need-sub-if4
 sub-if4 c =
@@ -47,10 +48,11 @@ sub-if4 c =
 
 returns-4 : tie.Need-returns-4
 returns-4 c =
-    let tested = c .before .before .before .before .before .before .before in
+    let new = c .before .before .before in
+    let tested = new .before .before .before .before in
     let a = tested .before .before .before .before .args in
-    run-3 (store (a .t) (a .references .now) (a .coordinates .now) (a .nodes .now)) (a .given .now) (a .points .now) _ (tested .table-refusal .ensures) (c .before .before .before .before .before .before .if1 .left) _ (c .before .before .before .before .before .is-whole .ensures) (c .before .before .before .before .if2 .left) _
-    (c .before .before .before .are-new .ensures) (c .before .before .if3 .left) (c .if4 .taken)
+    run-3 (store (a .t) (a .references .now) (a .coordinates .now) (a .nodes .now)) (a .given .now) (a .points .now) _ (tested .table-refusal .ensures) (new .before .before .before .if1 .left) _
+    (new .before .before .is-whole .ensures) (new .before .if2 .left) _ (new .are-new .ensures) (c .before .before .if3 .left) (c .if4 .taken)
 
 sub-if5 : tie.Need-sub-if5
 sub-if5 c =
@@ -60,17 +62,19 @@ sub-if5 c =
 
 returns-5 : tie.Need-returns-5
 returns-5 c =
-    let tested = c .before .before .before .before .before .before .before .before .before in
+    let new = c .before .before .before .before .before in
+    let tested = new .before .before .before .before in
     let a = tested .before .before .before .before .args in
-    run-4 (store (a .t) (a .references .now) (a .coordinates .now) (a .nodes .now)) (a .given .now) (a .points .now) _ (tested .table-refusal .ensures) (c .before .before .before .before .before .before .before .before .if1 .left) _ (c .before .before .before .before .before .before .before .is-whole .ensures) (c .before .before .before .before .before .before .if2 .left) _
-    (c .before .before .before .before .before .are-new .ensures) (c .before .before .before .before .if3 .left) (c .before .before .if4 .left) (c .if5 .taken)
+    run-4 (store (a .t) (a .references .now) (a .coordinates .now) (a .nodes .now)) (a .given .now) (a .points .now) _ (tested .table-refusal .ensures) (new .before .before .before .if1 .left) _
+    (new .before .before .is-whole .ensures) (new .before .if2 .left) _ (new .are-new .ensures) (c .before .before .before .before .if3 .left) (c .before .before .if4 .left) (c .if5 .taken)
 
 returns-6 : tie.Need-returns-6
 returns-6 c =
-    let tested = c .before .before .before .before .before .before .before .before .before in
+    let new = c .before .before .before .before .before in
+    let tested = new .before .before .before .before in
     let a = tested .before .before .before .before .args in
-    run-0 (store (a .t) (a .references .now) (a .coordinates .now) (a .nodes .now)) (a .given .now) (a .points .now) _ (tested .table-refusal .ensures) (c .before .before .before .before .before .before .before .before .if1 .left) _ (c .before .before .before .before .before .before .before .is-whole .ensures) (c .before .before .before .before .before .before .if2 .left) _
-    (c .before .before .before .before .before .are-new .ensures) (c .before .before .before .before .if3 .left) (c .before .before .if4 .left) (c .if5 .left)
+    run-0 (store (a .t) (a .references .now) (a .coordinates .now) (a .nodes .now)) (a .given .now) (a .points .now) _ (tested .table-refusal .ensures) (new .before .before .before .if1 .left) _
+    (new .before .before .is-whole .ensures) (new .before .if2 .left) _ (new .are-new .ensures) (c .before .before .before .before .if3 .left) (c .before .before .if4 .left) (c .if5 .left)
 
 pub run-refusal-spec : {M : Type 1} → statement M
 run-refusal-spec =

@@ -51,12 +51,13 @@ same-length-3 c = search needs
 
 returns-2 : tie.Need-returns-2
 returns-2 c =
-    let ours = c .before .before .before .before .before .before .before .before in
+    let known = c .before .before .before .before .before in
+    let ours = known .before .before .before in
     let start = ours .before .before .before .before .before .before in
     let a = start .args in
     claim-17 (store (a .t) (a .references .now) (a .coordinates .now) (a .nodes .now)) (a .c) (start .pre .serving .ready) (start .pre .range) _
-    (ours .before .before .header-for .ensures) _ (ours .is-ours .ensures) (a .out .now) (a .at) (c .before .before .before .before .before .before .before .if1 .left) _ (c .before .before .before .before .before .is-known .ensures)
-    (c .before .before .before .before .if2 .taken) _ _ (c .before .before .refuse2 .ensures)
+    (ours .before .before .header-for .ensures) _ (ours .is-ours .ensures) (a .out .now) (a .at) (known .before .before .if1 .left) _
+    (known .is-known .ensures) (c .before .before .before .before .if2 .taken) _ _ (c .before .before .refuse2 .ensures)
 
 refuse-requires-3 : tie.Need-refuse-requires-3
 refuse-requires-3 c κs = search needs
@@ -69,12 +70,13 @@ same-length-5 c = search needs
 
 returns-3 : tie.Need-returns-3
 returns-3 c =
-    let ours = c .before .before .before .before .before .before .before .before .before .before in
+    let known = c .before .before .before .before .before .before .before in
+    let ours = known .before .before .before in
     let start = ours .before .before .before .before .before .before in
     let a = start .args in
     claim-3 (store (a .t) (a .references .now) (a .coordinates .now) (a .nodes .now)) (a .c) (start .pre .serving .ready) (start .pre .range) _
-    (ours .before .before .header-for .ensures) _ (ours .is-ours .ensures) (a .out .now) (a .at) (c .before .before .before .before .before .before .before .before .before .if1 .left) _ (c .before .before .before .before .before .before .before .is-known .ensures)
-    (c .before .before .before .before .before .before .if2 .left) (c .before .before .before .before .if3 .taken) _ _ (c .before .before .refuse3 .ensures)
+    (ours .before .before .header-for .ensures) _ (ours .is-ours .ensures) (a .out .now) (a .at) (known .before .before .if1 .left) _
+    (known .is-known .ensures) (c .before .before .before .before .before .before .if2 .left) (c .before .before .before .before .if3 .taken) _ _ (c .before .before .refuse3 .ensures)
 
 slice-aggregate-add : tie.Need-slice-aggregate-add
 slice-aggregate-add c = search (needs, c .before .before .before .before .before .before .before .before .before .before .before .before .before .before .before .before .before .good .1 .1 .1 .1 .0)
@@ -83,11 +85,12 @@ add-requires : tie.Need-add-requires
 add-requires c κs =
     let a = c .before .before .before .before .before .before .before .before .before .before .before .before .before .before .before .before .before .args in
     let eight : 7 < length (a .c .coordinates) = search (needs, c .before .before .before .before .before .before .before .before .before .before .before .before .before .before .before .before .before .good .1 .1 .1 .1 .0) in
-    let ours = c .before .before .before .before .before .before .before .before .before .before .before in
+    let known = c .before .before .before .before .before .before .before .before in
+    let ours = known .before .before .before in
     let start = ours .before .before .before .before .before .before in
     add-ready (store (a .t) (a .references .now) (a .coordinates .now) (a .nodes .now)) (a .c) (start .pre .serving .ready) (start .pre .range) _
-    (ours .before .before .header-for .ensures) _ (ours .is-ours .ensures) (a .out .now) (a .at) (c .before .before .before .before .before .before .before .before .before .before .if1 .left) _ (c .before .before .before .before .before .before .before .before .is-known .ensures)
-    (c .before .before .before .before .before .before .before .if2 .left) (c .before .before .before .before .before .if3 .left) eight
+    (ours .before .before .header-for .ensures) _ (ours .is-ours .ensures) (a .out .now) (a .at) (known .before .before .if1 .left) _
+    (known .is-known .ensures) (c .before .before .before .before .before .before .before .if2 .left) (c .before .before .before .before .before .if3 .left) eight
 
 same-length-6 : tie.Need-same-length-6
 same-length-6 c = search needs
@@ -102,12 +105,13 @@ returns-4 : tie.Need-returns-4
 returns-4 c =
     let a = c .before .before .before .before .before .before .before .before .before .before .before .before .before .before .before .before .before .before .before .before .before .before .before .args in
     let eight : 7 < length (a .c .coordinates) = search (needs, c .before .before .before .before .before .before .before .before .before .before .before .before .before .before .before .before .before .before .before .before .before .before .before .good .1 .1 .1 .1 .0) in
-    let ours = c .before .before .before .before .before .before .before .before .before .before .before .before .before .before .before .before .before in
+    let known = c .before .before .before .before .before .before .before .before .before .before .before .before .before .before in
+    let ours = known .before .before .before in
     let start = ours .before .before .before .before .before .before in
     claim-in (store (a .t) (a .references .now) (a .coordinates .now) (a .nodes .now)) (a .c) (start .pre .serving .ready) (start .pre .range) _
-    (ours .before .before .header-for .ensures) _ (ours .is-ours .ensures) (a .out .now) (a .at) (c .before .before .before .before .before .before .before .before .before .before .before .before .before .before .before .before .if1 .left) _ (c .before .before .before .before .before .before .before .before .before .before .before .before .before .before .is-known .ensures)
-    (c .before .before .before .before .before .before .before .before .before .before .before .before .before .if2 .left) (c .before .before .before .before .before .before .before .before .before .before .before .if3 .left) eight _
-    (c .before .before .before .before .before .add .ensures) (omega (arith, start .pre .serving .room))
+    (ours .before .before .header-for .ensures) _ (ours .is-ours .ensures) (a .out .now) (a .at) (known .before .before .if1 .left) _
+    (known .is-known .ensures) (c .before .before .before .before .before .before .before .before .before .before .before .before .before .if2 .left)
+    (c .before .before .before .before .before .before .before .before .before .before .before .if3 .left) eight _ (c .before .before .before .before .before .add .ensures) (omega (arith, start .pre .serving .room))
 
 pub take-claim-spec : {M : Type 1} → statement M
 take-claim-spec =

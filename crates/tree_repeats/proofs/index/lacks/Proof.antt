@@ -50,11 +50,15 @@ wide-requires-2 c κs = search needs
 
 loop-less : tie.Need-loop-less Inv-loop μ-loop
 loop-less c =
-    search-falls _ _ _ _ _ (c .before .before .before .before .before .before .before .before .before .before .before .before .pre) _ _ _ (c .before .before .before .before .before .loop .inv) (c .before .before .before .before .loop-test .taken) (c .before .before .before .reference .ensures) (c .before .before .if1 .left) (c .wide2 .ensures)
+    let turn = c .before .before .before .before in
+    let v = turn .before .loop .inv in
+    search-falls _ _ _ _ _ (turn .before .before .before .before .before .before .before .before .pre) _ _ _ v (turn .loop-test .taken) (c .before .before .before .reference .ensures) (c .before .before .if1 .left) (c .wide2 .ensures)
 
 loop-again : tie.Need-loop-again Inv-loop μ-loop
 loop-again c =
-    search-goes-on _ _ _ _ _ (c .before .before .before .before .before .before .before .before .before .before .before .before .pre) _ _ _ (c .before .before .before .before .before .loop .inv) (c .before .before .before .before .loop-test .taken) (c .before .before .before .reference .ensures) (c .before .before .if1 .left) (c .wide2 .ensures)
+    let turn = c .before .before .before .before in
+    let v = turn .before .loop .inv in
+    search-goes-on _ _ _ _ _ (turn .before .before .before .before .before .before .before .before .pre) _ _ _ v (turn .loop-test .taken) (c .before .before .before .reference .ensures) (c .before .before .if1 .left) (c .wide2 .ensures)
 
 returns-2 : tie.Need-returns-2 Inv-loop μ-loop
 returns-2 c = search-ends _ _ _ (c .before .loop .inv) (c .loop-test .left)
