@@ -6,6 +6,7 @@ x86_target=x86_64-unknown-linux-gnu
 x86_runner=
 x86_cc=cc
 x86_rustc=${RUSTC:-rustc}
+x86_rustdoc=${RUSTDOC:-rustdoc}
 
 # Whether a Rust compiler has its library for x86-64.
 builds_for_x86() { # compiler
@@ -16,7 +17,10 @@ if [ "$(uname -m)" != x86_64 ]; then
     x86_runner=qemu-x86_64
     x86_cc=x86_64-linux-gnu-gcc
     # Debian's compiler takes the libraries of other processors from packages; others may not have them.
-    builds_for_x86 "$x86_rustc" || x86_rustc=/usr/bin/rustc
+    if ! builds_for_x86 "$x86_rustc"; then
+        x86_rustc=/usr/bin/rustc
+        x86_rustdoc=/usr/bin/rustdoc
+    fi
     # Where the machine has no C library for x86-64, the one that the compiler links with.
     if [ ! -e /lib64/ld-linux-x86-64.so.2 ] && [ -d /usr/x86_64-linux-gnu ]; then
         export QEMU_LD_PREFIX=/usr/x86_64-linux-gnu
