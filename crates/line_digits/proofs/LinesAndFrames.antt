@@ -111,6 +111,10 @@ length-frame [] = omega arith
 length-frame (a ∷ []) = omega arith
 length-frame (a ∷ b ∷ l) = let e : length (frameOf l) ≡ length l / 2 = length-frame l in omega arith
 
+-- no more bytes than the line has characters
+pub frame-le : (l : List ℕ) → length (frameOf l) ≤ length l
+frame-le l = omega (arith, length-frame l)
+
 pub bytes-frame : (l : List ℕ) → Bytes (frameOf l)
 unfolding frameOf
 bytes-frame [] = tt

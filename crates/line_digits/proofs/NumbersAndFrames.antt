@@ -6,8 +6,7 @@ use mathlib.Core.Path.{_≡_, refl, sym, ap, _∙_}
 use mathlib.Core.List.{List, [], _∷_, _++_, append-assoc}
 use lib.ListN.{length, getD, take, drop, length-append, length-drop, take-append-drop}
 use lib.Seq.{take-suc, getD-at, drop-at, drop-drop}
-use Rattle.paper.specs.Frames.{be, num}
-use Rattle.line_digits.specs.FrameBytes.{frameIn}
+use Rattle.paper.specs.Frames.{be, num, frameOf}
 
 -- ---- bytes
 
@@ -83,14 +82,3 @@ pub field-back : (f : List ℕ) (at w : ℕ) → Bytes f → at + w ≤ length f
 field-back f at w p h =
     let k : w ≤ length (drop at f) = simp length-drop (omega arith) in
     rw (be-num w (drop at f) (bytes-drop at f p) k, ← drop-drop w at f) (take-append-drop w (drop at f))
-
--- ---- what a source holds
-
--- no more bytes than the source has
-pub held-le : (s : List ℕ) → length (frameIn s) ≤ length s
-unfolding frameIn
-held-le s = omega arith
-
-pub held-all : (s : List ℕ) → frameIn s ≡ s
-unfolding frameIn
-held-all s = refl

@@ -2,7 +2,7 @@
 mod hex;
 mod numbers;
 
-pub use hex::frame_of;
+pub use hex::is_sound;
 pub use numbers::number;
 pub use numbers::pattern;
 pub use numbers::put;

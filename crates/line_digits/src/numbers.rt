@@ -1,11 +1,12 @@
 // Numbers of up to 8 bytes in a line, and signed numbers as patterns.
 ghost use mathlib.Core.Path.{_≡_};
-ghost use Prim.Native.Nat.{_+_, _*_, _≤_};
-ghost use lib.ListN.{length};
+ghost use Prim.Native.Nat.{_+_, _*_, _≤_, _<_};
+ghost use lib.ListN.{length, getD};
 ghost use mir.Syntax.{w32};
 ghost use mir.Val.{ofZ, toZ};
-ghost use Rattle.paper.specs.Frames.{be};
-ghost use Rattle.line_digits.specs.FrameBytes.{overlaid, frameIn, Field};
+ghost use Rattle.paper.specs.Frames.{be, frameOf};
+ghost use Rattle.line_digits.specs.FrameBytes.{overlaid, Field};
+use crate::hex::digit;
 use crate::hex::glyph;
 
 // [5.2] Writes n in w bytes, as digits, at byte `at` of the line that `out` holds.
@@ -25,22 +26,31 @@ pub fn put(out: &mut [u8], at: usize, w: usize, n: u64)
     }
 }
 
-// How many bytes the frame has that `src` holds.
-pub fn size(src: &[u8]) -> usize
-    ensures { λ r. ⌜ r ≡ length (frameIn (now (src .entry))) ⌝ }
+// [5.1] How many bytes a line's frame has: one for every two characters.
+pub fn size(line: &[u8]) -> usize
+    ensures { λ r. ⌜ r ≡ length (frameOf (now (line .entry))) ⌝ }
 {
-    src.len()
+    line.len() / 2
 }
 
-// [5.2] The number in the w bytes from byte `at` on of the frame that `src` holds.
-pub fn number(src: &[u8], at: usize, w: usize) -> u64
-    requires { ⌜ (at + w ≤ length (frameIn (now src))) × (w ≤ 8) ⌝ }
-    ensures { λ r. ⌜ Field (now (src .entry)) at w r ⌝ }
+// [5.1] Byte `at` of a line's frame, from its two digits.
+fn byte(line: &[u8], at: usize) -> u64
+    requires { ⌜ at < length (frameOf (now line)) ⌝ }
+    ensures { λ r. ⌜ (r ≡ getD (frameOf (now (line .entry))) at 0) × (r < 256) ⌝ }
+{
+    let k = 2 * at;
+    digit(line[k]) % 16 * 16 + digit(line[k + 1]) % 16
+}
+
+// [5.2] The number in the w bytes from byte `at` on of a line's frame.
+pub fn number(line: &[u8], at: usize, w: usize) -> u64
+    requires { ⌜ (at + w ≤ length (frameOf (now line))) × (w ≤ 8) ⌝ }
+    ensures { λ r. ⌜ Field (now (line .entry)) at w r ⌝ }
 {
     let mut acc: u64 = 0;
     let mut i = 0;
     while i < w {
-        acc = acc * 256 + src[at + i] as u64;
+        acc = acc * 256 + byte(line, at + i);
         i += 1;
     }
     acc

@@ -4,7 +4,7 @@ use Prim.Native.Nat.{ℕ, zero, suc, _+_, _-_, _*_, _≤_, _<_}
 use native.Mathlib.Numerals.{add-one}
 use native.Mathlib.Omega.{arith}
 use mathlib.Core.Path.{_≡_, refl, sym, ap, _∙_}
-use mathlib.Core.Bool.{true, _&&_, _||_}
+use mathlib.Core.Bool.{Bool, true, false, _&&_, _||_}
 use mathlib.Core.List.{List, [], _∷_, _++_, append-assoc}
 use lib.ListN.{length, getD, drop, set, replicate, length-append}
 use lib.Seq.{drop-cons, drop-drop, set-at}
@@ -25,6 +25,7 @@ use Rattle.paper.specs.Fields.{head, front, coordBytes, coordsIn, scopeBytes, s
 use Rattle.paper.specs.Lines.{headOk}
 use Rattle.paper.specs.declared.lines.Scope.{Scope}
 use Rattle.paper.specs.Limits.{mostClaims, mostNumber}
+use Rattle.line_fields.specs.Fronts.{laidOut}
 
 -- ---- writing
 
@@ -140,3 +141,19 @@ is-head k f e =
 pub head-rule : (k m d : ℕ) (f : List ℕ) → num 1 f ≡ k → num 1 (drop 5 f) ≡ m → num 1 (drop 6 f) ≡ d → inRange m d ≡ true → headOk k f ≡ true
 unfolding headOk
 head-rule k m d f a b c e = rw (a, b, c, eq-eqb k k refl) e
+
+-- what a frame that is laid out is known for
+pub laid-is : (k n : ℕ) (f : List ℕ) → laidOut k n f ≡ true → (HeadOk k f) × (length f ≡ n + 4 * num 1 (drop 6 f))
+unfolding laidOut
+laid-is k n f e =
+    let p = and-both (headOk k f) (eqb (length f) (n + 4 * num 1 (drop 6 f))) e in
+    (is-head k f (p .0), eqb-true (length f) (n + 4 * num 1 (drop 6 f)) (p .1))
+
+-- head and length, and then what is tested behind them
+pub laid-then : (k n : ℕ) (f : List ℕ) (t : Bool) → headOk k f && (eqb (length f) (n + 4 * num 1 (drop 6 f)) && t) ≡ laidOut k n f && t
+unfolding laidOut
+laid-then k n f t = go (headOk k f) (eqb (length f) (n + 4 * num 1 (drop 6 f)))
+  where
+    go : (a b : Bool) → a && (b && t) ≡ (a && b) && t
+    go true b = refl
+    go false b = refl

@@ -5,8 +5,9 @@ ghost use Prim.Native.Nat.{_+_, _*_, _≤_};
 ghost use lib.ListN.{length, drop};
 ghost use lib.Dec.{eqb};
 ghost use Rattle.paper.specs.Fields.{itemFrame, itemBytes, itemNumbers, itemSlots, numbersOk, referencesOk};
-ghost use Rattle.line_digits.specs.FrameBytes.{frameIn, overlaid};
-ghost use Rattle.paper.specs.Limits.{mostPage};
+ghost use Rattle.line_digits.specs.FrameBytes.{overlaid};
+ghost use Rattle.paper.specs.Frames.{frameOf};
+ghost use Rattle.paper.specs.Limits.{itemRoom, mostPage};
 use paper::limits::ITEM_ROOM;
 use paper::limits::MOST_NUMBER;
 
@@ -33,34 +34,34 @@ pub fn put_items(out: &mut [u8], at: usize, items: &[u64], k: usize)
 }
 
 // [5.6] [5.14] The k items from byte `at` on, 14 bytes for each, and 0 behind them.
-pub fn items_at(src: &[u8], at: usize, k: usize) -> [u64; ITEM_ROOM]
-    requires { ⌜ (at + 14 * k ≤ length (frameIn (now src))) × (k ≤ mostPage) ⌝ }
-    ensures { λ r. ⌜ r ≡ itemSlots k (itemNumbers k (drop at (frameIn (now (src .entry))))) ⌝ }
+pub fn items_at(line: &[u8], at: usize, k: usize) -> [u64; ITEM_ROOM]
+    requires { ⌜ (at + 14 * k ≤ length (frameOf (now line))) × (k ≤ mostPage) ⌝ }
+    ensures { λ r. ⌜ r ≡ itemSlots k (itemNumbers k (drop at (frameOf (now (line .entry))))) ⌝ }
 {
     let mut found = [0u64; ITEM_ROOM];
     let mut i = 0;
     while i < k {
         let j = 3 * i;
         let a = at + 14 * i;
-        found[j] = line_digits::number(src, a, 2);
-        found[j + 1] = line_digits::number(src, a + 2, 4);
-        found[j + 2] = line_digits::number(src, a + 6, 8);
+        found[j] = line_digits::number(line, a, 2);
+        found[j + 1] = line_digits::number(line, a + 2, 4);
+        found[j + 2] = line_digits::number(line, a + 6, 8);
         i += 1;
     }
     found
 }
 
-// [5.9] Whether each of the k items from byte `at` on, 14 bytes for each, has a number (its first two) in range.
-pub fn numbers_ok(src: &[u8], at: usize, k: usize) -> bool
-    requires { ⌜ at + 14 * k ≤ length (frameIn (now src)) ⌝ }
-    ensures { λ r. ⌜ r ≡ numbersOk (itemNumbers k (drop at (frameIn (now (src .entry))))) ⌝ }
+// [5.9] Whether each item has a number (the first of its three) in range.
+pub fn numbers_ok(items: &[u64]) -> bool
+    requires { ⌜ length (now items) ≤ itemRoom ⌝ }
+    ensures { λ r. ⌜ r ≡ numbersOk (now (items .entry)) ⌝ }
 {
-    let mut i = 0;
-    while i < k {
-        if MOST_NUMBER < line_digits::number(src, at + 14 * i, 2) {
+    let mut j = 0;
+    while j + 2 < items.len() {
+        if MOST_NUMBER < items[j] {
             return false;
         }
-        i += 1;
+        j += 3;
     }
     true
 }

@@ -1,4 +1,4 @@
-// The parts that the kinds of line are made of, written into a line and read from a frame.
+// The parts that the kinds of line are made of, written into a line and read from one.
 mod items;
 mod parts;
 mod queries;
@@ -10,6 +10,7 @@ pub use items::put_items;
 pub use parts::coords_at;
 pub use parts::head_ok;
 pub use parts::kind;
+pub use parts::layout_ok;
 pub use parts::put_coords;
 pub use parts::put_front;
 pub use parts::put_head;

@@ -2,38 +2,54 @@
 ghost use mathlib.Core.Path.{_≡_};
 ghost use Prim.Native.Nat.{_+_, _*_, _≤_};
 ghost use lib.ListN.{length, drop};
-ghost use Rattle.paper.specs.Frames.{num};
+ghost use Rattle.paper.specs.Frames.{num, frameOf};
 ghost use Rattle.paper.specs.Fields.{head, coordBytes, coordsIn, inSlots, scopeBytes, scopeIn, scopeOk};
 ghost use Rattle.paper.specs.Fields.{front as Fields·front};
 ghost use Rattle.paper.specs.Orders.{queryIn};
 ghost use Rattle.paper.specs.Lines.{headOk};
-ghost use Rattle.line_digits.specs.FrameBytes.{frameIn, overlaid};
-ghost use Rattle.paper.specs.Limits.{mostCoordinates};
+ghost use Rattle.line_digits.specs.FrameBytes.{overlaid};
+ghost use Rattle.line_fields.specs.Fronts.{laidOut};
+ghost use Rattle.paper.specs.Limits.{longestFrame, mostCoordinates};
 use checks::in_range;
 use paper::limits::MOST_COORDINATES;
 use paper::lines::Scope;
 use paper::queries::Query;
 
-// [5.4] The kind of the frame that `src` holds: byte 0. An empty frame has 0, which is no line's.
-pub fn kind(src: &[u8]) -> u64
-    ensures { λ r. ⌜ r ≡ num 1 (frameIn (now (src .entry))) ⌝ }
+// [5.4] The kind of a line: byte 0. An empty frame has 0, which is no line's.
+pub fn kind(line: &[u8]) -> u64
+    ensures { λ r. ⌜ r ≡ num 1 (frameOf (now (line .entry))) ⌝ }
 {
-    if line_digits::size(src) == 0 {
+    if line_digits::size(line) == 0 {
         return 0;
     }
-    line_digits::number(src, 0, 1)
+    line_digits::number(line, 0, 1)
 }
 
-// [5.4] [8.10] Whether a frame begins with a head of this kind (byte 0), with measure (5) and d (6) in range.
-pub fn head_ok(src: &[u8], kind: u8) -> bool
-    requires { ⌜ 7 ≤ length (frameIn (now src)) ⌝ }
-    ensures { λ r. ⌜ r ≡ headOk kind (frameIn (now (src .entry))) ⌝ }
+// [5.4] [8.10] Whether a line begins with a head of this kind (byte 0), with measure (5) and d (6) in range.
+pub fn head_ok(line: &[u8], kind: u8) -> bool
+    requires { ⌜ 7 ≤ length (frameOf (now line)) ⌝ }
+    ensures { λ r. ⌜ r ≡ headOk kind (frameOf (now (line .entry))) ⌝ }
 {
-    if line_digits::number(src, 0, 1) == kind as u64 {
+    if line_digits::number(line, 0, 1) == kind as u64 {
         return in_range(
-            line_digits::number(src, 5, 1) as u8,
-            line_digits::number(src, 6, 1) as usize,
+            line_digits::number(line, 5, 1) as u8,
+            line_digits::number(line, 6, 1) as usize,
         );
+    }
+    false
+}
+
+// [8.10] Whether a line begins with a head of this kind, and has the length that its d tells: fixed + 4d bytes.
+pub fn layout_ok(line: &[u8], kind: u8, fixed: usize) -> bool
+    requires { ⌜ (7 ≤ fixed) × (fixed ≤ longestFrame) ⌝ }
+    ensures { λ r. ⌜ r ≡ laidOut kind fixed (frameOf (now (line .entry))) ⌝ }
+{
+    let size = line_digits::size(line);
+    if size < fixed {
+        return false;
+    }
+    if head_ok(line, kind) {
+        return size == fixed + 4 * line_digits::number(line, 6, 1) as usize;
     }
     false
 }
@@ -62,14 +78,14 @@ pub fn put_coords(out: &mut [u8], at: usize, coords: &[i32])
 }
 
 // [5.3] [5.14] The d coordinates from byte `at` on, four bytes for each, and 0 behind them.
-pub fn coords_at(src: &[u8], at: usize, d: usize) -> [i32; MOST_COORDINATES]
-    requires { ⌜ (at + 4 * d ≤ length (frameIn (now src))) × (d ≤ mostCoordinates) ⌝ }
-    ensures { λ r. ⌜ r ≡ inSlots d (coordsIn d (drop at (frameIn (now (src .entry))))) ⌝ }
+pub fn coords_at(line: &[u8], at: usize, d: usize) -> [i32; MOST_COORDINATES]
+    requires { ⌜ (at + 4 * d ≤ length (frameOf (now line))) × (d ≤ mostCoordinates) ⌝ }
+    ensures { λ r. ⌜ r ≡ inSlots d (coordsIn d (drop at (frameOf (now (line .entry))))) ⌝ }
 {
     let mut found = [0i32; MOST_COORDINATES];
     let mut i = 0;
     while i < d {
-        found[i] = line_digits::signed(line_digits::number(src, at + 4 * i, 4) as u32);
+        found[i] = line_digits::signed(line_digits::number(line, at + 4 * i, 4) as u32);
         i += 1;
     }
     found
@@ -111,15 +127,15 @@ fn put_scope(out: &mut [u8], at: usize, reach: u64, p: Scope)
 
 // [5.5] The scope behind the reach, which has bytes `at` to at + 7: at + 8 from, at + 9 snapshot (2), at + 11 the mark's distance (8) and
 // at + 19 its number (2).
-pub fn scope_at(src: &[u8], at: usize) -> Scope
-    requires { ⌜ at + 21 ≤ length (frameIn (now src)) ⌝ }
-    ensures { λ r. ⌜ r ≡ scopeIn (drop at (frameIn (now (src .entry)))) ⌝ }
+pub fn scope_at(line: &[u8], at: usize) -> Scope
+    requires { ⌜ at + 21 ≤ length (frameOf (now line)) ⌝ }
+    ensures { λ r. ⌜ r ≡ scopeIn (drop at (frameOf (now (line .entry)))) ⌝ }
 {
     Scope {
-        from: line_digits::number(src, at + 8, 1) as u8,
-        snapshot: line_digits::number(src, at + 9, 2) as u16,
-        distance: line_digits::number(src, at + 11, 8),
-        number: line_digits::number(src, at + 19, 2) as u16,
+        from: line_digits::number(line, at + 8, 1) as u8,
+        snapshot: line_digits::number(line, at + 9, 2) as u16,
+        distance: line_digits::number(line, at + 11, 8),
+        number: line_digits::number(line, at + 19, 2) as u16,
     }
 }
 

@@ -5,7 +5,7 @@ ghost use lib.ListN.{length};
 ghost use Rattle.paper.specs.Fields.{inSlots, queryInSlots};
 ghost use Rattle.paper.specs.Orders.{queryIn};
 ghost use Rattle.paper.specs.Lines.{queryAt, queryFits};
-ghost use Rattle.line_digits.specs.FrameBytes.{frameIn};
+ghost use Rattle.paper.specs.Frames.{frameOf};
 ghost use Rattle.line_fields.specs.Fronts.{Begun};
 ghost use Rattle.paper.specs.Limits.{mostCoordinates};
 use super::parts::coords_at;
@@ -53,18 +53,18 @@ pub fn query_fits(q: Query) -> bool
 
 // [5.5] [5.6] The query of an ask's or an answer's frame, in the order that its kind tells: bytes 1 to 4 table, 5 measure, 6 d, the probe from
 // byte 7 and the reach behind it.
-pub fn query_at(order: Order, src: &[u8]) -> Query
-    requires { ⌜ Begun (frameIn (now src)) ⌝ }
-    ensures { λ r. ⌜ r ≡ queryAt order (frameIn (now (src .entry))) ⌝ }
+pub fn query_at(order: Order, line: &[u8]) -> Query
+    requires { ⌜ Begun (frameOf (now line)) ⌝ }
+    ensures { λ r. ⌜ r ≡ queryAt order (frameOf (now (line .entry))) ⌝ }
 {
-    let d = line_digits::number(src, 6, 1) as usize;
-    let probe = coords_at(src, 7, d);
+    let d = line_digits::number(line, 6, 1) as usize;
+    let probe = coords_at(line, 7, d);
     Query {
         order,
-        table: line_digits::number(src, 1, 4) as u32,
-        measure: line_digits::number(src, 5, 1) as u8,
+        table: line_digits::number(line, 1, 4) as u32,
+        measure: line_digits::number(line, 5, 1) as u8,
         d,
         probe,
-        reach: line_digits::number(src, 7 + 4 * d, 8),
+        reach: line_digits::number(line, 7 + 4 * d, 8),
     }
 }

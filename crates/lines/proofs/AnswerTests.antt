@@ -2,26 +2,29 @@
 use Prim.Native.Nat.{ℕ, _+_, _-_, _*_, _≤_}
 use native.Mathlib.Omega.{arith}
 use mathlib.Core.Path.{_≡_, refl, sym, ap, _∙_}
-use mathlib.Core.Bool.{true, _&&_}
+use mathlib.Core.Bool.{Bool, true, false, _&&_, not}
 use mathlib.Core.List.{List, _++_}
 use lib.ListN.{length, drop, length-append}
 use lib.Seq.{drop-drop}
 use lib.Dec.{leb, eqb}
-use borrow.Author.Tests.{leb-true, eqb-true, eq-eqb}
-use Rattle.paper.specs.Frames.{be, num}
+use borrow.Author.Tests.{leb-true, eqb-true, not-true, not-false}
+use Rattle.paper.specs.Frames.{be, num, frameOf, isLine}
 use Rattle.paper.specs.Fields.{front, scopeIn, scopeOk, itemBytes, itemNumbers, itemSlots, numbersOk, referencesOk}
 use Rattle.paper.specs.Orders.{Query}
-use Rattle.paper.specs.Lines.{answerKind, answerOrder, headOk, behind, queryAt, queryFits, answerFrame, answerRanges, answerFits, countIn, answerOk, isAnswer, answerAt}
+use Rattle.paper.specs.Lines.{answerKind, answerOrder, headOk, behind, queryAt, queryFits, answerFrame, answerRanges, answerFits, countIn, answerOk, isAnswer, answerAt, anAnswer, noAnswer, readAsAnswer}
 use Rattle.paper.specs.declared.lines.Scope.{Scope}
+use Rattle.paper.specs.declared.lines.Answer.{Answer}
+use Rattle.paper.specs.declared.orders.Order.{Order}
 use Rattle.paper.specs.declared.queries.Query as queries
 use Rattle.line_digits.proofs.LinesAndFrames.{and-both}
 use Rattle.line_digits.proofs.NumbersAndFrames.{Bytes, bytes-append, bytes-be, length-be}
-use Rattle.line_fields.specs.Fronts.{Begun}
-use Rattle.line_fields.proofs.PartLaws.{HeadOk, is-head, length-front, bytes-front}
-use Rattle.line_fields.proofs.ItemLaws.{length-items, bytes-items}
+use Rattle.line_fields.specs.Fronts.{laidOut, Begun}
+use Rattle.line_fields.proofs.PartLaws.{HeadOk, is-head, laid-then, length-front, bytes-front}
+use Rattle.line_fields.proofs.ItemLaws.{length-items, bytes-items, slots-ok}
 use Rattle.line_fields.proofs.Round.{behind-eq}
-use Rattle.paper.specs.Limits.{mostPage}
-use Rattle.lines.proofs.QueryTests.{last-at, QueryFits, query-fits}
+use Rattle.paper.specs.Limits.{itemRoom, mostPage}
+use Rattle.lines.proofs.QueryTests.{last-at, QueryFits, query-fits, laid-query}
+use Rattle.lines.proofs.WritersReaders.{reads, reads-10}
 
 -- ---- the frame
 
@@ -138,15 +141,68 @@ answer-value f x p at last n ns e q u v w z =
     let c : n ≡ countIn f = w ∙ sym (count-at f at h) in
     rw (e, z, v, u, b, last-at f at h, items-from f at h, c)
 
--- what is left to test where the head and the length are right
-pub answer-rule : (k : ℕ) (f : List ℕ) (at n : ℕ) → headOk k f ≡ true → at ≡ 28 + 4 * num 1 (drop 6 f) → n ≡ num 1 (drop (at + 1) f) → length f ≡ at + 2 + 14 * n
-    → answerOk k f ≡ answerRanges (scopeIn (drop (at - 21) f)) (num 1 (drop at f)) n && numbersOk (itemNumbers n (drop (at + 2) f))
+-- the layout, and then the ranges
+pub answer-rule : (k : ℕ) (f : List ℕ) → answerOk k f
+    ≡ laidOut k (30 + 14 * countIn f) f && (answerRanges (scopeIn (behind f)) (num 1 (drop 21 (behind f))) (countIn f) && numbersOk (itemNumbers (countIn f) (drop 23 (behind f))))
 unfolding answerOk
-answer-rule k f at n h e c l =
-    let d = num 1 (drop 6 f) in
-    let q : countIn f ≡ n = count-at f at e ∙ sym c in
-    let e0 : 7 + 4 * d ≡ at - 21 = omega arith in
-    let e1 : at - 21 + 21 ≡ at = omega arith in
-    let e2 : at - 21 + 23 ≡ at + 2 = omega arith in
-    let e3 : length f ≡ 30 + 4 * d + 14 * n = omega arith in
-    rw (h, q, e3, eq-eqb (30 + 4 * d + 14 * n) (30 + 4 * d + 14 * n) refl, behind-eq f, e0, drop-drop 21 (at - 21) f, drop-drop 23 (at - 21) f, e1, e2)
+answer-rule k f =
+    let e : 30 + 4 * num 1 (drop 6 f) + 14 * countIn f ≡ 30 + 14 * countIn f + 4 * num 1 (drop 6 f) = omega arith in
+    rw e (laid-then k (30 + 14 * countIn f) f _)
+
+-- the layout by the numbers that were read
+pub answer-laid : (k : ℕ) (f : List ℕ) (n d c : ℕ) → headOk k f ≡ true → n ≡ length f → d ≡ num 1 (drop 6 f) → c ≡ num 1 (drop (28 + 4 * d + 1) f)
+    → eqb n (28 + 4 * d + 2 + 14 * c) ≡ laidOut k (30 + 14 * countIn f) f
+unfolding laidOut
+answer-laid k f n d c h a e q =
+    let m : countIn f ≡ c = count-at f (28 + 4 * d) (omega arith) ∙ sym q in
+    let z : 28 + 4 * d + 2 + 14 * c ≡ 30 + 14 * c + 4 * d = omega arith in
+    rw (h, m, ← e, ← a, z)
+
+-- how long a frame is by its query and its item count
+pub answer-length : (k : ℕ) (f : List ℕ) (b : Bool) → b ≡ laidOut k (30 + 14 * countIn f) f → not b ≡ false → (o : Order) (x : queries.Query) → x ≡ queryAt o f
+    → (n : ℕ) → n ≡ num 1 (drop (28 + 4 * x .d + 1) f) → length f ≡ 30 + 14 * n + 4 * x .d
+unfolding queryAt
+answer-length k f b be h o x xe n ne =
+    let e : x .d ≡ num 1 (drop 6 f) = ap (λ (y : queries.Query). y .d) xe in
+    let m : countIn f ≡ n = count-at f (28 + 4 * x .d) (omega arith) ∙ sym ne in
+    omega (arith, laid-query k (30 + 14 * countIn f) f b be h o x xe .1)
+
+-- what is tested behind the layout, of the answer that the frame holds
+behind-layout : (f : List ℕ) → answerRanges (scopeIn (behind f)) (num 1 (drop 21 (behind f))) (countIn f) && numbersOk (itemNumbers (countIn f) (drop 23 (behind f)))
+    ≡ answerRanges (answerAt f .scope) (answerAt f .last) (answerAt f .count) && numbersOk (answerAt f .items)
+unfolding answerAt itemSlots
+behind-layout f = rw (slots-ok (countIn f) (itemRoom - 3 * countIn f) (drop 23 (behind f)))
+
+-- the ways through the reader of a sound line
+module _ (l : List ℕ) (s : isLine l ≡ true) (b : Bool) (be : b ≡ laidOut (answerKind (answerOrder (num 1 (frameOf l)))) (30 + 14 * countIn (frameOf l)) (frameOf l)) where
+  pub unlaid-answer : not b ≡ true → noAnswer 10 ≡ readAsAnswer l
+  unfolding readAsAnswer isAnswer
+  unlaid-answer h = sym (reads-10 isAnswer (λ f. anAnswer (answerAt f)) noAnswer l s (answer-rule _ (frameOf l) ∙ rw (sym be ∙ not-true b h)))
+
+  module _ (h : not b ≡ false) (x : queries.Query) (p : Scope) (at last n : ℕ) (xe : x ≡ queryAt (answerOrder (num 1 (frameOf l))) (frameOf l)) (ate : at ≡ 28 + 4 * x .d)
+      (pe : p ≡ scopeIn (drop (at - 21) (frameOf l))) (le : last ≡ num 1 (drop at (frameOf l))) (ne : n ≡ num 1 (drop (at + 1) (frameOf l))) (t : Bool) (te : t ≡ answerRanges p last n) where
+    parts : (ns : List ℕ) → ns ≡ itemSlots n (itemNumbers n (drop (at + 2) (frameOf l))) → record { query = x; scope = p; last = last; count = n; items = ns } ≡ answerAt (frameOf l)
+    parts ns q = answer-value (frameOf l) x p at last n ns xe ate pe le ne q
+
+    tested : (ns : List ℕ) → ns ≡ itemSlots n (itemNumbers n (drop (at + 2) (frameOf l))) → isAnswer (frameOf l) ≡ t && numbersOk ns
+    unfolding isAnswer
+    tested ns q =
+        answer-rule _ (frameOf l)
+        ∙ rw (sym be ∙ not-false b h, te)
+        (behind-layout (frameOf l) ∙ ap (λ (a : Answer). answerRanges (a .scope) (a .last) (a .count) && numbersOk (a .items)) (sym (parts ns q)))
+
+    pub answer-out : not t ≡ true → noAnswer 10 ≡ readAsAnswer l
+    unfolding readAsAnswer
+    answer-out q = sym (reads-10 isAnswer (λ f. anAnswer (answerAt f)) noAnswer l s (tested _ refl ∙ rw (not-true t q)))
+
+    module _ (v : not t ≡ false) (ns : List ℕ) (q : ns ≡ itemSlots n (itemNumbers n (drop (at + 2) (frameOf l)))) (u : Bool) (ue : u ≡ numbersOk ns) where
+      numbered : isAnswer (frameOf l) ≡ u
+      numbered = tested ns q ∙ rw (not-false t v, ue)
+
+      pub items-out : not u ≡ true → noAnswer 10 ≡ readAsAnswer l
+      unfolding readAsAnswer
+      items-out z = sym (reads-10 isAnswer (λ f. anAnswer (answerAt f)) noAnswer l s (numbered ∙ not-true u z))
+
+      pub answer-read : not u ≡ false → record { refusal = 0; answer = record { query = x; scope = p; last = last; count = n; items = ns } } ≡ readAsAnswer l
+      unfolding readAsAnswer anAnswer
+      answer-read z = ap anAnswer (parts ns q) ∙ sym (reads isAnswer (λ f. anAnswer (answerAt f)) noAnswer l s (numbered ∙ not-false u z))

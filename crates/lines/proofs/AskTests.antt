@@ -8,20 +8,22 @@ use lib.ListN.{length, drop, length-append}
 use lib.Seq.{drop-drop}
 use lib.Dec.{leb, eqb}
 use borrow.Author.Tests.{leb-true, eqb-true, eq-eqb, ne-eqb, not-true, not-false}
-use Rattle.paper.specs.Frames.{be, num}
+use Rattle.paper.specs.Frames.{be, num, frameOf, isLine}
 use Rattle.paper.specs.Ends.{sizeHolds}
 use Rattle.paper.specs.Fields.{front, scopeIn, scopeOk}
 use Rattle.paper.specs.Orders.{Query}
-use Rattle.paper.specs.Lines.{askKind, askOrder, headOk, behind, queryAt, queryFits, askFrame, askRanges, askFits, askOk, isAsk, askAt}
+use Rattle.paper.specs.Lines.{askKind, askOrder, headOk, behind, queryAt, queryFits, askFrame, askRanges, askFits, askOk, isAsk, askAt, anAsk, noAsk, readAsAsk}
 use Rattle.paper.specs.declared.lines.Scope.{Scope}
+use Rattle.paper.specs.declared.lines.Ask.{Ask}
 use Rattle.paper.specs.declared.queries.Query as queries
 use Rattle.line_digits.proofs.LinesAndFrames.{and-false, and-both}
 use Rattle.line_digits.proofs.NumbersAndFrames.{Bytes, bytes-append, bytes-be, length-be}
-use Rattle.line_fields.specs.Fronts.{Begun}
-use Rattle.line_fields.proofs.PartLaws.{HeadOk, is-head, length-front, bytes-front}
+use Rattle.line_fields.specs.Fronts.{laidOut, Begun}
+use Rattle.line_fields.proofs.PartLaws.{HeadOk, is-head, laid-then, length-front, bytes-front}
 use Rattle.line_fields.proofs.Round.{behind-eq}
 use Rattle.paper.specs.Limits.{mostPage}
 use Rattle.lines.proofs.QueryTests.{QueryFits, query-fits}
+use Rattle.lines.proofs.WritersReaders.{reads, reads-10}
 
 -- ---- the frame
 
@@ -95,11 +97,10 @@ module _ (p : Scope) (s : ℕ) (e : scopeOk p ≡ true) where
       unfolding askRanges
       unplaced q = rw (e, sym be ∙ not-false b h, ne-eqb (p .from) 1 q) (and-true (eqb (p .snapshot) 0))
 
--- what is left to test where the head and the length are right
-pub ask-rule : (k : ℕ) (f : List ℕ) (d : ℕ) → headOk k f ≡ true → d ≡ num 1 (drop 6 f) → length f ≡ 29 + 4 * d
-    → askOk k f ≡ askRanges (scopeIn (drop (7 + 4 * d) f)) (num 1 (drop (7 + 4 * d + 21) f))
-unfolding askOk behind
-ask-rule k f d h e l = rw (h, ← e, l, eq-eqb (29 + 4 * d) (29 + 4 * d) refl, drop-drop)
+-- the layout, and then the ranges
+pub ask-rule : (k : ℕ) (f : List ℕ) → askOk k f ≡ laidOut k 29 f && askRanges (scopeIn (behind f)) (num 1 (drop 21 (behind f)))
+unfolding askOk
+ask-rule k f = laid-then k 29 f (askRanges (scopeIn (behind f)) (num 1 (drop 21 (behind f))))
 
 -- ---- handed on
 
@@ -112,3 +113,26 @@ ask-value f x p at s e q u v =
     let b : drop at f ≡ behind f = ap (λ (n : ℕ). drop n f) h ∙ sym (behind-eq f) in
     let c : drop (at + 21) f ≡ drop 21 (behind f) = sym (drop-drop 21 at f) ∙ ap (drop 21) b in
     rw (e, u, v, b, c)
+
+-- the ways through the reader of a sound line
+module _ (l : List ℕ) (s : isLine l ≡ true) (b : Bool) (be : b ≡ laidOut (askKind (askOrder (num 1 (frameOf l)))) 29 (frameOf l)) where
+  pub unlaid-ask : not b ≡ true → noAsk 10 ≡ readAsAsk l
+  unfolding readAsAsk isAsk
+  unlaid-ask h = sym (reads-10 isAsk (λ f. anAsk (askAt f)) noAsk l s (ask-rule _ (frameOf l) ∙ rw (sym be ∙ not-true b h)))
+
+  module _ (h : not b ≡ false) (x : queries.Query) (p : Scope) (at n : ℕ) (xe : x ≡ queryAt (askOrder (num 1 (frameOf l))) (frameOf l))
+      (ate : at ≡ 7 + 4 * x .d) (pe : p ≡ scopeIn (drop at (frameOf l))) (ne : n ≡ num 1 (drop (at + 21) (frameOf l))) (t : Bool) (te : t ≡ askRanges p n) where
+    parts : record { query = x; scope = p; size = n } ≡ askAt (frameOf l)
+    parts = ask-value (frameOf l) x p at n xe ate pe ne
+
+    ranged : isAsk (frameOf l) ≡ t
+    unfolding isAsk askAt
+    ranged = ask-rule _ (frameOf l) ∙ rw (sym be ∙ not-false b h, te) (ap (λ (a : Ask). askRanges (a .scope) (a .size)) (sym parts))
+
+    pub ask-out : not t ≡ true → noAsk 10 ≡ readAsAsk l
+    unfolding readAsAsk
+    ask-out q = sym (reads-10 isAsk (λ f. anAsk (askAt f)) noAsk l s (ranged ∙ not-true t q))
+
+    pub ask-read : not t ≡ false → record { refusal = 0; ask = record { query = x; scope = p; size = n } } ≡ readAsAsk l
+    unfolding readAsAsk anAsk
+    ask-read q = ap anAsk parts ∙ sym (reads isAsk (λ f. anAsk (askAt f)) noAsk l s (ranged ∙ not-false t q))

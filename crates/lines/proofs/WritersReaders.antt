@@ -12,8 +12,9 @@ use Rattle.paper.specs.Frames.{hexes, lineOf, frameOf, isLine, written}
 use Rattle.paper.specs.Outcomes.{Outcome, refused, gives}
 use Rattle.paper.specs.Lines.{wroteShown, putLine, Writes, bareLine, reading}
 use Rattle.paper.proofs.Outcomes.{must-go, must-stop, promise-refused, promise-given}
+use Rattle.paper.proofs.Tests.{refuted}
 use Rattle.paper.specs.declared.lines.Wrote.the-variants.{Line, Refused}
-use Rattle.line_digits.specs.FrameBytes.{overlaid, frameIn, Framed}
+use Rattle.line_digits.specs.FrameBytes.{overlaid}
 use Rattle.line_digits.proofs.WritingOver.{over-eq}
 use Rattle.line_digits.proofs.LinesAndFrames.{length-hexes, length-line}
 
@@ -83,21 +84,6 @@ module _ {A : Type 0} (ok : List ℕ → Bool) (value : List ℕ → A) (none : 
   unfolding reading
   reads-9 s = rw s
 
-  -- as the code goes: r bytes of the buffer x are the frame, or the line is not sound and r is 0
-  module _ (x : List ℕ) (r : ℕ) (f : Framed l x r) where
-    pub way-9 : r ≡ 0 → none 9 ≡ reading ok value none l
-    way-9 z = sym (reads-9 (f .none z))
-
-    module _ (some : r ≡ 0 → ⊥) where
-      long : 0 < r
-      long = omega (arith, some)
-
-      pub way-10 : ok (frameIn (take r x)) ≡ false → none 10 ≡ reading ok value none l
-      way-10 e = sym (reads-10 (f .sure long) (ap ok (sym (f .frame long)) ∙ e))
-
-      pub way-read : ok (frameIn (take r x)) ≡ true → value (frameIn (take r x)) ≡ reading ok value none l
-      way-read e = ap value (f .frame long) ∙ sym (reads (f .sure long) (ap ok (sym (f .frame long)) ∙ e))
-
 -- a reader that refused nothing found both tests true
 accepted-of : {A : Type 0} (s k : Bool) (good : A) (none : ℕ → A) (refusal : A → ℕ) → ((n : ℕ) → refusal (none n) ≡ n) → refusal (cond s (cond k good (none 10)) (none 9)) ≡ 0 → (s ≡ true) × (k ≡ true)
 accepted-of true true good none refusal r e = (refl, refl)
@@ -108,3 +94,13 @@ pub accepted : {A : Type 0} (ok : List ℕ → Bool) (value : List ℕ → A) (n
     → ((n : ℕ) → refusal (none n) ≡ n) → refusal (reading ok value none l) ≡ 0 → (isLine l ≡ true) × (ok (frameOf l) ≡ true)
 unfolding reading
 accepted ok value none refusal l r e = accepted-of (isLine l) (ok (frameOf l)) (value (frameOf l)) none refusal r e
+
+-- what the refusal says that reading a line gave
+module _ {A : Type 0} (ok : List ℕ → Bool) (value : List ℕ → A) (none : ℕ → A) (refusal : A → ℕ) (l : List ℕ) (x : A) (xe : x ≡ reading ok value none l) where
+  pub holds : ((n : ℕ) → refusal (none n) ≡ n) → refusal x ≡ 0 → (ok (frameOf l) ≡ true) × (x ≡ value (frameOf l))
+  holds named h =
+      let p = accepted ok value none refusal l named (ap refusal (sym xe) ∙ h) in
+      (p .1, xe ∙ reads ok value none l (p .0) (p .1))
+
+  pub holds-none : ((f : List ℕ) → refusal (value f) ≡ 0) → isLine l ≡ true → (refusal x ≡ 0 → ⊥) → ok (frameOf l) ≡ false
+  holds-none given s h = refuted (ok (frameOf l)) (λ e. h (ap refusal (xe ∙ reads ok value none l s e) ∙ given (frameOf l)))

@@ -1,20 +1,20 @@
 // [5.6] The answer line: a list's order tells its kind, and its kind its order.
 ghost use mathlib.Core.Path.{_≡_};
-ghost use mathlib.Core.Bool.{true, _&&_};
+ghost use mathlib.Core.Bool.{true};
 ghost use mathlib.Core.List.{_++_};
-ghost use Prim.Native.Nat.{_+_, _-_, _*_, _≤_};
-ghost use lib.ListN.{length, drop};
-ghost use Rattle.paper.specs.Frames.{be, num, lineOf, written};
-ghost use Rattle.paper.specs.Fields.{scopeIn, itemBytes, itemNumbers, numbersOk};
+ghost use Prim.Native.Nat.{_+_, _*_, _≤_};
+ghost use lib.ListN.{length};
+ghost use Rattle.paper.specs.Frames.{be, isLine, lineOf, written, frameOf};
+ghost use Rattle.paper.specs.Fields.{itemBytes};
 ghost use Rattle.paper.specs.Orders.{queryIn};
-ghost use Rattle.paper.specs.Lines.{Writes, bareLine, answerFrame, answerRanges, answerFits, answerOk, isAnswer, answerAt, noAnswer, readAsAnswer};
-ghost use Rattle.line_digits.specs.FrameBytes.{frameIn, overlaid};
+ghost use Rattle.paper.specs.Lines.{Writes, bareLine, answerFrame, answerRanges, answerFits, countIn, noAnswer, readAsAnswer};
+ghost use Rattle.line_digits.specs.FrameBytes.{overlaid};
+ghost use Rattle.line_fields.specs.Fronts.{laidOut};
 ghost use Rattle.paper.specs.Limits.{longestAnswer, mostPage, mostCoordinates};
 use checks::answer_kind;
 use checks::answer_order;
 use paper::limits::ITEM_ROOM;
 use paper::limits::LONGEST_ANSWER;
-use paper::limits::LONGEST_FRAME;
 use paper::limits::MOST_PAGE;
 use paper::lines::Answer;
 use paper::lines::AnswerRead;
@@ -86,65 +86,22 @@ pub fn write_answer(q: Query, p: Scope, last: u8, count: u8, items: &[u64], out:
     Wrote::Refused(10)
 }
 
-// Whether what stands behind the probe is in range, with `count` items from byte at + 2 on.
-fn tail_ok(src: &[u8], at: usize, count: u64) -> bool
-    requires { ⌜ (21 ≤ at) × (at + 2 + 14 * count ≤ length (frameIn (now src))) ⌝ }
-    ensures { λ r. ⌜ r ≡ answerRanges (scopeIn (drop (at - 21) (frameIn (now (src .entry))))) (num 1 (drop at (frameIn (now (src .entry))))) count && numbersOk (itemNumbers count (drop (at + 2) (frameIn (now (src .entry))))) ⌝ }
+// [8.10] Whether a line begins with a head of this kind, and has the length that its d and its item count tell: 30 + 4d + 14k bytes.
+fn layout_ok(line: &[u8], kind: u8) -> bool
+    ensures { λ r. ⌜ r ≡ laidOut kind (30 + 14 * countIn (frameOf (now (line .entry)))) (frameOf (now (line .entry))) ⌝ }
 {
-    let p = line_fields::scope_at(src, at - 21);
-    if answer_ranges(p, line_digits::number(src, at, 1), count) {
-        return line_fields::numbers_ok(src, at + 2, count as usize);
-    }
-    false
-}
-
-// [8.10] Whether a frame of this kind is laid out as an answer.
-fn is_kind(src: &[u8], kind: u8) -> bool
-    ensures { λ r. ⌜ r ≡ answerOk kind (frameIn (now (src .entry))) ⌝ }
-{
-    let n = line_digits::size(src);
+    let n = line_digits::size(line);
     if n < 34 {
         return false;
     }
-    if line_fields::head_ok(src, kind) {
-        let at = 28 + 4 * line_digits::number(src, 6, 1) as usize;
+    if line_fields::head_ok(line, kind) {
+        let at = 28 + 4 * line_digits::number(line, 6, 1) as usize;
         if n < at + 2 {
             return false;
         }
-        let count = line_digits::number(src, at + 1, 1);
-        if n == at + 2 + 14 * count as usize {
-            return tail_ok(src, at, count);
-        }
+        return n == at + 2 + 14 * line_digits::number(line, at + 1, 1) as usize;
     }
     false
-}
-
-// [5.6] [8.10] Whether a frame is an answer, of the order that its kind tells.
-fn answer_ok(src: &[u8]) -> bool
-    ensures { λ r. ⌜ r ≡ isAnswer (frameIn (now (src .entry))) ⌝ }
-{
-    let order = answer_order(line_fields::kind(src));
-    is_kind(src, answer_kind(order))
-}
-
-// [5.6] The answer that a frame holds: query, scope behind its reach, last in byte 28 + 4d, then the item count and the items.
-fn answer_at(src: &[u8]) -> Answer
-    requires { ⌜ isAnswer (frameIn (now src)) ≡ true ⌝ }
-    ensures { λ r. ⌜ r ≡ answerAt (frameIn (now (src .entry))) ⌝ }
-{
-    let order = answer_order(line_fields::kind(src));
-    let query = line_fields::query_at(order, src);
-    let at = 28 + 4 * query.d;
-    let scope = line_fields::scope_at(src, at - 21);
-    let count = line_digits::number(src, at + 1, 1);
-    let items = line_fields::items_at(src, at + 2, count as usize);
-    Answer {
-        query,
-        scope,
-        last: line_digits::number(src, at, 1) as u8,
-        count: count as u8,
-        items,
-    }
 }
 
 fn no_answer(n: u8) -> AnswerRead
@@ -160,19 +117,44 @@ fn no_answer(n: u8) -> AnswerRead
     AnswerRead { refusal: n, answer }
 }
 
+// [5.6] [8.10] The answer in a sound line, in the order that its kind tells: query, scope behind its reach, last in byte 28 + 4d, then the item
+// count and the items. Each field is read once, and then tested. Refusal 10.
+fn answer_in(line: &[u8]) -> AnswerRead
+    requires { ⌜ isLine (now line) ≡ true ⌝ }
+    ensures { λ r. ⌜ r ≡ readAsAnswer (now (line .entry)) ⌝ }
+{
+    let order = answer_order(line_fields::kind(line));
+    if !layout_ok(line, answer_kind(order)) {
+        return no_answer(10);
+    }
+    let query = line_fields::query_at(order, line);
+    let at = 28 + 4 * query.d;
+    let scope = line_fields::scope_at(line, at - 21);
+    let last = line_digits::number(line, at, 1);
+    let count = line_digits::number(line, at + 1, 1);
+    if !answer_ranges(scope, last, count) {
+        return no_answer(10);
+    }
+    let items = line_fields::items_at(line, at + 2, count as usize);
+    if !line_fields::numbers_ok(&items) {
+        return no_answer(10);
+    }
+    let answer = Answer {
+        query,
+        scope,
+        last: last as u8,
+        count: count as u8,
+        items,
+    };
+    AnswerRead { refusal: 0, answer }
+}
+
 // [5.6] [9.15] Reads an answer's line. Refusals 9, 10.
 pub fn read_answer(line: &[u8]) -> AnswerRead
     ensures { λ r. ⌜ r ≡ readAsAnswer (now (line .entry)) ⌝ }
 {
-    let mut frame = [0u8; LONGEST_FRAME];
-    let n = line_digits::frame_of(line, &mut frame);
-    if n == 0 {
-        return no_answer(9);
+    if line_digits::is_sound(line) {
+        return answer_in(line);
     }
-    let src = &frame[..n];
-    if answer_ok(src) {
-        let answer = answer_at(src);
-        return AnswerRead { refusal: 0, answer };
-    }
-    no_answer(10)
+    no_answer(9)
 }

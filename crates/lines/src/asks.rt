@@ -3,16 +3,14 @@ ghost use mathlib.Core.Path.{_≡_};
 ghost use mathlib.Core.Bool.{true};
 ghost use Prim.Native.Nat.{_≤_};
 ghost use lib.ListN.{length};
-ghost use Rattle.paper.specs.Frames.{lineOf, written};
-ghost use Rattle.paper.specs.Lines.{Writes, bareLine, askFrame, askRanges, askFits, askOk, isAsk, askAt, noAsk, readAsAsk};
+ghost use Rattle.paper.specs.Frames.{isLine, lineOf, written};
+ghost use Rattle.paper.specs.Lines.{Writes, bareLine, askFrame, askRanges, askFits, noAsk, readAsAsk};
 ghost use Rattle.paper.specs.Orders.{queryIn};
-ghost use Rattle.line_digits.specs.FrameBytes.{frameIn};
 ghost use Rattle.paper.specs.Limits.{longestAsk, mostCoordinates};
 use checks::ask_kind;
 use checks::ask_order;
 use checks::size_holds;
 use paper::limits::LONGEST_ASK;
-use paper::limits::LONGEST_FRAME;
 use paper::lines::Ask;
 use paper::lines::AskRead;
 use paper::lines::Scope;
@@ -73,49 +71,6 @@ pub fn write_ask(q: Query, p: Scope, size: u8, out: &mut [u8]) -> Wrote
     Wrote::Refused(10)
 }
 
-// [8.10] Whether a frame of this kind is laid out as an ask.
-fn is_kind(src: &[u8], kind: u8) -> bool
-    ensures { λ r. ⌜ r ≡ askOk kind (frameIn (now (src .entry))) ⌝ }
-{
-    let n = line_digits::size(src);
-    if n < 33 {
-        return false;
-    }
-    if line_fields::head_ok(src, kind) {
-        let d = line_digits::number(src, 6, 1);
-        if n as u64 == 29 + 4 * d {
-            let at = 7 + 4 * d as usize;
-            let p = line_fields::scope_at(src, at);
-            return ask_ranges(p, line_digits::number(src, at + 21, 1));
-        }
-    }
-    false
-}
-
-// [5.5] [8.10] Whether a frame is an ask, of the order that its kind tells: 29 + 4d bytes, in range.
-pub fn ask_ok(src: &[u8]) -> bool
-    ensures { λ r. ⌜ r ≡ isAsk (frameIn (now (src .entry))) ⌝ }
-{
-    let order = ask_order(line_fields::kind(src));
-    is_kind(src, ask_kind(order))
-}
-
-// [5.5] The ask that a frame holds: query, scope behind its reach, and page size in byte 28 + 4d.
-pub fn ask_at(src: &[u8]) -> Ask
-    requires { ⌜ isAsk (frameIn (now src)) ≡ true ⌝ }
-    ensures { λ r. ⌜ r ≡ askAt (frameIn (now (src .entry))) ⌝ }
-{
-    let order = ask_order(line_fields::kind(src));
-    let query = line_fields::query_at(order, src);
-    let at = 7 + 4 * query.d;
-    let scope = line_fields::scope_at(src, at);
-    Ask {
-        query,
-        scope,
-        size: line_digits::number(src, at + 21, 1) as u8,
-    }
-}
-
 fn no_ask(n: u8) -> AskRead
     ensures { λ r. ⌜ r ≡ noAsk n ⌝ }
 {
@@ -127,19 +82,37 @@ fn no_ask(n: u8) -> AskRead
     AskRead { refusal: n, ask }
 }
 
+// [5.5] [8.10] The ask in a sound line, in the order that its kind tells: query, scope behind its reach, and page size in byte 28 + 4d. Each field
+// is read once, and then tested. Refusal 10.
+pub fn ask_in(line: &[u8]) -> AskRead
+    requires { ⌜ isLine (now line) ≡ true ⌝ }
+    ensures { λ r. ⌜ r ≡ readAsAsk (now (line .entry)) ⌝ }
+{
+    let order = ask_order(line_fields::kind(line));
+    if !line_fields::layout_ok(line, ask_kind(order), 29) {
+        return no_ask(10);
+    }
+    let query = line_fields::query_at(order, line);
+    let at = 7 + 4 * query.d;
+    let scope = line_fields::scope_at(line, at);
+    let size = line_digits::number(line, at + 21, 1);
+    if !ask_ranges(scope, size) {
+        return no_ask(10);
+    }
+    let ask = Ask {
+        query,
+        scope,
+        size: size as u8,
+    };
+    AskRead { refusal: 0, ask }
+}
+
 // [5.5] [9.15] Reads an ask's line. Refusals 9, 10.
 pub fn read_ask(line: &[u8]) -> AskRead
     ensures { λ r. ⌜ r ≡ readAsAsk (now (line .entry)) ⌝ }
 {
-    let mut frame = [0u8; LONGEST_FRAME];
-    let n = line_digits::frame_of(line, &mut frame);
-    if n == 0 {
-        return no_ask(9);
+    if line_digits::is_sound(line) {
+        return ask_in(line);
     }
-    let src = &frame[..n];
-    if ask_ok(src) {
-        let ask = ask_at(src);
-        return AskRead { refusal: 0, ask };
-    }
-    no_ask(10)
+    no_ask(9)
 }

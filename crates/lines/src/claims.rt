@@ -3,13 +3,11 @@ ghost use mathlib.Core.Path.{_≡_};
 ghost use mathlib.Core.Bool.{true};
 ghost use Prim.Native.Nat.{_≤_};
 ghost use lib.ListN.{length};
-ghost use Rattle.paper.specs.Frames.{lineOf, written};
-ghost use Rattle.paper.specs.Lines.{Writes, bareLine, claimFrame, claimFits, claimOk, claimAt, noClaim, readAsClaim};
-ghost use Rattle.line_digits.specs.FrameBytes.{frameIn};
+ghost use Rattle.paper.specs.Frames.{isLine, lineOf, written};
+ghost use Rattle.paper.specs.Lines.{Writes, bareLine, claimFrame, claimFits, noClaim, readAsClaim};
 ghost use Rattle.paper.specs.Limits.{longestClaim, mostCoordinates};
 use checks::in_range;
 use paper::limits::LONGEST_CLAIM;
-use paper::limits::LONGEST_FRAME;
 use paper::limits::MOST_COORDINATES;
 use paper::lines::ClaimLine;
 use paper::lines::ClaimRead;
@@ -66,36 +64,6 @@ pub fn write_claim(
     Wrote::Refused(10)
 }
 
-// [5.7] [8.10] Whether a frame is a claim: 11 + 4d bytes, in range.
-pub fn claim_ok(src: &[u8]) -> bool
-    ensures { λ r. ⌜ r ≡ claimOk (frameIn (now (src .entry))) ⌝ }
-{
-    let n = line_digits::size(src);
-    if n < 15 {
-        return false;
-    }
-    if line_fields::head_ok(src, ClaimLine::KIND) {
-        return n as u64 == 11 + 4 * line_digits::number(src, 6, 1);
-    }
-    false
-}
-
-// [5.7] The claim that a frame holds: reference from byte 7, point from byte 11.
-pub fn claim_at(src: &[u8]) -> ClaimLine
-    requires { ⌜ claimOk (frameIn (now src)) ≡ true ⌝ }
-    ensures { λ r. ⌜ r ≡ claimAt (frameIn (now (src .entry))) ⌝ }
-{
-    let d = line_digits::number(src, 6, 1);
-    let coordinates = line_fields::coords_at(src, 11, d as usize);
-    ClaimLine {
-        table: line_digits::number(src, 1, 4) as u32,
-        measure: line_digits::number(src, 5, 1) as u8,
-        d: d as u8,
-        reference: line_digits::number(src, 7, 4) as u32,
-        coordinates,
-    }
-}
-
 fn no_claim(n: u8) -> ClaimRead
     ensures { λ r. ⌜ r ≡ noClaim n ⌝ }
 {
@@ -109,19 +77,32 @@ fn no_claim(n: u8) -> ClaimRead
     ClaimRead { refusal: n, claim }
 }
 
+// [5.7] [8.10] The claim in a sound line: reference from byte 7, point from byte 11. Refusal 10.
+pub fn claim_in(line: &[u8]) -> ClaimRead
+    requires { ⌜ isLine (now line) ≡ true ⌝ }
+    ensures { λ r. ⌜ r ≡ readAsClaim (now (line .entry)) ⌝ }
+{
+    if !line_fields::layout_ok(line, ClaimLine::KIND, 11) {
+        return no_claim(10);
+    }
+    let d = line_digits::number(line, 6, 1);
+    let coordinates = line_fields::coords_at(line, 11, d as usize);
+    let claim = ClaimLine {
+        table: line_digits::number(line, 1, 4) as u32,
+        measure: line_digits::number(line, 5, 1) as u8,
+        d: d as u8,
+        reference: line_digits::number(line, 7, 4) as u32,
+        coordinates,
+    };
+    ClaimRead { refusal: 0, claim }
+}
+
 // [5.7] [9.15] Reads a claim's line. Refusals 9, 10.
 pub fn read_claim(line: &[u8]) -> ClaimRead
     ensures { λ r. ⌜ r ≡ readAsClaim (now (line .entry)) ⌝ }
 {
-    let mut frame = [0u8; LONGEST_FRAME];
-    let n = line_digits::frame_of(line, &mut frame);
-    if n == 0 {
-        return no_claim(9);
+    if line_digits::is_sound(line) {
+        return claim_in(line);
     }
-    let src = &frame[..n];
-    if claim_ok(src) {
-        let claim = claim_at(src);
-        return ClaimRead { refusal: 0, claim };
-    }
-    no_claim(10)
+    no_claim(9)
 }

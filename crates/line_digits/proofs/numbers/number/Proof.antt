@@ -1,3 +1,4 @@
+-- `line_digits::numbers::number` meets its contract: a turn adds one byte of the frame. Assumes nothing.
 use Prim.Native.Nat.{ℕ, _+_, _-_, _*_, _^_, _≤_, _<_}
 use native.Mathlib.Nat.{pow-le-pow-right, pow-suc}
 use native.Mathlib.Numerals.{add-one}
@@ -7,26 +8,26 @@ use mathlib.Core.List.{List}
 use lib.ListN.{getD, drop}
 use lib.Seq.{getD-drop}
 use borrow.Author.Needs.{needs}
-use Rattle.paper.specs.Frames.{num}
-use Rattle.line_digits.specs.FrameBytes.{frameIn}
+use Rattle.paper.specs.Frames.{num, frameOf}
+use Rattle.line_digits.proofs.LinesAndFrames.{frame-le}
 use Rattle.line_digits.proofs.numbers.number.Statement.{statement}
 use Rattle.line_digits.proofs.numbers.number.Tie as tie
 
 seven : (i : ℕ) → i < 8 → 256 ^ i ≤ 72057594037927936
 seven i h = pow-le-pow-right {n = 256} (omega arith) {i = i} {j = 7} (omega arith)
 
-step : (s : List ℕ) (at i : ℕ) → num (i + 1) (drop at (frameIn s)) ≡ num i (drop at (frameIn s)) * 256 + getD s (at + i) 0
-unfolding num frameIn
-step s at i = rw (add-one, getD-drop)
+step : (f : List ℕ) (at i a b : ℕ) → a ≡ num i (drop at f) → b ≡ getD f (at + i) 0 → a * 256 + b ≡ num (i + 1) (drop at f)
+unfolding num
+step f at i a b p q = rw (p, q, add-one, getD-drop)
 
 more : (a b i : ℕ) → a < 256 ^ i → b < 256 → a * 256 + b < 256 ^ (i + 1)
 more a b i h k = rw (add-one, pow-suc) (omega arith)
 
 abbrev Inv-loop : tie.InvT-loop
-Inv-loop src at w acc₀ i₀ acc i = (i ≤ w) × ((acc ≡ num i (drop at (frameIn src))) × (acc < 256 ^ i))
+Inv-loop line at w acc₀ i₀ acc i = (i ≤ w) × ((acc ≡ num i (drop at (frameOf line))) × (acc < 256 ^ i))
 
 abbrev μ-loop : tie.MeasureT-loop
-μ-loop src at w acc₀ i₀ acc i = w - i
+μ-loop line at w acc₀ i₀ acc i = w - i
 
 loop-holds : tie.Need-loop-holds Inv-loop μ-loop
 unfolding num
@@ -35,19 +36,14 @@ loop-holds c = (search needs, (refl, omega arith))
 mul-acc : tie.Need-mul-acc Inv-loop μ-loop
 mul-acc c = omega (arith, seven (c .before .loop .i) (omega arith))
 
+add-byte : tie.Need-add-byte Inv-loop μ-loop
+add-byte c = omega (arith, frame-le (c .before .before .before .args .line .now))
+
+byte-requires : tie.Need-byte-requires Inv-loop μ-loop
+byte-requires c κs = search needs
+
 add-acc : tie.Need-add-acc Inv-loop μ-loop
-unfolding frameIn
-add-acc c = omega arith
-
-shared-slice-read-acc : tie.Need-shared-slice-read-acc Inv-loop μ-loop
-unfolding frameIn
-shared-slice-read-acc c = omega arith
-
-cast-acc : tie.Need-cast-acc Inv-loop μ-loop
-cast-acc c = omega (arith, c .shared-slice-known .given (c .before .before .before .args .at + c .before .before .loop .i))
-
-add-acc-2 : tie.Need-add-acc-2 Inv-loop μ-loop
-add-acc-2 c = omega (arith, c .shared-slice-known .given (c .before .before .before .args .at + c .before .before .loop .i), seven (c .before .before .loop .i) (omega arith))
+add-acc c = omega (arith, c .byte .ensures .1, seven (c .before .before .loop .i) (omega arith))
 
 add-i : tie.Need-add-i Inv-loop μ-loop
 add-i c = search needs
@@ -58,18 +54,13 @@ loop-less c = search needs
 loop-again : tie.Need-loop-again Inv-loop μ-loop
 loop-again c =
     let l = c .before .before .loop in
-    let a = c .before .before .before .args in (
-      search needs,
-      (
-        rw (step (a .src .now) (a .at) (l .i), ← l .inv .1 .0),
-        more (l .acc) (getD (a .src .now) (a .at + l .i) 0) (l .i) (l .inv .1 .1) (omega (arith, c .shared-slice-known .given (c .before .before .before .args .at + c .before .before .loop .i))),
-      ),
-    )
+    let a = c .before .before .before .before .args in
+    (search needs, (step (frameOf (a .line .now)) (a .at) _ _ _ (l .inv .1 .0) (c .byte .ensures .0), more _ _ _ (l .inv .1 .1) (c .byte .ensures .1)))
 
 returns : tie.Need-returns Inv-loop μ-loop
 returns c =
     let l = c .before .loop in
-    let e : l .i ≡ c .before .before .args .w = omega arith in
+    let e : l .i ≡ c .before .before .before .args .w = omega arith in
     record { value = rw (← e) (l .inv .1 .0); small = rw (← e) (l .inv .1 .1) }
 
 pub number-spec : {M : Type 1} → statement M
@@ -80,10 +71,9 @@ number-spec =
     μ-loop
     loop-holds
     mul-acc
+    add-byte
+    byte-requires
     add-acc
-    shared-slice-read-acc
-    cast-acc
-    add-acc-2
     add-i
     loop-less
     loop-again

@@ -4,9 +4,8 @@ use mathlib.Core.Path.{_≡_, refl, _∙_}
 use mathlib.Core.List.{_++_}
 use lib.ListN.{drop, replicate}
 use lib.Seq.{drop-drop}
-use Rattle.paper.specs.Frames.{num}
-use Rattle.line_digits.specs.FrameBytes.{frameIn}
-use Rattle.line_digits.proofs.NumbersAndFrames.{held-le}
+use Rattle.paper.specs.Frames.{num, frameOf}
+use Rattle.line_digits.proofs.LinesAndFrames.{frame-le}
 use Rattle.paper.specs.Fields.{itemNumbers, itemSlots}
 use Rattle.line_fields.proofs.ItemLaws.{slots-step}
 use borrow.Author.Needs.{needs}
@@ -15,10 +14,10 @@ use Rattle.line_fields.proofs.items.items_at.Tie as tie
 use Rattle.paper.specs.Limits.{itemRoom}
 
 abbrev Inv-loop : tie.InvT-loop
-Inv-loop src at k found₀ i₀ found i = (i ≤ k) × (found ≡ itemNumbers i (drop at (frameIn src)) ++ replicate (itemRoom - 3 * i) 0)
+Inv-loop line at k found₀ i₀ found i = (i ≤ k) × (found ≡ itemNumbers i (drop at (frameOf line)) ++ replicate (itemRoom - 3 * i) 0)
 
 abbrev μ-loop : tie.MeasureT-loop
-μ-loop src at k found₀ i₀ found i = k - i
+μ-loop line at k found₀ i₀ found i = k - i
 
 loop-holds : tie.Need-loop-holds Inv-loop μ-loop
 unfolding itemNumbers
@@ -31,7 +30,7 @@ mul-a : tie.Need-mul-a Inv-loop μ-loop
 mul-a c = search needs
 
 add-a : tie.Need-add-a Inv-loop μ-loop
-add-a c = omega (arith, held-le (c .before .before .before .args .src .now))
+add-a c = omega (arith, frame-le (c .before .before .before .args .line .now))
 
 number-requires : tie.Need-number-requires Inv-loop μ-loop
 number-requires c κs = search needs
@@ -43,7 +42,7 @@ array-write-found : tie.Need-array-write-found Inv-loop μ-loop
 array-write-found c = search needs
 
 add-number : tie.Need-add-number Inv-loop μ-loop
-add-number c = omega (arith, held-le (c .before .before .before .before .args .src .now))
+add-number c = omega (arith, frame-le (c .before .before .before .before .args .line .now))
 
 number-requires-2 : tie.Need-number-requires-2 Inv-loop μ-loop
 number-requires-2 c κs = search needs
@@ -58,7 +57,7 @@ array-write-found-2 : tie.Need-array-write-found-2 Inv-loop μ-loop
 array-write-found-2 c = search needs
 
 add-number-2 : tie.Need-add-number-2 Inv-loop μ-loop
-add-number-2 c = omega (arith, held-le (c .before .before .before .before .before .args .src .now))
+add-number-2 c = omega (arith, frame-le (c .before .before .before .before .before .args .line .now))
 
 number-requires-3 : tie.Need-number-requires-3 Inv-loop μ-loop
 number-requires-3 c κs = search needs
@@ -82,7 +81,7 @@ loop-again : tie.Need-loop-again Inv-loop μ-loop
 loop-again c =
     let l = c .before .before .before .before .loop in
     let a = c .before .before .before .before .before .before .args in
-    let f = frameIn (a .src .now) in
+    let f = frameOf (a .line .now) in
     let i = l .i in
     let e1 : c .before .before .number .result ≡ num 2 (drop (14 * l .i) (drop (a .at) f)) = c .before .before .number .ensures .value ∙ rw drop-drop in
     let q2 : a .at + 14 * l .i + 2 ≡ a .at + (14 * l .i + 2) = omega arith in

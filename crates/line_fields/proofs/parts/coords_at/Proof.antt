@@ -9,16 +9,15 @@ use mir.Syntax.{w32}
 use mir.Val.{ofZ, toZ}
 use mir.Facts.{toZ-ofZ}
 use borrow.Author.Needs.{needs}
-use Rattle.paper.specs.Frames.{num}
-use Rattle.line_digits.specs.FrameBytes.{frameIn}
-use Rattle.line_digits.proofs.NumbersAndFrames.{held-le}
+use Rattle.paper.specs.Frames.{num, frameOf}
+use Rattle.line_digits.proofs.LinesAndFrames.{frame-le}
 use Rattle.paper.specs.Fields.{coordsIn, inSlots}
 use Rattle.line_fields.proofs.PartLaws.{place-step}
 use Rattle.line_fields.proofs.parts.coords_at.Statement.{statement}
 use Rattle.line_fields.proofs.parts.coords_at.Tie as tie
 
 abbrev Inv-loop : tie.InvT-loop
-Inv-loop line at d found₀ i₀ found i = (i ≤ d) × (found ≡ coordsIn i (drop at (frameIn line)) ++ replicate (8 - i) (pos 0))
+Inv-loop line at d found₀ i₀ found i = (i ≤ d) × (found ≡ coordsIn i (drop at (frameOf line)) ++ replicate (8 - i) (pos 0))
 
 abbrev μ-loop : tie.MeasureT-loop
 μ-loop line at d found₀ i₀ found i = d - i
@@ -31,7 +30,7 @@ mul-number : tie.Need-mul-number Inv-loop μ-loop
 mul-number c = search needs
 
 add-number : tie.Need-add-number Inv-loop μ-loop
-add-number c = omega (arith, held-le (c .before .before .before .args .src .now))
+add-number c = omega (arith, frame-le (c .before .before .before .args .line .now))
 
 number-requires : tie.Need-number-requires Inv-loop μ-loop
 number-requires c κs = search needs
@@ -58,7 +57,7 @@ loop-again : tie.Need-loop-again Inv-loop μ-loop
 loop-again c =
     let l = c .before .before .before .loop in
     let a = c .before .before .before .before .before .args in
-    let f = frameIn (a .src .now) in
+    let f = frameOf (a .line .now) in
     let e : toZ w32 (ofZ w32 (c .signed .result)) ≡ toZ w32 (num 4 (drop (4 * l .i) (drop (a .at) f))) =
     rw (toZ-ofZ {w = w32} {z = c .signed .result} (record { sfits = c .signed .ok }), c .signed .ensures, c .before .number .ensures .value, drop-drop) in
     (search needs, rw (e, l .inv .1) (place-step (drop (a .at) f) (l .i) (omega arith)))

@@ -1,20 +1,22 @@
+-- `line_fields::parts::layout_ok` meets its contract: the head, and then the length. Assumes nothing.
 use native.Mathlib.Omega.{arith}
 use mathlib.Core.Path.{sym}
-use Rattle.paper.specs.Lines.{claimOk}
-use Rattle.line_digits.specs.FrameBytes.{frameIn}
+use Rattle.paper.specs.Frames.{frameOf}
 use Rattle.paper.proofs.Tests.{refuted}
-use Rattle.lines.proofs.ClaimTests.{is-claim}
+use Rattle.line_fields.specs.Fronts.{laidOut}
+use Rattle.line_fields.proofs.PartLaws.{laid-is}
 use borrow.Author.Needs.{needs}
-use Rattle.lines.proofs.claims.claim_ok.Statement.{statement}
-use Rattle.lines.proofs.claims.claim_ok.Tie as tie
+use Rattle.line_fields.proofs.parts.layout_ok.Statement.{statement}
+use Rattle.line_fields.proofs.parts.layout_ok.Tie as tie
 
 size-requires : tie.Need-size-requires
 size-requires c κs = search needs
 
 returns : tie.Need-returns
 returns c =
-    let f = frameIn (c .before .before .before .args .src .now) in
-    sym (refuted (claimOk f) (λ e. let p = is-claim f e in omega arith))
+    let a = c .before .before .before .args in
+    let f = frameOf (a .line .now) in
+    sym (refuted (laidOut (a .kind) (a .fixed) f) (λ e. let p = laid-is (a .kind) (a .fixed) f e in omega (arith, p .1)))
 
 head-ok-requires : tie.Need-head-ok-requires
 head-ok-requires c κs = search needs
@@ -29,15 +31,15 @@ add-result : tie.Need-add-result
 add-result c = search needs
 
 returns-2 : tie.Need-returns-2
-unfolding claimOk
+unfolding laidOut
 returns-2 c = rw (← c .before .before .head-ok .ensures, c .before .if2 .taken, ← c .number .ensures .value, ← c .before .before .before .before .size .ensures)
 
 returns-3 : tie.Need-returns-3
-unfolding claimOk
+unfolding laidOut
 returns-3 c = rw (← c .before .head-ok .ensures, c .if2 .left)
 
-pub claim-ok-spec : {M : Type 1} → statement M
-claim-ok-spec =
+pub layout-ok-spec : {M : Type 1} → statement M
+layout-ok-spec =
     tie.close
     (tie.spec
     size-requires
