@@ -2,13 +2,14 @@
 use Prim.Native.Nat.{ℕ, zero, suc, _+_, _-_, _*_, _/_, _%_, _≤_, _<_}
 use native.Mathlib.Omega.{arith}
 use mathlib.Core.Path.{_≡_, refl, sym, ap}
-use mathlib.Core.Bool.{Bool, true, false, cond, _&&_}
+use mathlib.Core.Bool.{Bool, true, false, cond, _&&_, _||_}
 use mathlib.Core.List.{List, [], _∷_, _++_}
 use lib.ListN.{length, getD, length-append}
 use lib.Dec.{ltb, leb, eqb}
-use borrow.Author.Tests.{ltb-true, ltb-false, leb-true, eqb-true, lt-ltb, le-ltb, le-leb}
+use borrow.Author.Tests.{ltb-true, ltb-false, leb-true, eqb-true, lt-ltb, le-ltb, le-leb, lt-leb}
 use Rattle.paper.specs.Frames.{glyph, digit, hexes, lineOf, pairsEnded, isLine, frameOf}
 use Rattle.paper.specs.Limits.{longestAnswer, longestFrame}
+use Rattle.paper.proofs.Tests.{never}
 use Rattle.line_digits.proofs.NumbersAndFrames.{Bytes}
 
 -- ---- digits
@@ -44,6 +45,52 @@ glyph-digit-of b false false false false e1 e2 e3 e4 h = omega arith
 pub glyph-digit : (b : ℕ) → digit b < 16 → glyph (digit b) ≡ b
 unfolding digit
 glyph-digit b h = glyph-digit-of b (ltb b 48) (ltb b 58) (ltb b 97) (ltb b 103) refl refl refl refl h
+
+-- a digit's value from its two halves
+digit-halves-of : (b : ℕ) (s t u v : Bool) → ltb b 48 ≡ s → ltb b 58 ≡ t → ltb b 97 ≡ u → ltb b 103 ≡ v
+    → cond s 16 (cond t (b - 48) (cond u 16 (cond v (b - 87) 16))) < 16
+    → b % 16 + b / 64 * 9 ≡ cond s 16 (cond t (b - 48) (cond u 16 (cond v (b - 87) 16)))
+digit-halves-of b true t u v e1 e2 e3 e4 h = absurd (omega arith)
+digit-halves-of b false true u v e1 e2 e3 e4 h =
+    let k1 : 48 ≤ b = ltb-false b 48 e1 in
+    let k2 : b < 58 = ltb-true b 58 e2 in
+    omega arith
+digit-halves-of b false false true v e1 e2 e3 e4 h = absurd (omega arith)
+digit-halves-of b false false false true e1 e2 e3 e4 h =
+    let k1 : 97 ≤ b = ltb-false b 97 e3 in
+    let k2 : b < 103 = ltb-true b 103 e4 in
+    omega arith
+digit-halves-of b false false false false e1 e2 e3 e4 h = absurd (omega arith)
+
+pub digit-halves : (b : ℕ) → digit b < 16 → b % 16 + b / 64 * 9 ≡ digit b
+unfolding digit
+digit-halves b h = digit-halves-of b (ltb b 48) (ltb b 58) (ltb b 97) (ltb b 103) refl refl refl refl h
+
+-- the two runs of characters that are digits
+digit-runs-of : (b : ℕ) (s t u v : Bool) → ltb b 48 ≡ s → ltb b 58 ≡ t → ltb b 97 ≡ u → ltb b 103 ≡ v
+    → (leb 48 b && t) || (leb 97 b && v) ≡ ltb (cond s 16 (cond t (b - 48) (cond u 16 (cond v (b - 87) 16)))) 16
+digit-runs-of b true t u v e1 e2 e3 e4 =
+    let k : b < 48 = ltb-true b 48 e1 in
+    rw (lt-leb 48 b k, lt-leb 97 b (omega arith))
+digit-runs-of b false true u v e1 e2 e3 e4 =
+    let k1 : 48 ≤ b = ltb-false b 48 e1 in
+    let k2 : b < 58 = ltb-true b 58 e2 in
+    rw (le-leb 48 b k1, lt-ltb (b - 48) 16 (omega arith))
+digit-runs-of b false false true v e1 e2 e3 e4 =
+    let k1 : 48 ≤ b = ltb-false b 48 e1 in
+    let k2 : b < 97 = ltb-true b 97 e3 in
+    rw (le-leb 48 b k1, lt-leb 97 b k2)
+digit-runs-of b false false false true e1 e2 e3 e4 =
+    let k1 : 97 ≤ b = ltb-false b 97 e3 in
+    let k2 : b < 103 = ltb-true b 103 e4 in
+    rw (le-leb 48 b (omega arith), le-leb 97 b k1, lt-ltb (b - 87) 16 (omega arith))
+digit-runs-of b false false false false e1 e2 e3 e4 =
+    let k1 : 97 ≤ b = ltb-false b 97 e3 in
+    rw (le-leb 48 b (omega arith), le-leb 97 b k1)
+
+pub digit-runs : (b : ℕ) → (leb 48 b && ltb b 58) || (leb 97 b && ltb b 103) ≡ ltb (digit b) 16
+unfolding digit
+digit-runs b = digit-runs-of b (ltb b 48) (ltb b 58) (ltb b 97) (ltb b 103) refl refl refl refl
 
 -- ---- lines
 
@@ -99,11 +146,6 @@ pub sound-line : (f : List ℕ) → Bytes f → 0 < length f → length f ≤ lo
 unfolding isLine
 sound-line f p h k =
     rw (length-line f, lt-ltb 1 (2 * length f + 1) (omega arith), le-leb (2 * length f + 1) longestAnswer (omega arith)) (ended-line f p)
-
-pub line-of-sound : (l : List ℕ) → isLine l ≡ true → lineOf (frameOf l) ≡ l
-unfolding isLine
-line-of-sound l e =
-    line-frame l (and-both (leb (length l) longestAnswer) (pairsEnded l) (and-both (ltb 1 (length l)) (leb (length l) longestAnswer && pairsEnded l) e .1) .1)
 
 pub length-frame : (l : List ℕ) → length (frameOf l) ≡ length l / 2
 unfolding frameOf
@@ -168,7 +210,32 @@ ended-good (a ∷ b ∷ l) (suc (suc n)) e p h =
     rw (lt-ltb (digit a) 16 (h 0 (omega arith)), lt-ltb (digit b) 16 (h 1 (omega arith)))
     (ended-good l n (omega arith) (omega arith) (λ k q. h (suc (suc k)) (omega arith)))
 
-pub sound-size : (l : List ℕ) → isLine l ≡ true → length l ≤ longestAnswer
-unfolding isLine
-sound-size l e =
-    leb-true (length l) longestAnswer (and-both (leb (length l) longestAnswer) (pairsEnded l) (and-both (ltb 1 (length l)) (leb (length l) longestAnswer && pairsEnded l) e .1) .0)
+-- ---- what a sound line is known for
+
+module _ (l : List ℕ) (e : isLine l ≡ true) where
+  sound-ended : pairsEnded l ≡ true
+  unfolding isLine
+  sound-ended = and-both (leb (length l) longestAnswer) (pairsEnded l) (and-both (ltb 1 (length l)) (leb (length l) longestAnswer && pairsEnded l) e .1) .1
+
+  pub line-of-sound : lineOf (frameOf l) ≡ l
+  line-of-sound = line-frame l sound-ended
+
+  -- its frame has a byte at least
+  pub sound-byte : 1 ≤ length (frameOf l)
+  unfolding isLine
+  sound-byte =
+      let some : 1 < length l = ltb-true 1 (length l) (and-both (ltb 1 (length l)) (leb (length l) longestAnswer && pairsEnded l) e .0) in
+      omega (arith, some, length-frame l)
+
+  -- a character stands behind its pairs
+
+  pub sound-odd : length l % 2 ≡ 1
+  sound-odd = let odd : length l % 2 ≡ 0 → ⊥ = λ z. never (pairsEnded l) sound-ended (ended-even l z) in omega (arith, odd)
+
+  -- every character but the last is a digit
+  pub sound-at : (i : ℕ) → i + 1 < length l → digit (getD l i 0) < 16
+  sound-at i h = go (ltb (digit (getD l i 0)) 16) refl
+    where
+      go : (t : Bool) → ltb (digit (getD l i 0)) 16 ≡ t → digit (getD l i 0) < 16
+      go true z = ltb-true (digit (getD l i 0)) 16 z
+      go false z = absurd (never (pairsEnded l) sound-ended (ended-bad l i h (ltb-false (digit (getD l i 0)) 16 z)))

@@ -14,30 +14,19 @@ pub fn glyph(n: u64) -> u8
     if n < 10 { 48 + n as u8 } else { 87 + n as u8 }
 }
 
-// [5.1] The value of a digit, or 16 for a byte that is none.
-pub fn digit(b: u8) -> u64
-    ensures { λ r. ⌜ r ≡ Frames·digit b ⌝ }
-{
-    if b < 48 {
-        return 16;
-    }
-    if b < 58 {
-        return (b - 48) as u64;
-    }
-    if b < 97 {
-        return 16;
-    }
-    if b < 103 {
-        return (b - 87) as u64;
-    }
-    16
-}
-
-// Whether a byte is a digit.
+// [5.1] Whether a byte is a digit: 0 to 9, or a to f.
 fn is_digit(b: u8) -> bool
     ensures { λ r. ⌜ r ≡ ltb (Frames·digit b) 16 ⌝ }
 {
-    digit(b) < 16
+    ((48 <= b) & (b < 58)) | ((97 <= b) & (b < 103))
+}
+
+// [5.1] The value of a digit. The lower half of 0 to 9 is the value; a to f have 64 besides, and a lower half from 1 on.
+pub fn digit(b: u8) -> u64
+    requires { ⌜ Frames·digit b < 16 ⌝ }
+    ensures { λ r. ⌜ r ≡ Frames·digit b ⌝ }
+{
+    (b % 16 + b / 64 * 9) as u64
 }
 
 // [8.9] Whether a line is pairs of digits, one at least, with 0A behind them, and not too long. All characters are looked at: without an early

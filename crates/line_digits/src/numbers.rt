@@ -5,7 +5,7 @@ ghost use lib.ListN.{length, getD};
 ghost use mir.Syntax.{w32};
 ghost use mir.Val.{ofZ, toZ};
 ghost use Rattle.paper.specs.Frames.{be, frameOf};
-ghost use Rattle.line_digits.specs.FrameBytes.{overlaid, Field};
+ghost use Rattle.line_digits.specs.FrameBytes.{overlaid, HasBytes, Field};
 use crate::hex::digit;
 use crate::hex::glyph;
 
@@ -35,16 +35,16 @@ pub fn size(line: &[u8]) -> usize
 
 // [5.1] Byte `at` of a line's frame, from its two digits.
 fn byte(line: &[u8], at: usize) -> u64
-    requires { ⌜ at < length (frameOf (now line)) ⌝ }
+    requires { ⌜ HasBytes (now line) (at + 1) ⌝ }
     ensures { λ r. ⌜ (r ≡ getD (frameOf (now (line .entry))) at 0) × (r < 256) ⌝ }
 {
     let k = 2 * at;
-    digit(line[k]) % 16 * 16 + digit(line[k + 1]) % 16
+    digit(line[k]) * 16 + digit(line[k + 1])
 }
 
-// [5.2] The number in the w bytes from byte `at` on of a line's frame.
+// [5.2] The number in the w bytes from byte `at` on of a line's frame. Soundness was tested, so a digit is worked out without a test.
 pub fn number(line: &[u8], at: usize, w: usize) -> u64
-    requires { ⌜ (at + w ≤ length (frameOf (now line))) × (w ≤ 8) ⌝ }
+    requires { ⌜ HasBytes (now line) (at + w) × (w ≤ 8) ⌝ }
     ensures { λ r. ⌜ Field (now (line .entry)) at w r ⌝ }
 {
     let mut acc: u64 = 0;

@@ -135,50 +135,32 @@ items-read (suc k) (n ∷ r ∷ x ∷ ns) g p =
 
 -- ---- tests
 
+-- of the items that are left to test, the first is in range, or is not
+module _ (k i : ℕ) (g : List ℕ) (h : i < k) where
+  pub number-more : num 2 (drop (14 * i) g) ≤ mostNumber
+      → numbersOk (itemNumbers (k - i) (drop (14 * i) g)) ≡ numbersOk (itemNumbers (k - (i + 1)) (drop (14 * (i + 1)) g))
+  unfolding itemNumbers numbersOk
+  number-more q =
+      let e1 : k - i ≡ suc (k - (i + 1)) = omega arith in
+      let e2 : 14 * (i + 1) ≡ 14 * i + 14 = omega arith in
+      rw (e1, e2, le-leb (num 2 (drop (14 * i) g)) mostNumber q, drop-drop 14 (14 * i) g)
+
+  pub number-bad : mostNumber < num 2 (drop (14 * i) g) → numbersOk (itemNumbers (k - i) (drop (14 * i) g)) ≡ false
+  unfolding itemNumbers numbersOk
+  number-bad q =
+      let e1 : k - i ≡ suc (k - (i + 1)) = omega arith in
+      rw (e1, lt-leb (num 2 (drop (14 * i) g)) mostNumber q)
+
+-- the same of items that a writer is handed
+unfoldable pub fitting : List ℕ → Bool
+fitting ns = referencesOk ns && numbersOk ns
+
 three-drop : (ns : List ℕ) (j : ℕ) → j + 2 < length ns → drop j ns ≡ getD ns j 0 ∷ getD ns (j + 1) 0 ∷ getD ns (j + 2) 0 ∷ drop (j + 3) ns
 three-drop ns j h =
     let e1 : j + 1 ≡ suc j = omega arith in
     let e2 : j + 2 ≡ suc (suc j) = omega arith in
     let e3 : j + 3 ≡ suc (suc (suc j)) = omega arith in
     rw (e1, e2, e3, drop-cons ns j 0 (omega arith), drop-cons ns (suc j) 0 (omega arith), drop-cons ns (suc (suc j)) 0 (omega arith))
-
-few-numbers : (ns : List ℕ) → length ns ≤ 2 → numbersOk ns ≡ true
-unfolding numbersOk
-few-numbers [] h = refl
-few-numbers (n ∷ []) h = refl
-few-numbers (n ∷ r ∷ []) h = refl
-few-numbers (n ∷ r ∷ x ∷ ns) h = absurd (omega arith)
-
--- of the items that are left to test, the first is in range, or is not, or none is left
-module _ (ns : List ℕ) (j : ℕ) where
-  module _ (h : j + 2 < length ns) where
-    pub number-more : getD ns j 0 ≤ mostNumber → numbersOk (drop j ns) ≡ numbersOk (drop (j + 3) ns)
-    unfolding numbersOk
-    number-more p = rw (three-drop ns j h, le-leb (getD ns j 0) mostNumber p)
-
-    pub number-bad : mostNumber < getD ns j 0 → numbersOk (drop j ns) ≡ false
-    unfolding numbersOk
-    number-bad p = rw (three-drop ns j h, lt-leb (getD ns j 0) mostNumber p)
-
-  pub number-none : length ns ≤ j + 2 → numbersOk (drop j ns) ≡ true
-  number-none h = few-numbers (drop j ns) (omega (arith, length-drop j ns))
-
--- the unused slots are in range
-zeros-ok : (m : ℕ) → numbersOk (replicate m 0) ≡ true
-unfolding numbersOk
-zeros-ok zero = refl
-zeros-ok (suc zero) = refl
-zeros-ok (suc (suc zero)) = refl
-zeros-ok (suc (suc (suc m))) = zeros-ok m
-
-pub slots-ok : (k m : ℕ) (f : List ℕ) → numbersOk (itemNumbers k f ++ replicate m 0) ≡ numbersOk (itemNumbers k f)
-unfolding itemNumbers numbersOk
-slots-ok zero m f = zeros-ok m
-slots-ok (suc k) m f = ap (λ (b : Bool). leb (num 2 f) mostNumber && b) (slots-ok k m (drop 14 f))
-
--- the same of items that a writer is handed
-unfoldable pub fitting : List ℕ → Bool
-fitting ns = referencesOk ns && numbersOk ns
 
 module _ (ns : List ℕ) (j : ℕ) (h : j + 2 < length ns) where
   pub fit-more : getD ns j 0 ≤ mostNumber → getD ns (j + 1) 0 ≤ 4294967295 → fitting (drop j ns) ≡ fitting (drop (j + 3) ns)

@@ -4,7 +4,7 @@ use Prim.Native.Nat.{ℕ, zero, suc, _+_, _-_, _*_, _≤_, _<_}
 use native.Mathlib.Numerals.{add-one}
 use native.Mathlib.Omega.{arith}
 use mathlib.Core.Path.{_≡_, refl, sym, ap, _∙_}
-use mathlib.Core.Bool.{Bool, true, false, _&&_, _||_}
+use mathlib.Core.Bool.{Bool, true, false, _&&_, _||_, not}
 use mathlib.Core.List.{List, [], _∷_, _++_, append-assoc}
 use lib.ListN.{length, getD, drop, set, replicate, length-append}
 use lib.Seq.{drop-cons, drop-drop, set-at}
@@ -12,20 +12,20 @@ use lib.Dec.{eqb}
 use lib.IntN.{ℤ, pos}
 use mir.Syntax.{w32}
 use mir.Val.{ofZ, toZ}
-use Rattle.paper.specs.Frames.{be, num}
-use Rattle.line_digits.specs.FrameBytes.{overlaid}
+use Rattle.paper.specs.Frames.{be, num, frameOf, isLine}
+use Rattle.line_digits.specs.FrameBytes.{overlaid, HasBytes}
 use Rattle.line_digits.proofs.NumbersAndFrames.{Bytes, bytes-append, bytes-be, length-be}
 use Rattle.line_digits.proofs.WritingOver.{over-append}
 use Rattle.line_digits.proofs.LinesAndFrames.{and-both}
-use borrow.Author.Tests.{le-leb, eqb-true, eq-eqb}
+use borrow.Author.Tests.{le-leb, eqb-true, eq-eqb, not-false}
 use Rattle.paper.specs.Points.{inRange, InRange}
 use Rattle.paper.specs.Orders.{Query}
 use Rattle.paper.proofs.Ranges.{range-is}
 use Rattle.paper.specs.Fields.{head, front, coordBytes, coordsIn, scopeBytes, scopeOk}
 use Rattle.paper.specs.Lines.{headOk}
 use Rattle.paper.specs.declared.lines.Scope.{Scope}
-use Rattle.paper.specs.Limits.{mostClaims, mostNumber}
-use Rattle.line_fields.specs.Fronts.{laidOut}
+use Rattle.paper.specs.Limits.{mostClaims, mostNumber, mostCoordinates}
+use Rattle.line_fields.specs.Layout.{laidOut}
 
 -- ---- writing
 
@@ -157,3 +157,14 @@ laid-then k n f t = go (headOk k f) (eqb (length f) (n + 4 * num 1 (drop 6 f)))
     go : (a b : Bool) → a && (b && t) ≡ (a && b) && t
     go true b = refl
     go false b = refl
+
+-- a line that the layout's test let through, by the d that was read from it
+module _ (k n : ℕ) (l : List ℕ) (s : isLine l ≡ true) (b : Bool) (be : b ≡ laidOut k n (frameOf l)) (h : not b ≡ false) (d : ℕ) (de : d ≡ num 1 (drop 6 (frameOf l))) where
+  laid : (HeadOk k (frameOf l)) × (length (frameOf l) ≡ n + 4 * num 1 (drop 6 (frameOf l)))
+  laid = laid-is k n (frameOf l) (sym be ∙ not-false b h)
+
+  pub laid-narrow : d ≤ mostCoordinates
+  laid-narrow = omega (arith, laid .0 .range .narrow)
+
+  pub laid-bytes : (m : ℕ) → m ≤ n + 4 * d → HasBytes l m
+  laid-bytes m q = (s, omega (arith, laid .1))

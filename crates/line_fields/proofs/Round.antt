@@ -17,7 +17,6 @@ use Rattle.paper.specs.Fields.{head, front, coordBytes, coordsIn, inSlots, quer
 use Rattle.paper.specs.declared.lines.Scope.{Scope}
 use Rattle.paper.specs.declared.orders.Order.{Order}
 use Rattle.paper.specs.Lines.{behind, queryAt}
-use Rattle.line_fields.specs.Fronts.{Begun}
 use Rattle.line_fields.proofs.PartLaws.{length-coordsIn, length-coordBytes}
 
 -- ---- the head, and coordinates
@@ -160,14 +159,13 @@ pub behind-eq : (f : List ℕ) → behind f ≡ drop (7 + 4 * num 1 (drop 6 f)) 
 unfolding behind
 behind-eq f = refl
 
-pub front-back : (o : Order) (f : List ℕ) → Bytes f → Begun f → front (num 1 f) (queryIn (queryAt o f)) (scopeIn (behind f)) ++ drop 21 (behind f) ≡ f
+pub front-back : (o : Order) (f : List ℕ) → Bytes f → 28 + 4 * num 1 (drop 6 f) ≤ length f → front (num 1 f) (queryIn (queryAt o f)) (scopeIn (behind f)) ++ drop 21 (behind f) ≡ f
 unfolding front queryAt
 front-back o f p h =
     let d = num 1 (drop 6 f) in
     let b : behind f ≡ drop (4 * d) (drop 7 f) = behind-eq f ∙ sym (drop-drop (4 * d) 7 f) in
     let l7 : length (drop 7 f) ≡ length f - 7 = length-drop 7 f in
     let lb : length (drop (4 * d) (drop 7 f)) ≡ length (drop 7 f) - 4 * d = length-drop (4 * d) (drop 7 f) in
-    let long : 28 + 4 * d ≤ length f = h .long in
     rw (take-slots d (drop 7 f))
     (simp append-assoc
     (rw (b, scope-back (drop (4 * d) (drop 7 f)) (bytes-drop (4 * d) (drop 7 f) (bytes-drop 7 f p)) (omega arith), coords-back d (drop 7 f) (bytes-drop 7 f p) (omega arith))

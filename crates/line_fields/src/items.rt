@@ -5,9 +5,9 @@ ghost use Prim.Native.Nat.{_+_, _*_, _≤_};
 ghost use lib.ListN.{length, drop};
 ghost use lib.Dec.{eqb};
 ghost use Rattle.paper.specs.Fields.{itemFrame, itemBytes, itemNumbers, itemSlots, numbersOk, referencesOk};
-ghost use Rattle.line_digits.specs.FrameBytes.{overlaid};
+ghost use Rattle.line_digits.specs.FrameBytes.{overlaid, HasBytes};
 ghost use Rattle.paper.specs.Frames.{frameOf};
-ghost use Rattle.paper.specs.Limits.{itemRoom, mostPage};
+ghost use Rattle.paper.specs.Limits.{mostPage};
 use paper::limits::ITEM_ROOM;
 use paper::limits::MOST_NUMBER;
 
@@ -35,7 +35,7 @@ pub fn put_items(out: &mut [u8], at: usize, items: &[u64], k: usize)
 
 // [5.6] [5.14] The k items from byte `at` on, 14 bytes for each, and 0 behind them.
 pub fn items_at(line: &[u8], at: usize, k: usize) -> [u64; ITEM_ROOM]
-    requires { ⌜ (at + 14 * k ≤ length (frameOf (now line))) × (k ≤ mostPage) ⌝ }
+    requires { ⌜ HasBytes (now line) (at + 14 * k) × (k ≤ mostPage) ⌝ }
     ensures { λ r. ⌜ r ≡ itemSlots k (itemNumbers k (drop at (frameOf (now (line .entry))))) ⌝ }
 {
     let mut found = [0u64; ITEM_ROOM];
@@ -51,17 +51,18 @@ pub fn items_at(line: &[u8], at: usize, k: usize) -> [u64; ITEM_ROOM]
     found
 }
 
-// [5.9] Whether each item has a number (the first of its three) in range.
-pub fn numbers_ok(items: &[u64]) -> bool
-    requires { ⌜ length (now items) ≤ itemRoom ⌝ }
-    ensures { λ r. ⌜ r ≡ numbersOk (now (items .entry)) ⌝ }
+// [5.9] Whether each of the k items from byte `at` on, 14 bytes for each, has a number (its first two) in range. It is put to the line and not to
+// items that were read: these would then stand in memory twice, once to be tested and once to be handed on.
+pub fn numbers_ok(line: &[u8], at: usize, k: usize) -> bool
+    requires { ⌜ HasBytes (now line) (at + 14 * k) ⌝ }
+    ensures { λ r. ⌜ r ≡ numbersOk (itemNumbers k (drop at (frameOf (now (line .entry))))) ⌝ }
 {
-    let mut j = 0;
-    while j + 2 < items.len() {
-        if MOST_NUMBER < items[j] {
+    let mut i = 0;
+    while i < k {
+        if MOST_NUMBER < line_digits::number(line, at + 14 * i, 2) {
             return false;
         }
-        j += 3;
+        i += 1;
     }
     true
 }

@@ -16,6 +16,5 @@ pub use parts::put_front;
 pub use parts::put_head;
 pub use parts::scope_at;
 pub use parts::scope_ok;
-pub use queries::query_at;
 pub use queries::query_fits;
 pub use queries::query_of;

@@ -1,33 +1,32 @@
 // The head, coordinates, the scope, and what an ask and an answer begin with.
 ghost use mathlib.Core.Path.{_≡_};
+ghost use mathlib.Core.Bool.{true};
 ghost use Prim.Native.Nat.{_+_, _*_, _≤_};
 ghost use lib.ListN.{length, drop};
-ghost use Rattle.paper.specs.Frames.{num, frameOf};
+ghost use Rattle.paper.specs.Frames.{num, frameOf, isLine};
 ghost use Rattle.paper.specs.Fields.{head, coordBytes, coordsIn, inSlots, scopeBytes, scopeIn, scopeOk};
 ghost use Rattle.paper.specs.Fields.{front as Fields·front};
 ghost use Rattle.paper.specs.Orders.{queryIn};
 ghost use Rattle.paper.specs.Lines.{headOk};
-ghost use Rattle.line_digits.specs.FrameBytes.{overlaid};
-ghost use Rattle.line_fields.specs.Fronts.{laidOut};
+ghost use Rattle.line_digits.specs.FrameBytes.{overlaid, HasBytes};
+ghost use Rattle.line_fields.specs.Layout.{laidOut};
 ghost use Rattle.paper.specs.Limits.{longestFrame, mostCoordinates};
 use checks::in_range;
 use paper::limits::MOST_COORDINATES;
 use paper::lines::Scope;
 use paper::queries::Query;
 
-// [5.4] The kind of a line: byte 0. An empty frame has 0, which is no line's.
+// [5.4] The kind of a line: byte 0.
 pub fn kind(line: &[u8]) -> u64
+    requires { ⌜ isLine (now line) ≡ true ⌝ }
     ensures { λ r. ⌜ r ≡ num 1 (frameOf (now (line .entry))) ⌝ }
 {
-    if line_digits::size(line) == 0 {
-        return 0;
-    }
     line_digits::number(line, 0, 1)
 }
 
 // [5.4] [8.10] Whether a line begins with a head of this kind (byte 0), with measure (5) and d (6) in range.
 pub fn head_ok(line: &[u8], kind: u8) -> bool
-    requires { ⌜ 7 ≤ length (frameOf (now line)) ⌝ }
+    requires { ⌜ HasBytes (now line) 7 ⌝ }
     ensures { λ r. ⌜ r ≡ headOk kind (frameOf (now (line .entry))) ⌝ }
 {
     if line_digits::number(line, 0, 1) == kind as u64 {
@@ -41,7 +40,7 @@ pub fn head_ok(line: &[u8], kind: u8) -> bool
 
 // [8.10] Whether a line begins with a head of this kind, and has the length that its d tells: fixed + 4d bytes.
 pub fn layout_ok(line: &[u8], kind: u8, fixed: usize) -> bool
-    requires { ⌜ (7 ≤ fixed) × (fixed ≤ longestFrame) ⌝ }
+    requires { ⌜ (isLine (now line) ≡ true) × ((7 ≤ fixed) × (fixed ≤ longestFrame)) ⌝ }
     ensures { λ r. ⌜ r ≡ laidOut kind fixed (frameOf (now (line .entry))) ⌝ }
 {
     let size = line_digits::size(line);
@@ -79,7 +78,7 @@ pub fn put_coords(out: &mut [u8], at: usize, coords: &[i32])
 
 // [5.3] [5.14] The d coordinates from byte `at` on, four bytes for each, and 0 behind them.
 pub fn coords_at(line: &[u8], at: usize, d: usize) -> [i32; MOST_COORDINATES]
-    requires { ⌜ (at + 4 * d ≤ length (frameOf (now line))) × (d ≤ mostCoordinates) ⌝ }
+    requires { ⌜ HasBytes (now line) (at + 4 * d) × (d ≤ mostCoordinates) ⌝ }
     ensures { λ r. ⌜ r ≡ inSlots d (coordsIn d (drop at (frameOf (now (line .entry))))) ⌝ }
 {
     let mut found = [0i32; MOST_COORDINATES];
@@ -128,7 +127,7 @@ fn put_scope(out: &mut [u8], at: usize, reach: u64, p: Scope)
 // [5.5] The scope behind the reach, which has bytes `at` to at + 7: at + 8 from, at + 9 snapshot (2), at + 11 the mark's distance (8) and
 // at + 19 its number (2).
 pub fn scope_at(line: &[u8], at: usize) -> Scope
-    requires { ⌜ at + 21 ≤ length (frameOf (now line)) ⌝ }
+    requires { ⌜ HasBytes (now line) (at + 21) ⌝ }
     ensures { λ r. ⌜ r ≡ scopeIn (drop at (frameOf (now (line .entry)))) ⌝ }
 {
     Scope {

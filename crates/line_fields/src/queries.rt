@@ -1,14 +1,11 @@
-// A query with its probe in eight slots, from a probe of d coordinates and from a frame.
+// A query with its probe in eight slots, from a probe of d coordinates.
 ghost use mathlib.Core.Path.{_≡_};
 ghost use Prim.Native.Nat.{_≤_};
 ghost use lib.ListN.{length};
 ghost use Rattle.paper.specs.Fields.{inSlots, queryInSlots};
 ghost use Rattle.paper.specs.Orders.{queryIn};
-ghost use Rattle.paper.specs.Lines.{queryAt, queryFits};
-ghost use Rattle.paper.specs.Frames.{frameOf};
-ghost use Rattle.line_fields.specs.Fronts.{Begun};
+ghost use Rattle.paper.specs.Lines.{queryFits};
 ghost use Rattle.paper.specs.Limits.{mostCoordinates};
-use super::parts::coords_at;
 use checks::in_range;
 use paper::limits::MOST_COORDINATES;
 use paper::orders::Order;
@@ -49,22 +46,4 @@ pub fn query_fits(q: Query) -> bool
     ensures { λ r. ⌜ r ≡ queryFits (queryIn q) ⌝ }
 {
     in_range(q.measure, q.d)
-}
-
-// [5.5] [5.6] The query of an ask's or an answer's frame, in the order that its kind tells: bytes 1 to 4 table, 5 measure, 6 d, the probe from
-// byte 7 and the reach behind it.
-pub fn query_at(order: Order, line: &[u8]) -> Query
-    requires { ⌜ Begun (frameOf (now line)) ⌝ }
-    ensures { λ r. ⌜ r ≡ queryAt order (frameOf (now (line .entry))) ⌝ }
-{
-    let d = line_digits::number(line, 6, 1) as usize;
-    let probe = coords_at(line, 7, d);
-    Query {
-        order,
-        table: line_digits::number(line, 1, 4) as u32,
-        measure: line_digits::number(line, 5, 1) as u8,
-        d,
-        probe,
-        reach: line_digits::number(line, 7 + 4 * d, 8),
-    }
 }

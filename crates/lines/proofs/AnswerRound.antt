@@ -24,7 +24,7 @@ use Rattle.line_fields.proofs.ItemLaws.{Distances, items-fitting, items-read, i
 use Rattle.line_fields.proofs.Round.{QueryFit, ScopeFit, Fronts, front-read, front-back}
 use Rattle.lines.proofs.WritersReaders.{reads, accepted}
 use Rattle.lines.proofs.QueryTests.{read-fits, last-at}
-use Rattle.lines.proofs.AnswerTests.{items-from, length-answer, bytes-answer, answer-fits, is-answer, answer-begun}
+use Rattle.lines.proofs.AnswerTests.{items-from, length-answer, bytes-answer, answer-fits, is-answer}
 use Rattle.paper.specs.Limits.{itemRoom}
 
 -- ---- what is written is read
@@ -130,7 +130,7 @@ module _ (o : Order) (f : List ℕ) (p : Bytes f) (e : answerOk (answerKind o) f
       let i : drop 23 (behind f) ≡ drop 2 rest = sym (drop-drop 2 21 (behind f)) in
       let of-order : queryIn (queryAt o f) .order ≡ o = unfold queryAt in refl in
       let kinds : answerKind (queryIn (queryAt o f) .order) ≡ num 1 f = ap answerKind of-order ∙ sym (w .headed .kind) in
-      rw (i, tail-back rest (countIn f) pb l c, kinds) (front-back o f p (answer-begun (answerKind o) f w))
+      rw (i, tail-back rest (countIn f) pb l c, kinds) (front-back o f p (omega (arith, w .size)))
 
   fits-back : answerFits (queryIn (queryAt o f)) (scopeIn (behind f)) (num 1 rest) (countIn f) listed ≡ true
   unfolding answerFits

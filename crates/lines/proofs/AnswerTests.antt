@@ -13,17 +13,16 @@ use Rattle.paper.specs.Fields.{front, scopeIn, scopeOk, itemBytes, itemNumbers,
 use Rattle.paper.specs.Orders.{Query}
 use Rattle.paper.specs.Lines.{answerKind, answerOrder, headOk, behind, queryAt, queryFits, answerFrame, answerRanges, answerFits, countIn, answerOk, isAnswer, answerAt, anAnswer, noAnswer, readAsAnswer}
 use Rattle.paper.specs.declared.lines.Scope.{Scope}
-use Rattle.paper.specs.declared.lines.Answer.{Answer}
-use Rattle.paper.specs.declared.orders.Order.{Order}
 use Rattle.paper.specs.declared.queries.Query as queries
 use Rattle.line_digits.proofs.LinesAndFrames.{and-both}
 use Rattle.line_digits.proofs.NumbersAndFrames.{Bytes, bytes-append, bytes-be, length-be}
-use Rattle.line_fields.specs.Fronts.{laidOut, Begun}
-use Rattle.line_fields.proofs.PartLaws.{HeadOk, is-head, laid-then, length-front, bytes-front}
-use Rattle.line_fields.proofs.ItemLaws.{length-items, bytes-items, slots-ok}
+use Rattle.line_digits.specs.FrameBytes.{HasBytes}
+use Rattle.line_fields.specs.Layout.{laidOut}
+use Rattle.line_fields.proofs.PartLaws.{HeadOk, is-head, laid-then, laid-bytes, length-front, bytes-front}
+use Rattle.line_fields.proofs.ItemLaws.{length-items, bytes-items}
 use Rattle.line_fields.proofs.Round.{behind-eq}
-use Rattle.paper.specs.Limits.{itemRoom, mostPage}
-use Rattle.lines.proofs.QueryTests.{last-at, QueryFits, query-fits, laid-query}
+use Rattle.paper.specs.Limits.{mostPage}
+use Rattle.lines.proofs.QueryTests.{last-at, QueryFits, query-fits}
 use Rattle.lines.proofs.WritersReaders.{reads, reads-10}
 
 -- ---- the frame
@@ -109,9 +108,6 @@ pub any-answer : (f : List ℕ) → isAnswer f ≡ true → AnswerOk (answerKind
 unfolding isAnswer
 any-answer f e = is-answer (answerKind (answerOrder (num 1 f))) f e
 
-pub answer-begun : (k : ℕ) (f : List ℕ) → AnswerOk k f → Begun f
-answer-begun k f p = record { few = p .headed .range .narrow; long = omega arith }
-
 -- ---- where its parts stand
 
 -- where the item count stands
@@ -126,20 +122,7 @@ pub items-from : (f : List ℕ) (at : ℕ) → at ≡ 28 + 4 * num 1 (drop 6 f) 
 unfolding behind
 items-from f at e = let q : at + 2 ≡ 7 + 4 * num 1 (drop 6 f) + 23 = omega arith in rw (drop-drop, q)
 
--- ---- handed on
-
--- the answer that a frame holds, from its parts
-pub answer-value : (f : List ℕ) (x : queries.Query) (p : Scope) (at last n : ℕ) (ns : List ℕ)
-    → x ≡ queryAt (answerOrder (num 1 f)) f → at ≡ 28 + 4 * x .d → p ≡ scopeIn (drop (at - 21) f) → last ≡ num 1 (drop at f) → n ≡ num 1 (drop (at + 1) f)
-    → ns ≡ itemSlots n (itemNumbers n (drop (at + 2) f))
-    → record { query = x; scope = p; last = last; count = n; items = ns } ≡ answerAt f
-unfolding answerAt
-answer-value f x p at last n ns e q u v w z =
-    let h : at ≡ 28 + 4 * num 1 (drop 6 f) = q ∙ ap (λ (y : queries.Query). 28 + 4 * y .d) e ∙ (unfold queryAt in refl) in
-    let m : at - 21 ≡ 7 + 4 * num 1 (drop 6 f) = omega arith in
-    let b : drop (at - 21) f ≡ behind f = ap (λ (n : ℕ). drop n f) m ∙ sym (behind-eq f) in
-    let c : n ≡ countIn f = w ∙ sym (count-at f at h) in
-    rw (e, z, v, u, b, last-at f at h, items-from f at h, c)
+-- ---- reading
 
 -- the layout, and then the ranges
 pub answer-rule : (k : ℕ) (f : List ℕ) → answerOk k f
@@ -158,51 +141,46 @@ answer-laid k f n d c h a e q =
     let z : 28 + 4 * d + 2 + 14 * c ≡ 30 + 14 * c + 4 * d = omega arith in
     rw (h, m, ← e, ← a, z)
 
--- how long a frame is by its query and its item count
-pub answer-length : (k : ℕ) (f : List ℕ) (b : Bool) → b ≡ laidOut k (30 + 14 * countIn f) f → not b ≡ false → (o : Order) (x : queries.Query) → x ≡ queryAt o f
-    → (n : ℕ) → n ≡ num 1 (drop (28 + 4 * x .d + 1) f) → length f ≡ 30 + 14 * n + 4 * x .d
-unfolding queryAt
-answer-length k f b be h o x xe n ne =
-    let e : x .d ≡ num 1 (drop 6 f) = ap (λ (y : queries.Query). y .d) xe in
-    let m : countIn f ≡ n = count-at f (28 + 4 * x .d) (omega arith) ∙ sym ne in
-    omega (arith, laid-query k (30 + 14 * countIn f) f b be h o x xe .1)
-
--- what is tested behind the layout, of the answer that the frame holds
-behind-layout : (f : List ℕ) → answerRanges (scopeIn (behind f)) (num 1 (drop 21 (behind f))) (countIn f) && numbersOk (itemNumbers (countIn f) (drop 23 (behind f)))
-    ≡ answerRanges (answerAt f .scope) (answerAt f .last) (answerAt f .count) && numbersOk (answerAt f .items)
-unfolding answerAt itemSlots
-behind-layout f = rw (slots-ok (countIn f) (itemRoom - 3 * countIn f) (drop 23 (behind f)))
-
 -- the ways through the reader of a sound line
 module _ (l : List ℕ) (s : isLine l ≡ true) (b : Bool) (be : b ≡ laidOut (answerKind (answerOrder (num 1 (frameOf l)))) (30 + 14 * countIn (frameOf l)) (frameOf l)) where
   pub unlaid-answer : not b ≡ true → noAnswer 10 ≡ readAsAnswer l
   unfolding readAsAnswer isAnswer
   unlaid-answer h = sym (reads-10 isAnswer (λ f. anAnswer (answerAt f)) noAnswer l s (answer-rule _ (frameOf l) ∙ rw (sym be ∙ not-true b h)))
 
-  module _ (h : not b ≡ false) (x : queries.Query) (p : Scope) (at last n : ℕ) (xe : x ≡ queryAt (answerOrder (num 1 (frameOf l))) (frameOf l)) (ate : at ≡ 28 + 4 * x .d)
-      (pe : p ≡ scopeIn (drop (at - 21) (frameOf l))) (le : last ≡ num 1 (drop at (frameOf l))) (ne : n ≡ num 1 (drop (at + 1) (frameOf l))) (t : Bool) (te : t ≡ answerRanges p last n) where
-    parts : (ns : List ℕ) → ns ≡ itemSlots n (itemNumbers n (drop (at + 2) (frameOf l))) → record { query = x; scope = p; last = last; count = n; items = ns } ≡ answerAt (frameOf l)
-    parts ns q = answer-value (frameOf l) x p at last n ns xe ate pe le ne q
+  module _ (h : not b ≡ false) (d : ℕ) (de : d ≡ num 1 (drop 6 (frameOf l))) (at : ℕ) (ate : at ≡ 28 + 4 * d) (n : ℕ) (ne : n ≡ num 1 (drop (at + 1) (frameOf l))) where
+    place : at ≡ 28 + 4 * num 1 (drop 6 (frameOf l))
+    place = omega arith
 
-    tested : (ns : List ℕ) → ns ≡ itemSlots n (itemNumbers n (drop (at + 2) (frameOf l))) → isAnswer (frameOf l) ≡ t && numbersOk ns
-    unfolding isAnswer
-    tested ns q =
-        answer-rule _ (frameOf l)
-        ∙ rw (sym be ∙ not-false b h, te)
-        (behind-layout (frameOf l) ∙ ap (λ (a : Answer). answerRanges (a .scope) (a .last) (a .count) && numbersOk (a .items)) (sym (parts ns q)))
+    counted : n ≡ countIn (frameOf l)
+    counted = ne ∙ sym (count-at (frameOf l) at place)
 
-    pub answer-out : not t ≡ true → noAnswer 10 ≡ readAsAnswer l
-    unfolding readAsAnswer
-    answer-out q = sym (reads-10 isAnswer (λ f. anAnswer (answerAt f)) noAnswer l s (tested _ refl ∙ rw (not-true t q)))
+    -- how long the frame is by the item count that was read
+    pub answer-bytes : (m : ℕ) → m ≤ at + 2 + 14 * n → HasBytes l m
+    answer-bytes m q = laid-bytes _ _ l s b be h d de m (omega (arith, counted))
 
-    module _ (v : not t ≡ false) (ns : List ℕ) (q : ns ≡ itemSlots n (itemNumbers n (drop (at + 2) (frameOf l)))) (u : Bool) (ue : u ≡ numbersOk ns) where
-      numbered : isAnswer (frameOf l) ≡ u
-      numbered = tested ns q ∙ rw (not-false t v, ue)
+    reach-at : drop (at - 21) (frameOf l) ≡ behind (frameOf l)
+    reach-at = let e : at - 21 ≡ 7 + 4 * num 1 (drop 6 (frameOf l)) = omega arith in rw e (sym (behind-eq (frameOf l)))
 
-      pub items-out : not u ≡ true → noAnswer 10 ≡ readAsAnswer l
+    module _ (p : Scope) (pe : p ≡ scopeIn (drop (at - 21) (frameOf l))) (last : ℕ) (le : last ≡ num 1 (drop at (frameOf l))) (t : Bool) (te : t ≡ answerRanges p last n) where
+      tested : isAnswer (frameOf l) ≡ t && numbersOk (itemNumbers n (drop (at + 2) (frameOf l)))
+      unfolding isAnswer
+      tested = answer-rule _ (frameOf l) ∙ rw (sym be ∙ not-false b h, te, pe, le, counted, reach-at, last-at (frameOf l) at place, items-from (frameOf l) at place)
+
+      pub answer-out : not t ≡ true → noAnswer 10 ≡ readAsAnswer l
       unfolding readAsAnswer
-      items-out z = sym (reads-10 isAnswer (λ f. anAnswer (answerAt f)) noAnswer l s (numbered ∙ not-true u z))
+      answer-out q = sym (reads-10 isAnswer (λ f. anAnswer (answerAt f)) noAnswer l s (tested ∙ rw (not-true t q)))
 
-      pub answer-read : not u ≡ false → record { refusal = 0; answer = record { query = x; scope = p; last = last; count = n; items = ns } } ≡ readAsAnswer l
-      unfolding readAsAnswer anAnswer
-      answer-read z = ap anAnswer (parts ns q) ∙ sym (reads isAnswer (λ f. anAnswer (answerAt f)) noAnswer l s (numbered ∙ not-false u z))
+      module _ (v : not t ≡ false) (u : Bool) (ue : u ≡ numbersOk (itemNumbers n (drop (at + 2) (frameOf l)))) where
+        numbered : isAnswer (frameOf l) ≡ u
+        numbered = tested ∙ rw (not-false t v, ue)
+
+        pub items-out : not u ≡ true → noAnswer 10 ≡ readAsAnswer l
+        unfolding readAsAnswer
+        items-out z = sym (reads-10 isAnswer (λ f. anAnswer (answerAt f)) noAnswer l s (numbered ∙ not-true u z))
+
+        pub answer-read : not u ≡ false → (x : queries.Query) → x ≡ queryAt (answerOrder (num 1 (frameOf l))) (frameOf l) → (ns : List ℕ) → ns ≡ itemSlots n (itemNumbers n (drop (at + 2) (frameOf l)))
+            → record { refusal = 0; answer = record { last = last; count = n; scope = p; query = x; items = ns } } ≡ readAsAnswer l
+        unfolding readAsAnswer anAnswer
+        answer-read z x xe ns q =
+            sym (reads isAnswer (λ f. anAnswer (answerAt f)) noAnswer l s (numbered ∙ not-false u z)
+            ∙ (unfold answerAt in rw (xe, q, pe, le, counted, reach-at, last-at (frameOf l) at place, items-from (frameOf l) at place)))

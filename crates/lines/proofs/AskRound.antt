@@ -22,7 +22,7 @@ use Rattle.line_fields.proofs.PartLaws.{head-rule}
 use Rattle.line_fields.proofs.Round.{QueryFit, ScopeFit, Fronts, front-read, front-back, last-field}
 use Rattle.lines.proofs.WritersReaders.{reads, accepted}
 use Rattle.lines.proofs.QueryTests.{read-fits, last-at}
-use Rattle.lines.proofs.AskTests.{page-size, length-ask, bytes-ask, ask-fits, is-ask, ask-begun}
+use Rattle.lines.proofs.AskTests.{page-size, length-ask, bytes-ask, ask-fits, is-ask}
 
 -- ---- what is written is read
 
@@ -92,7 +92,7 @@ module _ (o : Order) (f : List ℕ) (e : askOk (askKind o) f ≡ true) where
       let pb : Bytes tail = rw b (bytes-drop (28 + 4 * d) f p) in
       let of-order : queryIn (queryAt o f) .order ≡ o = unfold queryAt in refl in
       let kinds : askKind (queryIn (queryAt o f) .order) ≡ num 1 f = ap askKind of-order ∙ sym (w .headed .kind) in
-      rw (last-field tail 1 pb l, kinds) (front-back o f p (ask-begun (askKind o) f w))
+      rw (last-field tail 1 pb l, kinds) (front-back o f p (omega (arith, w .size)))
 
   fits-back : askFits (queryIn (queryAt o f)) (scopeIn (behind f)) (num 1 tail) ≡ true
   unfolding askFits

@@ -14,11 +14,10 @@ use Rattle.paper.specs.Fields.{front, scopeIn, scopeOk}
 use Rattle.paper.specs.Orders.{Query}
 use Rattle.paper.specs.Lines.{askKind, askOrder, headOk, behind, queryAt, queryFits, askFrame, askRanges, askFits, askOk, isAsk, askAt, anAsk, noAsk, readAsAsk}
 use Rattle.paper.specs.declared.lines.Scope.{Scope}
-use Rattle.paper.specs.declared.lines.Ask.{Ask}
 use Rattle.paper.specs.declared.queries.Query as queries
 use Rattle.line_digits.proofs.LinesAndFrames.{and-false, and-both}
 use Rattle.line_digits.proofs.NumbersAndFrames.{Bytes, bytes-append, bytes-be, length-be}
-use Rattle.line_fields.specs.Fronts.{laidOut, Begun}
+use Rattle.line_fields.specs.Layout.{laidOut}
 use Rattle.line_fields.proofs.PartLaws.{HeadOk, is-head, laid-then, length-front, bytes-front}
 use Rattle.line_fields.proofs.Round.{behind-eq}
 use Rattle.paper.specs.Limits.{mostPage}
@@ -72,9 +71,6 @@ pub any-ask : (f : List ℕ) → isAsk f ≡ true → AskOk (askKind (askOrder (
 unfolding isAsk
 any-ask f e = is-ask (askKind (askOrder (num 1 f))) f e
 
-pub ask-begun : (k : ℕ) (f : List ℕ) → AskOk k f → Begun f
-ask-begun k f p = record { few = p .headed .range .narrow; long = omega arith }
-
 -- ---- what is to be tested
 
 and-true : (t : Bool) → t && true ≡ t
@@ -102,17 +98,7 @@ pub ask-rule : (k : ℕ) (f : List ℕ) → askOk k f ≡ laidOut k 29 f && askR
 unfolding askOk
 ask-rule k f = laid-then k 29 f (askRanges (scopeIn (behind f)) (num 1 (drop 21 (behind f))))
 
--- ---- handed on
-
--- the ask that a frame holds, from its parts
-pub ask-value : (f : List ℕ) (x : queries.Query) (p : Scope) (at s : ℕ) → x ≡ queryAt (askOrder (num 1 f)) f → at ≡ 7 + 4 * x .d → p ≡ scopeIn (drop at f) → s ≡ num 1 (drop (at + 21) f)
-    → record { query = x; scope = p; size = s } ≡ askAt f
-unfolding askAt
-ask-value f x p at s e q u v =
-    let h : at ≡ 7 + 4 * num 1 (drop 6 f) = q ∙ ap (λ (y : queries.Query). 7 + 4 * y .d) e ∙ (unfold queryAt in refl) in
-    let b : drop at f ≡ behind f = ap (λ (n : ℕ). drop n f) h ∙ sym (behind-eq f) in
-    let c : drop (at + 21) f ≡ drop 21 (behind f) = sym (drop-drop 21 at f) ∙ ap (drop 21) b in
-    rw (e, u, v, b, c)
+-- ---- reading
 
 -- the ways through the reader of a sound line
 module _ (l : List ℕ) (s : isLine l ≡ true) (b : Bool) (be : b ≡ laidOut (askKind (askOrder (num 1 (frameOf l)))) 29 (frameOf l)) where
@@ -120,19 +106,23 @@ module _ (l : List ℕ) (s : isLine l ≡ true) (b : Bool) (be : b ≡ laidOut (
   unfolding readAsAsk isAsk
   unlaid-ask h = sym (reads-10 isAsk (λ f. anAsk (askAt f)) noAsk l s (ask-rule _ (frameOf l) ∙ rw (sym be ∙ not-true b h)))
 
-  module _ (h : not b ≡ false) (x : queries.Query) (p : Scope) (at n : ℕ) (xe : x ≡ queryAt (askOrder (num 1 (frameOf l))) (frameOf l))
-      (ate : at ≡ 7 + 4 * x .d) (pe : p ≡ scopeIn (drop at (frameOf l))) (ne : n ≡ num 1 (drop (at + 21) (frameOf l))) (t : Bool) (te : t ≡ askRanges p n) where
-    parts : record { query = x; scope = p; size = n } ≡ askAt (frameOf l)
-    parts = ask-value (frameOf l) x p at n xe ate pe ne
+  module _ (h : not b ≡ false) (d : ℕ) (de : d ≡ num 1 (drop 6 (frameOf l))) (at : ℕ) (ate : at ≡ 7 + 4 * d) (p : Scope) (pe : p ≡ scopeIn (drop at (frameOf l)))
+      (n : ℕ) (ne : n ≡ num 1 (drop (at + 21) (frameOf l))) (t : Bool) (te : t ≡ askRanges p n) where
+    reach-at : drop at (frameOf l) ≡ behind (frameOf l)
+    reach-at = rw (ate, de) (sym (behind-eq (frameOf l)))
+
+    size-at : drop (at + 21) (frameOf l) ≡ drop 21 (behind (frameOf l))
+    size-at = sym (drop-drop 21 at (frameOf l)) ∙ ap (drop 21) reach-at
 
     ranged : isAsk (frameOf l) ≡ t
-    unfolding isAsk askAt
-    ranged = ask-rule _ (frameOf l) ∙ rw (sym be ∙ not-false b h, te) (ap (λ (a : Ask). askRanges (a .scope) (a .size)) (sym parts))
+    unfolding isAsk
+    ranged = ask-rule _ (frameOf l) ∙ rw (sym be ∙ not-false b h, te, pe, ne, reach-at, size-at)
 
     pub ask-out : not t ≡ true → noAsk 10 ≡ readAsAsk l
     unfolding readAsAsk
     ask-out q = sym (reads-10 isAsk (λ f. anAsk (askAt f)) noAsk l s (ranged ∙ not-true t q))
 
-    pub ask-read : not t ≡ false → record { refusal = 0; ask = record { query = x; scope = p; size = n } } ≡ readAsAsk l
+    pub ask-read : not t ≡ false → (x : queries.Query) → x ≡ queryAt (askOrder (num 1 (frameOf l))) (frameOf l)
+        → record { refusal = 0; ask = record { query = x; scope = p; size = n } } ≡ readAsAsk l
     unfolding readAsAsk anAsk
-    ask-read q = ap anAsk parts ∙ sym (reads isAsk (λ f. anAsk (askAt f)) noAsk l s (ranged ∙ not-false t q))
+    ask-read q x xe = sym (reads isAsk (λ f. anAsk (askAt f)) noAsk l s (ranged ∙ not-false t q) ∙ (unfold askAt in rw (xe, pe, ne, reach-at, size-at)))

@@ -1,5 +1,5 @@
 -- What the tests of a claim line say, and how long its frame is. No contract cites this file. Assumes nothing.
-use Prim.Native.Nat.{ℕ, _+_, _*_, _≤_}
+use Prim.Native.Nat.{ℕ, _+_, _*_}
 use native.Mathlib.Omega.{arith}
 use mathlib.Core.Path.{_≡_, sym, ap, _∙_}
 use mathlib.Core.Bool.{Bool, true, false, not}
@@ -13,12 +13,11 @@ use Rattle.paper.specs.Points.{inRange, InRange}
 use Rattle.paper.proofs.Ranges.{range-is}
 use Rattle.paper.specs.Fields.{head, coordBytes}
 use Rattle.paper.specs.Lines.{headOk, claimKind, claimFrame, claimFits, claimOk, claimAt, aClaim, noClaim, readAsClaim}
-use Rattle.paper.specs.Limits.{mostCoordinates}
 use Rattle.paper.specs.declared.lines.ClaimLine.{ClaimLine}
 use Rattle.line_digits.proofs.LinesAndFrames.{and-both}
 use Rattle.line_digits.proofs.NumbersAndFrames.{Bytes, bytes-append, bytes-be, length-be}
-use Rattle.line_fields.specs.Fronts.{laidOut}
-use Rattle.line_fields.proofs.PartLaws.{HeadOk, is-head, laid-is, length-head, bytes-head, length-coordBytes, bytes-coordBytes}
+use Rattle.line_fields.specs.Layout.{laidOut}
+use Rattle.line_fields.proofs.PartLaws.{HeadOk, is-head, length-head, bytes-head, length-coordBytes, bytes-coordBytes}
 use Rattle.lines.proofs.WritersReaders.{reads, reads-10}
 
 pub length-claim : (t m d r : ℕ) (cs : List ℤ) → length (claimFrame t m d r cs) ≡ 11 + 4 * length cs
@@ -64,11 +63,6 @@ module _ (l : List ℕ) (s : isLine l ≡ true) (b : Bool) (be : b ≡ laidOut c
   unfolding readAsClaim
   unlaid-claim h = sym (reads-10 claimOk (λ f. aClaim (claimAt f)) noClaim l s (layout ∙ not-true b h))
 
-  module _ (h : not b ≡ false) where
-    -- how long its frame is by the d that was read
-    pub claim-length : (d : ℕ) → d ≡ num 1 (drop 6 (frameOf l)) → (d ≤ mostCoordinates) × (length (frameOf l) ≡ 11 + 4 * d)
-    claim-length d e = let p = laid-is claimKind 11 (frameOf l) (sym be ∙ not-false b h) in (omega (arith, p .0 .range .narrow), omega (arith, p .1))
-
-    pub claim-read : (c : ClaimLine) → c ≡ claimAt (frameOf l) → record { refusal = 0; claim = c } ≡ readAsClaim l
-    unfolding readAsClaim aClaim
-    claim-read c e = ap aClaim e ∙ sym (reads claimOk (λ f. aClaim (claimAt f)) noClaim l s (layout ∙ not-false b h))
+  pub claim-read : not b ≡ false → (c : ClaimLine) → c ≡ claimAt (frameOf l) → record { refusal = 0; claim = c } ≡ readAsClaim l
+  unfolding readAsClaim aClaim
+  claim-read h c e = ap aClaim e ∙ sym (reads claimOk (λ f. aClaim (claimAt f)) noClaim l s (layout ∙ not-false b h))

@@ -1,25 +1,24 @@
 -- What a query that fits is known for, and where a frame goes on behind its query and place. No contract cites this file. Assumes nothing.
-use Prim.Native.Nat.{ℕ, _+_, _*_, _≤_}
+use Prim.Native.Nat.{ℕ, _+_, _*_}
 use native.Mathlib.Omega.{arith}
-use mathlib.Core.Path.{_≡_, sym, ap, _∙_}
-use mathlib.Core.Bool.{Bool, true, false, not}
+use mathlib.Core.Path.{_≡_}
+use mathlib.Core.Bool.{true}
 use mathlib.Core.List.{List}
 use lib.ListN.{length, drop}
 use lib.Seq.{drop-drop}
 use lib.Dec.{eqb}
-use borrow.Author.Tests.{eqb-true, eq-eqb, not-false}
+use lib.IntN.{ℤ}
+use borrow.Author.Tests.{eqb-true, eq-eqb}
 use Rattle.paper.specs.Frames.{num}
 use Rattle.paper.specs.Points.{inRange, InRange}
 use Rattle.paper.proofs.Ranges.{range-is}
 use Rattle.paper.specs.Orders.{Query, queryIn}
+use Rattle.paper.specs.Fields.{inSlots, coordsIn}
 use Rattle.paper.specs.Lines.{behind, queryAt, queryFits}
 use Rattle.paper.specs.declared.orders.Order.{Order}
-use Rattle.paper.specs.declared.queries.Query as queries
-use Rattle.paper.specs.Limits.{mostCoordinates}
 use Rattle.line_digits.proofs.LinesAndFrames.{and-both}
-use Rattle.line_fields.specs.Fronts.{laidOut, Begun}
-use Rattle.line_fields.proofs.PartLaws.{length-coordsIn, HeadOk, laid-is}
-use Rattle.line_fields.proofs.Round.{take-slots}
+use Rattle.line_fields.proofs.PartLaws.{length-coordsIn}
+use Rattle.line_fields.proofs.Round.{take-slots, behind-eq}
 
 -- where what stands behind the mark number begins
 pub last-at : (f : List ℕ) (at : ℕ) → at ≡ 28 + 4 * num 1 (drop 6 f) → drop at f ≡ drop 21 (behind f)
@@ -42,16 +41,9 @@ pub read-fits : (o : Order) (f : List ℕ) → inRange (num 1 (drop 5 f)) (num 1
 unfolding queryFits queryAt
 read-fits o f e = rw (e, take-slots (num 1 (drop 6 f)) (drop 7 f), eq-eqb _ _ (length-coordsIn (num 1 (drop 6 f)) (drop 7 f)))
 
--- a frame that the layout's test lets through: its query, how long it is by that, and what it begins with
-module _ (k n : ℕ) (f : List ℕ) (b : Bool) (be : b ≡ laidOut k n f) (h : not b ≡ false) where
-  laid : (HeadOk k f) × (length f ≡ n + 4 * num 1 (drop 6 f))
-  laid = laid-is k n f (sym be ∙ not-false b h)
-
-  pub laid-query : (o : Order) (x : queries.Query) → x ≡ queryAt o f → (x .d ≤ mostCoordinates) × (length f ≡ n + 4 * x .d)
-  unfolding queryAt
-  laid-query o x q =
-      let e : x .d ≡ num 1 (drop 6 f) = ap (λ (y : queries.Query). y .d) q in
-      (omega (arith, laid .0 .range .narrow), omega (arith, laid .1))
-
-  pub laid-begun : 28 ≤ n → Begun f
-  laid-begun m = record { few = laid .0 .range .narrow; long = omega (arith, laid .1) }
+-- the query of a frame, from its fields
+pub query-value : (o : Order) (f : List ℕ) (table measure d at reach : ℕ) (probe : List ℤ) → d ≡ num 1 (drop 6 f) → at ≡ 7 + 4 * d → table ≡ num 4 (drop 1 f)
+    → measure ≡ num 1 (drop 5 f) → probe ≡ inSlots d (coordsIn d (drop 7 f)) → reach ≡ num 8 (drop at f)
+    → record { order = o; table = table; measure = measure; d = d; probe = probe; reach = reach } ≡ queryAt o f
+unfolding queryAt
+query-value o f table measure d at reach probe e q t m p r = rw (t, m, p, r, q, e, behind-eq f)

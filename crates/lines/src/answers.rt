@@ -9,7 +9,7 @@ ghost use Rattle.paper.specs.Fields.{itemBytes};
 ghost use Rattle.paper.specs.Orders.{queryIn};
 ghost use Rattle.paper.specs.Lines.{Writes, bareLine, answerFrame, answerRanges, answerFits, countIn, noAnswer, readAsAnswer};
 ghost use Rattle.line_digits.specs.FrameBytes.{overlaid};
-ghost use Rattle.line_fields.specs.Fronts.{laidOut};
+ghost use Rattle.line_fields.specs.Layout.{laidOut};
 ghost use Rattle.paper.specs.Limits.{longestAnswer, mostPage, mostCoordinates};
 use checks::answer_kind;
 use checks::answer_order;
@@ -88,6 +88,7 @@ pub fn write_answer(q: Query, p: Scope, last: u8, count: u8, items: &[u64], out:
 
 // [8.10] Whether a line begins with a head of this kind, and has the length that its d and its item count tell: 30 + 4d + 14k bytes.
 fn layout_ok(line: &[u8], kind: u8) -> bool
+    requires { ⌜ isLine (now line) ≡ true ⌝ }
     ensures { λ r. ⌜ r ≡ laidOut kind (30 + 14 * countIn (frameOf (now (line .entry)))) (frameOf (now (line .entry))) ⌝ }
 {
     let n = line_digits::size(line);
@@ -108,17 +109,17 @@ fn no_answer(n: u8) -> AnswerRead
     ensures { λ r. ⌜ r ≡ noAnswer n ⌝ }
 {
     let answer = Answer {
-        query: Query::NONE,
-        scope: Scope::NONE,
         last: 0,
         count: 0,
+        scope: Scope::NONE,
+        query: Query::NONE,
         items: [0u64; ITEM_ROOM],
     };
     AnswerRead { refusal: n, answer }
 }
 
 // [5.6] [8.10] The answer in a sound line, in the order that its kind tells: query, scope behind its reach, last in byte 28 + 4d, then the item
-// count and the items. Each field is read once, and then tested. Refusal 10.
+// count and the items. Refusal 10. As in an ask, query and items are read last.
 fn answer_in(line: &[u8]) -> AnswerRead
     requires { ⌜ isLine (now line) ≡ true ⌝ }
     ensures { λ r. ⌜ r ≡ readAsAnswer (now (line .entry)) ⌝ }
@@ -127,23 +128,32 @@ fn answer_in(line: &[u8]) -> AnswerRead
     if !layout_ok(line, answer_kind(order)) {
         return no_answer(10);
     }
-    let query = line_fields::query_at(order, line);
-    let at = 28 + 4 * query.d;
+    let d = line_digits::number(line, 6, 1) as usize;
+    let at = 28 + 4 * d;
     let scope = line_fields::scope_at(line, at - 21);
     let last = line_digits::number(line, at, 1);
     let count = line_digits::number(line, at + 1, 1);
     if !answer_ranges(scope, last, count) {
         return no_answer(10);
     }
-    let items = line_fields::items_at(line, at + 2, count as usize);
-    if !line_fields::numbers_ok(&items) {
+    if !line_fields::numbers_ok(line, at + 2, count as usize) {
         return no_answer(10);
     }
+    let probe = line_fields::coords_at(line, 7, d);
+    let query = Query {
+        order,
+        table: line_digits::number(line, 1, 4) as u32,
+        measure: line_digits::number(line, 5, 1) as u8,
+        d,
+        probe,
+        reach: line_digits::number(line, at - 21, 8),
+    };
+    let items = line_fields::items_at(line, at + 2, count as usize);
     let answer = Answer {
-        query,
-        scope,
         last: last as u8,
         count: count as u8,
+        scope,
+        query,
         items,
     };
     AnswerRead { refusal: 0, answer }

@@ -82,8 +82,8 @@ fn no_ask(n: u8) -> AskRead
     AskRead { refusal: n, ask }
 }
 
-// [5.5] [8.10] The ask in a sound line, in the order that its kind tells: query, scope behind its reach, and page size in byte 28 + 4d. Each field
-// is read once, and then tested. Refusal 10.
+// [5.5] [8.10] The ask in a sound line, in the order that its kind tells: query, scope behind its reach, and page size in byte 28 + 4d. Refusal 10.
+// The query's fields are read here, and last: a function that gives a query back, or one that is called while it is held, costs a copy of it.
 pub fn ask_in(line: &[u8]) -> AskRead
     requires { ⌜ isLine (now line) ≡ true ⌝ }
     ensures { λ r. ⌜ r ≡ readAsAsk (now (line .entry)) ⌝ }
@@ -92,13 +92,22 @@ pub fn ask_in(line: &[u8]) -> AskRead
     if !line_fields::layout_ok(line, ask_kind(order), 29) {
         return no_ask(10);
     }
-    let query = line_fields::query_at(order, line);
-    let at = 7 + 4 * query.d;
+    let d = line_digits::number(line, 6, 1) as usize;
+    let at = 7 + 4 * d;
     let scope = line_fields::scope_at(line, at);
     let size = line_digits::number(line, at + 21, 1);
     if !ask_ranges(scope, size) {
         return no_ask(10);
     }
+    let probe = line_fields::coords_at(line, 7, d);
+    let query = Query {
+        order,
+        table: line_digits::number(line, 1, 4) as u32,
+        measure: line_digits::number(line, 5, 1) as u8,
+        d,
+        probe,
+        reach: line_digits::number(line, at, 8),
+    };
     let ask = Ask {
         query,
         scope,

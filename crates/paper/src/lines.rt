@@ -35,12 +35,12 @@ pub struct Ask {
 }
 
 // [5.6] [5.14] What an answer line says. The items are triples of number, reference and distance; slots that are not in use hold 0, here
-// as in a probe.
+// as in a probe. The query, which ends in a whole word, stands before the items: with a gap there, a reader holds them twice.
 pub struct Answer {
-    pub query: Query,
-    pub scope: Scope,
     pub last: u8,
     pub count: u8,
+    pub scope: Scope,
+    pub query: Query,
     pub items: [u64; ITEM_ROOM],
 }
 

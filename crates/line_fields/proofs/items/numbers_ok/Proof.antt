@@ -1,46 +1,72 @@
--- `line_fields::items::numbers_ok` meets its contract: what is said of the items that are left. Assumes nothing.
-use Prim.Native.Nat.{_-_, _≤_}
+use Prim.Native.Nat.{ℕ, zero, suc, _-_, _*_, _≤_}
 use native.Mathlib.Omega.{arith}
 use mathlib.Core.Path.{_≡_, refl, sym, _∙_}
-use lib.ListN.{length, drop}
-use Rattle.paper.specs.Fields.{numbersOk}
-use Rattle.line_fields.proofs.ItemLaws.{number-more, number-bad, number-none}
+use mathlib.Core.Bool.{true}
+use mathlib.Core.List.{List}
+use lib.ListN.{drop}
+use lib.Seq.{drop-drop}
+use Rattle.paper.specs.Frames.{num, frameOf}
+use Rattle.paper.specs.Fields.{itemNumbers, numbersOk}
+use Rattle.line_digits.proofs.LinesAndFrames.{frame-le}
+use Rattle.line_fields.proofs.ItemLaws.{number-more, number-bad}
 use borrow.Author.Needs.{needs}
 use Rattle.line_fields.proofs.items.numbers_ok.Statement.{statement}
 use Rattle.line_fields.proofs.items.numbers_ok.Tie as tie
 
+-- none is left, and all are
+none : (k : ℕ) (g : List ℕ) → k ≤ 0 → numbersOk (itemNumbers k g) ≡ true
+unfolding itemNumbers numbersOk
+none zero g h = refl
+none (suc k) g h = absurd (omega arith)
+
+all : (k : ℕ) → k ≡ k - 0
+all k = omega arith
+
 abbrev Inv-loop : tie.InvT-loop
-Inv-loop items j₀ j = (j ≤ length items) × (numbersOk items ≡ numbersOk (drop j items))
+Inv-loop line at k i₀ i = (i ≤ k) × (numbersOk (itemNumbers k (drop at (frameOf line))) ≡ numbersOk (itemNumbers (k - i) (drop (14 * i) (drop at (frameOf line)))))
 
 abbrev μ-loop : tie.MeasureT-loop
-μ-loop items j₀ j = length items - j
+μ-loop line at k i₀ i = k - i
 
 loop-holds : tie.Need-loop-holds Inv-loop μ-loop
-loop-holds c = (search needs, refl)
+loop-holds c = (search needs, rw (← all))
 
-add-loop : tie.Need-add-loop Inv-loop μ-loop
-add-loop c = search needs
+mul-number : tie.Need-mul-number Inv-loop μ-loop
+mul-number c = omega (arith, frame-le (c .before .before .before .args .line .now))
 
-mul-if1 : tie.Need-mul-if1 Inv-loop μ-loop
-mul-if1 c = search needs
+add-number : tie.Need-add-number Inv-loop μ-loop
+add-number c = omega (arith, frame-le (c .before .before .before .args .line .now))
 
-shared-slice-read-if1 : tie.Need-shared-slice-read-if1 Inv-loop μ-loop
-shared-slice-read-if1 c = search needs
+number-requires : tie.Need-number-requires Inv-loop μ-loop
+number-requires c κs = search needs
 
 returns : tie.Need-returns Inv-loop μ-loop
-returns c = let l = c .before .before .before .loop in sym (l .inv .1 ∙ number-bad _ _ (c .before .before .loop-test .taken) (c .if1 .taken))
+returns c =
+    let a = c .before .before .before .before .before .args in
+    let l = c .before .before .before .loop in
+    let g = drop (a .at) (frameOf (a .line .now)) in
+    let v : c .before .number .result ≡ num 2 (drop (14 * l .i) g) = c .before .number .ensures .value ∙ rw drop-drop in
+    sym (l .inv .1 ∙ number-bad (a .k) (l .i) g (omega arith) (omega arith))
 
-add-j : tie.Need-add-j Inv-loop μ-loop
-add-j c = search needs
+add-i : tie.Need-add-i Inv-loop μ-loop
+add-i c = search needs
 
 loop-less : tie.Need-loop-less Inv-loop μ-loop
 loop-less c = search needs
 
 loop-again : tie.Need-loop-again Inv-loop μ-loop
-loop-again c = let l = c .before .before .before .loop in (search needs, l .inv .1 ∙ number-more _ _ (c .before .before .loop-test .taken) (c .if1 .left))
+loop-again c =
+    let a = c .before .before .before .before .before .args in
+    let l = c .before .before .before .loop in
+    let g = drop (a .at) (frameOf (a .line .now)) in
+    let v : c .before .number .result ≡ num 2 (drop (14 * l .i) g) = c .before .number .ensures .value ∙ rw drop-drop in
+    (search needs, l .inv .1 ∙ number-more (a .k) (l .i) g (omega arith) (omega arith))
 
 returns-2 : tie.Need-returns-2 Inv-loop μ-loop
-returns-2 c = sym (c .before .loop .inv .1 ∙ number-none _ _ (c .loop-test .left))
+returns-2 c =
+    let a = c .before .before .before .args in
+    let l = c .before .loop in
+    sym (l .inv .1 ∙ none (a .k - l .i) _ (omega arith))
 
 pub numbers-ok-spec : {M : Type 1} → statement M
 numbers-ok-spec =
@@ -49,11 +75,11 @@ numbers-ok-spec =
     Inv-loop
     μ-loop
     loop-holds
-    add-loop
-    mul-if1
-    shared-slice-read-if1
+    mul-number
+    add-number
+    number-requires
     returns
-    add-j
+    add-i
     loop-less
     loop-again
     returns-2)

@@ -1,30 +1,14 @@
--- `line_fields::parts::kind` meets its contract: an empty frame's first byte reads as 0. Assumes nothing.
-use Prim.Native.Nat.{ℕ}
-use mathlib.Core.Path.{_≡_, refl, sym, _∙_}
-use mathlib.Core.List.{List, [], _∷_}
-use native.Mathlib.Omega.{arith}
-use lib.ListN.{length}
-use Rattle.paper.specs.Frames.{num}
+-- `line_fields::parts::kind` meets its contract: a sound line has a byte. Assumes nothing.
+use Rattle.line_digits.proofs.LinesAndFrames.{sound-byte}
 use borrow.Author.Needs.{needs}
 use Rattle.line_fields.proofs.parts.kind.Statement.{statement}
 use Rattle.line_fields.proofs.parts.kind.Tie as tie
 
-kind-of-none : (f : List ℕ) → length f ≡ 0 → 0 ≡ num 1 f
-unfolding num
-kind-of-none [] e = refl
-kind-of-none (x ∷ f) e = absurd (omega arith)
-
-size-requires : tie.Need-size-requires
-size-requires c κs = search needs
+number-requires : tie.Need-number-requires
+number-requires c κs = ((c .before .pre, sound-byte _ (c .before .pre)), search needs)
 
 returns : tie.Need-returns
-returns c = kind-of-none _ (sym (c .before .size .ensures) ∙ c .if1 .taken)
-
-number-requires : tie.Need-number-requires
-number-requires c κs = search needs
-
-returns-2 : tie.Need-returns-2
-returns-2 c = search needs
+returns c = search needs
 
 pub kind-spec : {M : Type 1} → statement M
-kind-spec = tie.close (tie.spec size-requires returns number-requires returns-2)
+kind-spec = tie.close (tie.spec number-requires returns)

@@ -3,7 +3,7 @@ use native.Mathlib.Omega.{arith}
 use mathlib.Core.Path.{sym}
 use Rattle.paper.specs.Frames.{frameOf}
 use Rattle.paper.proofs.Tests.{refuted}
-use Rattle.line_fields.specs.Fronts.{laidOut}
+use Rattle.line_fields.specs.Layout.{laidOut}
 use Rattle.line_fields.proofs.PartLaws.{laid-is}
 use borrow.Author.Needs.{needs}
 use Rattle.line_fields.proofs.parts.layout_ok.Statement.{statement}

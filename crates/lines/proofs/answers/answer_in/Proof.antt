@@ -1,9 +1,11 @@
 -- `lines::answers::answer_in` meets its contract: 10 by the layout, by a range or by an item's number, or what the frame holds. Assumes nothing.
 use native.Mathlib.Omega.{arith}
-use mathlib.Core.Path.{refl, sym, _∙_}
+use Prim.Native.Nat.{_+_, _-_, _*_}
+use mathlib.Core.Path.{_≡_, refl, sym, _∙_}
 use borrow.Author.Tests.{not-false}
-use Rattle.lines.proofs.QueryTests.{laid-query, laid-begun}
-use Rattle.lines.proofs.AnswerTests.{few-items, answer-length, unlaid-answer, answer-out, items-out, answer-read}
+use Rattle.line_fields.proofs.PartLaws.{laid-bytes, laid-narrow}
+use Rattle.lines.proofs.QueryTests.{query-value}
+use Rattle.lines.proofs.AnswerTests.{few-items, unlaid-answer, answer-bytes, answer-out, items-out, answer-read}
 use borrow.Author.Needs.{needs}
 use Rattle.lines.proofs.answers.answer_in.Statement.{statement}
 use Rattle.lines.proofs.answers.answer_in.Tie as tie
@@ -32,29 +34,44 @@ returns c =
     let layout-ok = c .before .before .layout-ok in
     c .no-answer .ensures ∙ unlaid-answer _ pre _ (layout-ok .ensures ∙ rw (answer-kind .ensures, answer-order .ensures, kind .ensures)) (c .before .if1 .taken)
 
-query-at-requires : tie.Need-query-at-requires
-query-at-requires c κs = laid-begun _ _ _ _ (c .before .layout-ok .ensures) (c .if1 .left) (omega arith)
+number-requires : tie.Need-number-requires
+number-requires c κs = (laid-bytes _ _ _ (c .before .before .before .before .before .before .pre) _ (c .before .layout-ok .ensures) (c .if1 .left) _ refl _ (omega arith), omega arith)
 
 mul-at : tie.Need-mul-at
-mul-at c = let p = laid-query _ _ _ _ (c .before .before .before .layout-ok .ensures) (c .before .before .if1 .left) _ _ (c .before .query-at .ensures) in omega (arith, p .0)
+mul-at c = search needs
 
 add-at : tie.Need-add-at
-add-at c = let p = laid-query _ _ _ _ (c .before .before .before .layout-ok .ensures) (c .before .before .if1 .left) _ _ (c .before .query-at .ensures) in omega (arith, p .0)
+add-at c = search needs
 
 sub-scope-at : tie.Need-sub-scope-at
 sub-scope-at c = search needs
 
 scope-at-requires : tie.Need-scope-at-requires
-scope-at-requires c κs = let p = laid-query _ _ _ _ (c .before .before .before .layout-ok .ensures) (c .before .before .if1 .left) _ _ (c .before .query-at .ensures) in omega (arith, p .1)
-
-number-requires : tie.Need-number-requires
-number-requires c κs = let p = laid-query _ _ _ _ (c .before .before .before .before .layout-ok .ensures) (c .before .before .before .if1 .left) _ _ (c .before .before .query-at .ensures) in omega (arith, p .1)
-
-add-number : tie.Need-add-number
-add-number c = let p = laid-query _ _ _ _ (c .before .before .before .before .before .layout-ok .ensures) (c .before .before .before .before .if1 .left) _ _ (c .before .before .before .query-at .ensures) in omega (arith, p .0)
+scope-at-requires c κs =
+    let pre = c .before .before .before .before .before .before .before .pre in
+    let layout-ok = c .before .before .layout-ok in
+    let if1 = c .before .if1 in
+    let number = c .number in
+    laid-bytes _ _ _ pre _ (layout-ok .ensures) (if1 .left) _ (number .ensures .value) _ (omega arith)
 
 number-requires-2 : tie.Need-number-requires-2
-number-requires-2 c κs = let p = laid-query _ _ _ _ (c .before .before .before .before .before .layout-ok .ensures) (c .before .before .before .before .if1 .left) _ _ (c .before .before .before .query-at .ensures) in omega (arith, p .1)
+number-requires-2 c κs =
+    let pre = c .before .before .before .before .before .before .before .before .pre in
+    let layout-ok = c .before .before .before .layout-ok in
+    let if1 = c .before .before .if1 in
+    let number = c .before .number in
+    (laid-bytes _ _ _ pre _ (layout-ok .ensures) (if1 .left) _ (number .ensures .value) _ (omega arith), omega arith)
+
+add-number : tie.Need-add-number
+add-number c = search needs
+
+number-requires-3 : tie.Need-number-requires-3
+number-requires-3 c κs =
+    let pre = c .before .before .before .before .before .before .before .before .before .pre in
+    let layout-ok = c .before .before .before .before .layout-ok in
+    let if1 = c .before .before .before .if1 in
+    let number = c .before .before .number in
+    (laid-bytes _ _ _ pre _ (layout-ok .ensures) (if1 .left) _ (number .ensures .value) _ (omega arith), omega arith)
 
 answer-ranges-requires : tie.Need-answer-ranges-requires
 answer-ranges-requires c κs = search needs
@@ -64,80 +81,148 @@ no-answer-requires-2 c κs = search needs
 
 returns-2 : tie.Need-returns-2
 returns-2 c =
-    let pre = c .before .before .before .before .before .before .before .before .before .before .before .before .before .before .pre in
-    let kind = c .before .before .before .before .before .before .before .before .before .before .before .before .kind in
-    let answer-order = c .before .before .before .before .before .before .before .before .before .before .before .answer-order in
-    let answer-kind = c .before .before .before .before .before .before .before .before .before .before .answer-kind in
-    let layout-ok = c .before .before .before .before .before .before .before .before .before .layout-ok in
-    let if1 = c .before .before .before .before .before .before .before .before .if1 in
-    let query-at = c .before .before .before .before .before .before .before .query-at in
-    let scope-at = c .before .before .before .before .before .scope-at in
-    let number = c .before .before .before .before .number in
-    let number2 = c .before .before .before .number2 in
-    let answer-ranges = c .before .before .answer-ranges in
-    c .no-answer2 .ensures ∙ answer-out _ pre _ (layout-ok .ensures ∙ rw (answer-kind .ensures, answer-order .ensures, kind .ensures)) (if1 .left) _ _ _ _ _ (query-at .ensures ∙ rw (answer-order .ensures, kind .ensures)) refl
-    (scope-at .ensures) (number .ensures .value) (number2 .ensures .value) _ (answer-ranges .ensures) (c .before .if2 .taken)
-
-add-items-at : tie.Need-add-items-at
-add-items-at c = let p = laid-query _ _ _ _ (c .before .before .before .before .before .before .before .before .layout-ok .ensures) (c .before .before .before .before .before .before .before .if1 .left) _ _ (c .before .before .before .before .before .before .query-at .ensures) in omega (arith, p .0)
-
-items-at-requires : tie.Need-items-at-requires
-items-at-requires c κs =
+    let pre = c .before .before .before .before .before .before .before .before .before .before .before .before .before .pre in
+    let kind = c .before .before .before .before .before .before .before .before .before .before .before .kind in
+    let answer-order = c .before .before .before .before .before .before .before .before .before .before .answer-order in
+    let answer-kind = c .before .before .before .before .before .before .before .before .before .answer-kind in
     let layout-ok = c .before .before .before .before .before .before .before .before .layout-ok in
     let if1 = c .before .before .before .before .before .before .before .if1 in
-    let query-at = c .before .before .before .before .before .before .query-at in
-    let few = few-items _ _ _ (sym (c .before .answer-ranges .ensures) ∙ not-false _ (c .if2 .left)) in
-    let long = answer-length _ _ _ (layout-ok .ensures) (if1 .left) _ _ (query-at .ensures) _ (c .before .before .number2 .ensures .value) in
-    omega (arith, few .1, long)
+    let number = c .before .before .before .before .before .before .number in
+    let scope-at = c .before .before .before .before .before .scope-at in
+    let number2 = c .before .before .before .before .number2 in
+    let number3 = c .before .before .before .number3 in
+    let answer-ranges = c .before .before .answer-ranges in
+    c .no-answer2 .ensures
+    ∙ answer-out _ pre _ (layout-ok .ensures ∙ rw (answer-kind .ensures, answer-order .ensures, kind .ensures)) (if1 .left) _ (number .ensures .value) _ refl _ (number3 .ensures .value)
+    _ (scope-at .ensures) _ (number2 .ensures .value) _ (answer-ranges .ensures) (c .before .if2 .taken)
 
-slice-aggregate-numbers-ok : tie.Need-slice-aggregate-numbers-ok
-slice-aggregate-numbers-ok c = search needs
+add-numbers-ok : tie.Need-add-numbers-ok
+add-numbers-ok c = search needs
 
 numbers-ok-requires : tie.Need-numbers-ok-requires
-numbers-ok-requires c κs = search needs
+numbers-ok-requires c κs =
+    let pre = c .before .before .before .before .before .before .before .before .before .before .before .before .pre in
+    let kind = c .before .before .before .before .before .before .before .before .before .before .kind in
+    let answer-order = c .before .before .before .before .before .before .before .before .before .answer-order in
+    let answer-kind = c .before .before .before .before .before .before .before .before .answer-kind in
+    let layout-ok = c .before .before .before .before .before .before .before .layout-ok in
+    let if1 = c .before .before .before .before .before .before .if1 in
+    let number = c .before .before .before .before .before .number in
+    let number3 = c .before .before .number3 in
+    answer-bytes _ pre _ (layout-ok .ensures ∙ rw (answer-kind .ensures, answer-order .ensures, kind .ensures)) (if1 .left) _ (number .ensures .value) _ refl _ (number3 .ensures .value) _ (omega arith)
 
 no-answer-requires-3 : tie.Need-no-answer-requires-3
 no-answer-requires-3 c κs = search needs
 
 returns-3 : tie.Need-returns-3
 returns-3 c =
+    let pre = c .before .before .before .before .before .before .before .before .before .before .before .before .before .before .before .pre in
+    let kind = c .before .before .before .before .before .before .before .before .before .before .before .before .before .kind in
+    let answer-order = c .before .before .before .before .before .before .before .before .before .before .before .before .answer-order in
+    let answer-kind = c .before .before .before .before .before .before .before .before .before .before .before .answer-kind in
+    let layout-ok = c .before .before .before .before .before .before .before .before .before .before .layout-ok in
+    let if1 = c .before .before .before .before .before .before .before .before .before .if1 in
+    let number = c .before .before .before .before .before .before .before .before .number in
+    let scope-at = c .before .before .before .before .before .before .before .scope-at in
+    let number2 = c .before .before .before .before .before .before .number2 in
+    let number3 = c .before .before .before .before .before .number3 in
+    let answer-ranges = c .before .before .before .before .answer-ranges in
+    let if2 = c .before .before .before .if2 in
+    let numbers-ok = c .before .before .numbers-ok in
+    c .no-answer3 .ensures
+    ∙ items-out _ pre _ (layout-ok .ensures ∙ rw (answer-kind .ensures, answer-order .ensures, kind .ensures)) (if1 .left) _ (number .ensures .value) _ refl _ (number3 .ensures .value)
+    _ (scope-at .ensures) _ (number2 .ensures .value) _ (answer-ranges .ensures) (if2 .left) _ (numbers-ok .ensures) (c .before .if3 .taken)
+
+coords-at-requires : tie.Need-coords-at-requires
+coords-at-requires c κs =
+    let pre = c .before .before .before .before .before .before .before .before .before .before .before .before .before .before .pre in
+    let layout-ok = c .before .before .before .before .before .before .before .before .before .layout-ok in
+    let if1 = c .before .before .before .before .before .before .before .before .if1 in
+    let number = c .before .before .before .before .before .before .before .number in
+    (laid-bytes _ _ _ pre _ (layout-ok .ensures) (if1 .left) _ (number .ensures .value) _ (omega arith), laid-narrow _ _ _ pre _ (layout-ok .ensures) (if1 .left) _ (number .ensures .value))
+
+number-requires-4 : tie.Need-number-requires-4
+number-requires-4 c κs =
+    let pre = c .before .before .before .before .before .before .before .before .before .before .before .before .before .before .before .pre in
+    let layout-ok = c .before .before .before .before .before .before .before .before .before .before .layout-ok in
+    let if1 = c .before .before .before .before .before .before .before .before .before .if1 in
+    let number = c .before .before .before .before .before .before .before .before .number in
+    (laid-bytes _ _ _ pre _ (layout-ok .ensures) (if1 .left) _ (number .ensures .value) _ (omega arith), omega arith)
+
+cast-t18 : tie.Need-cast-t18
+cast-t18 c = search needs
+
+number-requires-5 : tie.Need-number-requires-5
+number-requires-5 c κs =
+    let pre = c .before .before .before .before .before .before .before .before .before .before .before .before .before .before .before .before .pre in
+    let layout-ok = c .before .before .before .before .before .before .before .before .before .before .before .layout-ok in
+    let if1 = c .before .before .before .before .before .before .before .before .before .before .if1 in
+    let number = c .before .before .before .before .before .before .before .before .before .number in
+    (laid-bytes _ _ _ pre _ (layout-ok .ensures) (if1 .left) _ (number .ensures .value) _ (omega arith), omega arith)
+
+cast-t14 : tie.Need-cast-t14
+cast-t14 c = search needs
+
+sub-number : tie.Need-sub-number
+sub-number c = search needs
+
+number-requires-6 : tie.Need-number-requires-6
+number-requires-6 c κs =
+    let pre = c .before .before .before .before .before .before .before .before .before .before .before .before .before .before .before .before .before .pre in
+    let layout-ok = c .before .before .before .before .before .before .before .before .before .before .before .before .layout-ok in
+    let if1 = c .before .before .before .before .before .before .before .before .before .before .before .if1 in
+    let number = c .before .before .before .before .before .before .before .before .before .before .number in
+    (laid-bytes _ _ _ pre _ (layout-ok .ensures) (if1 .left) _ (number .ensures .value) _ (omega arith), omega arith)
+
+add-items-at : tie.Need-add-items-at
+add-items-at c = search needs
+
+items-at-requires : tie.Need-items-at-requires
+items-at-requires c κs =
     let pre = c .before .before .before .before .before .before .before .before .before .before .before .before .before .before .before .before .before .before .pre in
     let kind = c .before .before .before .before .before .before .before .before .before .before .before .before .before .before .before .before .kind in
     let answer-order = c .before .before .before .before .before .before .before .before .before .before .before .before .before .before .before .answer-order in
     let answer-kind = c .before .before .before .before .before .before .before .before .before .before .before .before .before .before .answer-kind in
     let layout-ok = c .before .before .before .before .before .before .before .before .before .before .before .before .before .layout-ok in
     let if1 = c .before .before .before .before .before .before .before .before .before .before .before .before .if1 in
-    let query-at = c .before .before .before .before .before .before .before .before .before .before .before .query-at in
-    let scope-at = c .before .before .before .before .before .before .before .before .before .scope-at in
-    let number = c .before .before .before .before .before .before .before .before .number in
-    let number2 = c .before .before .before .before .before .before .before .number2 in
-    let answer-ranges = c .before .before .before .before .before .before .answer-ranges in
-    let if2 = c .before .before .before .before .before .if2 in
-    c .no-answer3 .ensures ∙ items-out _ pre _ (layout-ok .ensures ∙ rw (answer-kind .ensures, answer-order .ensures, kind .ensures)) (if1 .left) _ _ _ _ _ (query-at .ensures ∙ rw (answer-order .ensures, kind .ensures)) refl
-    (scope-at .ensures) (number .ensures .value) (number2 .ensures .value) _ (answer-ranges .ensures) (if2 .left) _ (c .before .before .before .before .items-at .ensures) _ (c .before .before .numbers-ok .ensures) (c .before .if3 .taken)
+    let number = c .before .before .before .before .before .before .before .before .before .before .before .number in
+    let number3 = c .before .before .before .before .before .before .before .before .number3 in
+    let answer-ranges = c .before .before .before .before .before .before .before .answer-ranges in
+    let if2 = c .before .before .before .before .before .before .if2 in
+    let few = few-items _ _ _ (sym (answer-ranges .ensures) ∙ not-false _ (if2 .left)) in
+    (answer-bytes _ pre _ (layout-ok .ensures ∙ rw (answer-kind .ensures, answer-order .ensures, kind .ensures)) (if1 .left) _ (number .ensures .value) _ refl _ (number3 .ensures .value) _ (omega arith), few .1)
 
-cast-t12 : tie.Need-cast-t12
-cast-t12 c = search needs
+cast-t14-2 : tie.Need-cast-t14-2
+cast-t14-2 c = search needs
 
-cast-t19 : tie.Need-cast-t19
-cast-t19 c = search needs
+cast-t21 : tie.Need-cast-t21
+cast-t21 c = search needs
 
 returns-4 : tie.Need-returns-4
 returns-4 c =
-    let pre = c .before .before .before .before .before .before .before .before .before .before .before .before .before .before .before .before .before .pre in
-    let kind = c .before .before .before .before .before .before .before .before .before .before .before .before .before .before .before .kind in
-    let answer-order = c .before .before .before .before .before .before .before .before .before .before .before .before .before .before .answer-order in
-    let answer-kind = c .before .before .before .before .before .before .before .before .before .before .before .before .before .answer-kind in
-    let layout-ok = c .before .before .before .before .before .before .before .before .before .before .before .before .layout-ok in
-    let if1 = c .before .before .before .before .before .before .before .before .before .before .before .if1 in
-    let query-at = c .before .before .before .before .before .before .before .before .before .before .query-at in
-    let scope-at = c .before .before .before .before .before .before .before .before .scope-at in
-    let number = c .before .before .before .before .before .before .before .number in
-    let number2 = c .before .before .before .before .before .before .number2 in
-    let answer-ranges = c .before .before .before .before .before .answer-ranges in
-    let if2 = c .before .before .before .before .if2 in
-    answer-read _ pre _ (layout-ok .ensures ∙ rw (answer-kind .ensures, answer-order .ensures, kind .ensures)) (if1 .left) _ _ _ _ _ (query-at .ensures ∙ rw (answer-order .ensures, kind .ensures)) refl
-    (scope-at .ensures) (number .ensures .value) (number2 .ensures .value) _ (answer-ranges .ensures) (if2 .left) _ (c .before .before .before .items-at .ensures) _ (c .before .numbers-ok .ensures) (c .if3 .left)
+    let pre = c .before .before .before .before .before .before .before .before .before .before .before .before .before .before .before .before .before .before .before .pre in
+    let kind = c .before .before .before .before .before .before .before .before .before .before .before .before .before .before .before .before .before .kind in
+    let answer-order = c .before .before .before .before .before .before .before .before .before .before .before .before .before .before .before .before .answer-order in
+    let answer-kind = c .before .before .before .before .before .before .before .before .before .before .before .before .before .before .before .answer-kind in
+    let layout-ok = c .before .before .before .before .before .before .before .before .before .before .before .before .before .before .layout-ok in
+    let if1 = c .before .before .before .before .before .before .before .before .before .before .before .before .before .if1 in
+    let number = c .before .before .before .before .before .before .before .before .before .before .before .before .number in
+    let scope-at = c .before .before .before .before .before .before .before .before .before .before .before .scope-at in
+    let number2 = c .before .before .before .before .before .before .before .before .before .before .number2 in
+    let number3 = c .before .before .before .before .before .before .before .before .before .number3 in
+    let answer-ranges = c .before .before .before .before .before .before .before .before .answer-ranges in
+    let if2 = c .before .before .before .before .before .before .before .if2 in
+    let numbers-ok = c .before .before .before .before .before .before .numbers-ok in
+    let if3 = c .before .before .before .before .before .if3 in
+    let coords-at = c .before .before .before .before .coords-at in
+    let number4 = c .before .before .before .number4 in
+    let number5 = c .before .before .number5 in
+    let number6 = c .before .number6 in
+    let reach : 28 + 4 * number .result - 21 ≡ 7 + 4 * number .result = omega arith in
+    answer-read _ pre _ (layout-ok .ensures ∙ rw (answer-kind .ensures, answer-order .ensures, kind .ensures)) (if1 .left) _ (number .ensures .value) _ refl _ (number3 .ensures .value)
+    _ (scope-at .ensures) _ (number2 .ensures .value) _ (answer-ranges .ensures) (if2 .left) _ (numbers-ok .ensures) (if3 .left) _
+    (query-value _ _ _ _ _ _ _ _ (number .ensures .value) reach (number4 .ensures .value) (number5 .ensures .value) (coords-at .ensures) (number6 .ensures .value)
+    ∙ rw (answer-order .ensures, kind .ensures)) _ (c .items-at .ensures)
 
 pub answer-in-spec : {M : Type 1} → statement M
 answer-in-spec =
@@ -149,23 +234,30 @@ answer-in-spec =
     layout-ok-requires
     no-answer-requires
     returns
-    query-at-requires
+    number-requires
     mul-at
     add-at
     sub-scope-at
     scope-at-requires
-    number-requires
-    add-number
     number-requires-2
+    add-number
+    number-requires-3
     answer-ranges-requires
     no-answer-requires-2
     returns-2
-    add-items-at
-    items-at-requires
-    slice-aggregate-numbers-ok
+    add-numbers-ok
     numbers-ok-requires
     no-answer-requires-3
     returns-3
-    cast-t12
-    cast-t19
+    coords-at-requires
+    number-requires-4
+    cast-t18
+    number-requires-5
+    cast-t14
+    sub-number
+    number-requires-6
+    add-items-at
+    items-at-requires
+    cast-t14-2
+    cast-t21
     returns-4)

@@ -5,7 +5,7 @@ use mathlib.Core.Path.{sym, _∙_}
 use Rattle.paper.specs.Frames.{frameOf}
 use Rattle.paper.specs.Lines.{countIn}
 use Rattle.paper.proofs.Tests.{refuted}
-use Rattle.line_fields.specs.Fronts.{laidOut}
+use Rattle.line_fields.specs.Layout.{laidOut}
 use Rattle.line_fields.proofs.PartLaws.{laid-is}
 use Rattle.lines.proofs.AnswerTests.{answer-laid}
 use borrow.Author.Needs.{needs}

@@ -1,7 +1,8 @@
 -- `lines::asks::ask_in` meets its contract: 10 by the layout or by a range, or what the frame holds. Assumes nothing.
 use native.Mathlib.Omega.{arith}
 use mathlib.Core.Path.{refl, _∙_}
-use Rattle.lines.proofs.QueryTests.{laid-query, laid-begun}
+use Rattle.line_fields.proofs.PartLaws.{laid-bytes, laid-narrow}
+use Rattle.lines.proofs.QueryTests.{query-value}
 use Rattle.lines.proofs.AskTests.{unlaid-ask, ask-out, ask-read}
 use borrow.Author.Needs.{needs}
 use Rattle.lines.proofs.asks.ask_in.Statement.{statement}
@@ -31,23 +32,33 @@ returns c =
     let layout-ok = c .before .before .layout-ok in
     c .no-ask .ensures ∙ unlaid-ask _ pre _ (layout-ok .ensures ∙ rw (ask-kind .ensures, ask-order .ensures, kind .ensures)) (c .before .if1 .taken)
 
-query-at-requires : tie.Need-query-at-requires
-query-at-requires c κs = laid-begun _ _ _ _ (c .before .layout-ok .ensures) (c .if1 .left) (omega arith)
+number-requires : tie.Need-number-requires
+number-requires c κs = (laid-bytes _ _ _ (c .before .before .before .before .before .before .pre) _ (c .before .layout-ok .ensures) (c .if1 .left) _ refl _ (omega arith), omega arith)
 
 mul-at : tie.Need-mul-at
-mul-at c = let p = laid-query _ _ _ _ (c .before .before .before .layout-ok .ensures) (c .before .before .if1 .left) _ _ (c .before .query-at .ensures) in omega (arith, p .0)
+mul-at c = search needs
 
 add-at : tie.Need-add-at
-add-at c = let p = laid-query _ _ _ _ (c .before .before .before .layout-ok .ensures) (c .before .before .if1 .left) _ _ (c .before .query-at .ensures) in omega (arith, p .0)
+add-at c = search needs
 
 scope-at-requires : tie.Need-scope-at-requires
-scope-at-requires c κs = let p = laid-query _ _ _ _ (c .before .before .before .layout-ok .ensures) (c .before .before .if1 .left) _ _ (c .before .query-at .ensures) in omega (arith, p .1)
+scope-at-requires c κs =
+    let pre = c .before .before .before .before .before .before .before .pre in
+    let layout-ok = c .before .before .layout-ok in
+    let if1 = c .before .if1 in
+    let number = c .number in
+    laid-bytes _ _ _ pre _ (layout-ok .ensures) (if1 .left) _ (number .ensures .value) _ (omega arith)
 
 add-number : tie.Need-add-number
-add-number c = let p = laid-query _ _ _ _ (c .before .before .before .before .layout-ok .ensures) (c .before .before .before .if1 .left) _ _ (c .before .before .query-at .ensures) in omega (arith, p .0)
+add-number c = search needs
 
-number-requires : tie.Need-number-requires
-number-requires c κs = let p = laid-query _ _ _ _ (c .before .before .before .before .layout-ok .ensures) (c .before .before .before .if1 .left) _ _ (c .before .before .query-at .ensures) in omega (arith, p .1)
+number-requires-2 : tie.Need-number-requires-2
+number-requires-2 c κs =
+    let pre = c .before .before .before .before .before .before .before .before .pre in
+    let layout-ok = c .before .before .before .layout-ok in
+    let if1 = c .before .before .if1 in
+    let number = c .before .number in
+    (laid-bytes _ _ _ pre _ (layout-ok .ensures) (if1 .left) _ (number .ensures .value) _ (omega arith), omega arith)
 
 ask-ranges-requires : tie.Need-ask-ranges-requires
 ask-ranges-requires c κs = search needs
@@ -57,34 +68,79 @@ no-ask-requires-2 c κs = search needs
 
 returns-2 : tie.Need-returns-2
 returns-2 c =
-    let pre = c .before .before .before .before .before .before .before .before .before .before .before .before .before .pre in
-    let kind = c .before .before .before .before .before .before .before .before .before .before .before .kind in
-    let ask-order = c .before .before .before .before .before .before .before .before .before .before .ask-order in
-    let ask-kind = c .before .before .before .before .before .before .before .before .before .ask-kind in
-    let layout-ok = c .before .before .before .before .before .before .before .before .layout-ok in
-    let if1 = c .before .before .before .before .before .before .before .if1 in
-    let query-at = c .before .before .before .before .before .before .query-at in
-    let scope-at = c .before .before .before .before .scope-at in
-    let number = c .before .before .before .number in
-    c .no-ask2 .ensures ∙ ask-out _ pre _ (layout-ok .ensures ∙ rw (ask-kind .ensures, ask-order .ensures, kind .ensures)) (if1 .left) _ _ _ _ (query-at .ensures ∙ rw (ask-order .ensures, kind .ensures)) refl
-    (scope-at .ensures) (number .ensures .value) _ (c .before .before .ask-ranges .ensures) (c .before .if2 .taken)
-
-cast-t10 : tie.Need-cast-t10
-cast-t10 c = search needs
-
-returns-3 : tie.Need-returns-3
-returns-3 c =
     let pre = c .before .before .before .before .before .before .before .before .before .before .before .before .pre in
     let kind = c .before .before .before .before .before .before .before .before .before .before .kind in
     let ask-order = c .before .before .before .before .before .before .before .before .before .ask-order in
     let ask-kind = c .before .before .before .before .before .before .before .before .ask-kind in
     let layout-ok = c .before .before .before .before .before .before .before .layout-ok in
     let if1 = c .before .before .before .before .before .before .if1 in
-    let query-at = c .before .before .before .before .before .query-at in
-    let scope-at = c .before .before .before .scope-at in
-    let number = c .before .before .number in
-    ask-read _ pre _ (layout-ok .ensures ∙ rw (ask-kind .ensures, ask-order .ensures, kind .ensures)) (if1 .left) _ _ _ _ (query-at .ensures ∙ rw (ask-order .ensures, kind .ensures)) refl
-    (scope-at .ensures) (number .ensures .value) _ (c .before .ask-ranges .ensures) (c .if2 .left)
+    let number = c .before .before .before .before .before .number in
+    let scope-at = c .before .before .before .before .scope-at in
+    let number2 = c .before .before .before .number2 in
+    let ask-ranges = c .before .before .ask-ranges in
+    c .no-ask2 .ensures ∙ ask-out _ pre _ (layout-ok .ensures ∙ rw (ask-kind .ensures, ask-order .ensures, kind .ensures)) (if1 .left) _ (number .ensures .value) _ refl _ (scope-at .ensures) _ (number2 .ensures .value) _ (ask-ranges .ensures) (c .before .if2 .taken)
+
+coords-at-requires : tie.Need-coords-at-requires
+coords-at-requires c κs =
+    let pre = c .before .before .before .before .before .before .before .before .before .before .before .pre in
+    let layout-ok = c .before .before .before .before .before .before .layout-ok in
+    let if1 = c .before .before .before .before .before .if1 in
+    let number = c .before .before .before .before .number in
+    (laid-bytes _ _ _ pre _ (layout-ok .ensures) (if1 .left) _ (number .ensures .value) _ (omega arith), laid-narrow _ _ _ pre _ (layout-ok .ensures) (if1 .left) _ (number .ensures .value))
+
+number-requires-3 : tie.Need-number-requires-3
+number-requires-3 c κs =
+    let pre = c .before .before .before .before .before .before .before .before .before .before .before .before .pre in
+    let layout-ok = c .before .before .before .before .before .before .before .layout-ok in
+    let if1 = c .before .before .before .before .before .before .if1 in
+    let number = c .before .before .before .before .before .number in
+    (laid-bytes _ _ _ pre _ (layout-ok .ensures) (if1 .left) _ (number .ensures .value) _ (omega arith), omega arith)
+
+cast-t15 : tie.Need-cast-t15
+cast-t15 c = search needs
+
+number-requires-4 : tie.Need-number-requires-4
+number-requires-4 c κs =
+    let pre = c .before .before .before .before .before .before .before .before .before .before .before .before .before .pre in
+    let layout-ok = c .before .before .before .before .before .before .before .before .layout-ok in
+    let if1 = c .before .before .before .before .before .before .before .if1 in
+    let number = c .before .before .before .before .before .before .number in
+    (laid-bytes _ _ _ pre _ (layout-ok .ensures) (if1 .left) _ (number .ensures .value) _ (omega arith), omega arith)
+
+cast-t12 : tie.Need-cast-t12
+cast-t12 c = search needs
+
+number-requires-5 : tie.Need-number-requires-5
+number-requires-5 c κs =
+    let pre = c .before .before .before .before .before .before .before .before .before .before .before .before .before .before .pre in
+    let layout-ok = c .before .before .before .before .before .before .before .before .before .layout-ok in
+    let if1 = c .before .before .before .before .before .before .before .before .if1 in
+    let number = c .before .before .before .before .before .before .before .number in
+    (laid-bytes _ _ _ pre _ (layout-ok .ensures) (if1 .left) _ (number .ensures .value) _ (omega arith), omega arith)
+
+cast-t12-2 : tie.Need-cast-t12-2
+cast-t12-2 c = search needs
+
+returns-3 : tie.Need-returns-3
+returns-3 c =
+    let pre = c .before .before .before .before .before .before .before .before .before .before .before .before .before .before .before .pre in
+    let kind = c .before .before .before .before .before .before .before .before .before .before .before .before .before .kind in
+    let ask-order = c .before .before .before .before .before .before .before .before .before .before .before .before .ask-order in
+    let ask-kind = c .before .before .before .before .before .before .before .before .before .before .before .ask-kind in
+    let layout-ok = c .before .before .before .before .before .before .before .before .before .before .layout-ok in
+    let if1 = c .before .before .before .before .before .before .before .before .before .if1 in
+    let number = c .before .before .before .before .before .before .before .before .number in
+    let scope-at = c .before .before .before .before .before .before .before .scope-at in
+    let number2 = c .before .before .before .before .before .before .number2 in
+    let ask-ranges = c .before .before .before .before .before .ask-ranges in
+    let if2 = c .before .before .before .before .if2 in
+    let coords-at = c .before .before .before .coords-at in
+    let number3 = c .before .before .number3 in
+    let number4 = c .before .number4 in
+    let number5 = c .number5 in
+    ask-read _ pre _ (layout-ok .ensures ∙ rw (ask-kind .ensures, ask-order .ensures, kind .ensures)) (if1 .left) _ (number .ensures .value) _ refl _ (scope-at .ensures) _ (number2 .ensures .value) _ (ask-ranges .ensures) (if2 .left) _
+    (query-value _ _ _ _ _ _ _ _ (number .ensures .value) refl (number3 .ensures .value) (number4 .ensures .value) (coords-at .ensures) (number5 .ensures .value)
+    ∙ rw (ask-order .ensures, kind .ensures))
 
 pub ask-in-spec : {M : Type 1} → statement M
 ask-in-spec =
@@ -96,14 +152,20 @@ ask-in-spec =
     layout-ok-requires
     no-ask-requires
     returns
-    query-at-requires
+    number-requires
     mul-at
     add-at
     scope-at-requires
     add-number
-    number-requires
+    number-requires-2
     ask-ranges-requires
     no-ask-requires-2
     returns-2
-    cast-t10
+    coords-at-requires
+    number-requires-3
+    cast-t15
+    number-requires-4
+    cast-t12
+    number-requires-5
+    cast-t12-2
     returns-3)

@@ -2,7 +2,8 @@
 use native.Mathlib.Omega.{arith}
 use mathlib.Core.Path.{refl, _∙_}
 use Rattle.paper.specs.Lines.{claimAt}
-use Rattle.lines.proofs.ClaimTests.{unlaid-claim, claim-length, claim-read}
+use Rattle.line_fields.proofs.PartLaws.{laid-bytes, laid-narrow}
+use Rattle.lines.proofs.ClaimTests.{unlaid-claim, claim-read}
 use borrow.Author.Needs.{needs}
 use Rattle.lines.proofs.claims.claim_in.Statement.{statement}
 use Rattle.lines.proofs.claims.claim_in.Tie as tie
@@ -17,19 +18,26 @@ returns : tie.Need-returns
 returns c = c .no-claim .ensures ∙ unlaid-claim _ (c .before .before .before .before .pre) _ (c .before .before .layout-ok .ensures) (c .before .if1 .taken)
 
 number-requires : tie.Need-number-requires
-number-requires c κs = omega (arith, claim-length _ (c .before .before .before .pre) _ (c .before .layout-ok .ensures) (c .if1 .left) _ refl .1)
+number-requires c κs = (laid-bytes _ _ _ (c .before .before .before .pre) _ (c .before .layout-ok .ensures) (c .if1 .left) _ refl _ (omega arith), omega arith)
 
 coords-at-requires : tie.Need-coords-at-requires
-coords-at-requires c κs = let p = claim-length _ (c .before .before .before .before .pre) _ (c .before .before .layout-ok .ensures) (c .before .if1 .left) _ (c .number .ensures .value) in omega (arith, p .0, p .1)
+coords-at-requires c κs = (
+  laid-bytes _ _ _ (c .before .before .before .before .pre) _ (c .before .before .layout-ok .ensures) (c .before .if1 .left) _ (c .number .ensures .value) _ (omega arith),
+  laid-narrow _ _ _ (c .before .before .before .before .pre) _ (c .before .before .layout-ok .ensures) (c .before .if1 .left) _ (c .number .ensures .value),
+)
 
 number-requires-2 : tie.Need-number-requires-2
-number-requires-2 c κs = omega (arith, claim-length _ (c .before .before .before .before .before .pre) _ (c .before .before .before .layout-ok .ensures) (c .before .before .if1 .left) _ (c .before .number .ensures .value) .1)
+number-requires-2 c κs =
+    let pre = c .before .before .before .before .before .pre in
+    (laid-bytes _ _ _ pre _ (c .before .before .before .layout-ok .ensures) (c .before .before .if1 .left) _ (c .before .number .ensures .value) _ (omega arith), omega arith)
 
 cast-t9 : tie.Need-cast-t9
 cast-t9 c = search needs
 
 number-requires-3 : tie.Need-number-requires-3
-number-requires-3 c κs = omega (arith, claim-length _ (c .before .before .before .before .before .before .pre) _ (c .before .before .before .before .layout-ok .ensures) (c .before .before .before .if1 .left) _ (c .before .before .number .ensures .value) .1)
+number-requires-3 c κs =
+    let pre = c .before .before .before .before .before .before .pre in
+    (laid-bytes _ _ _ pre _ (c .before .before .before .before .layout-ok .ensures) (c .before .before .before .if1 .left) _ (c .before .before .number .ensures .value) _ (omega arith), omega arith)
 
 cast-t11 : tie.Need-cast-t11
 cast-t11 c = search needs
@@ -38,7 +46,9 @@ cast-t12 : tie.Need-cast-t12
 cast-t12 c = search needs
 
 number-requires-4 : tie.Need-number-requires-4
-number-requires-4 c κs = omega (arith, claim-length _ (c .before .before .before .before .before .before .before .pre) _ (c .before .before .before .before .before .layout-ok .ensures) (c .before .before .before .before .if1 .left) _ (c .before .before .before .number .ensures .value) .1)
+number-requires-4 c κs =
+    let pre = c .before .before .before .before .before .before .before .pre in
+    (laid-bytes _ _ _ pre _ (c .before .before .before .before .before .layout-ok .ensures) (c .before .before .before .before .if1 .left) _ (c .before .before .before .number .ensures .value) _ (omega arith), omega arith)
 
 cast-t14 : tie.Need-cast-t14
 cast-t14 c = search needs
