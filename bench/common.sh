@@ -4,8 +4,15 @@
 root=$(cd "$(dirname "$0")/.." && pwd) || exit 1
 src=$root/bench/src
 out=$root/target/bench
-cc=${CC:-gcc}
-cxx=${CXX:-g++}
+# shellcheck source=../x86_64.sh
+. "$root/x86_64.sh"
+if [ -n "$x86_runner" ]; then
+    cc=${CC:-$x86_cc}
+    cxx=${CXX:-${x86_cc%gcc}g++}
+else
+    cc=${CC:-gcc}
+    cxx=${CXX:-g++}
+fi
 mkdir -p "$out" || exit 1
 # Nothing is written beside the sources.
 export PYTHONDONTWRITEBYTECODE=1

@@ -1,5 +1,6 @@
-/* The least stack on which each call survives 4,096 claims that are all alike, which make the deepest tree. A call runs in a child
- * process on a stack of so many bytes with nothing below it; a child that dies had too little. */
+/* The least stack on which each call survives: 4,096 claims that are all alike, which make the deepest tree, and lines. A call runs in a
+ * child process on a stack of so many bytes with nothing below it; a child that dies had too little. */
+#include "line_calls.h"
 #include "ours.h"
 
 #include <stdio.h>
@@ -11,7 +12,8 @@
 #include <ucontext.h>
 #include <unistd.h>
 
-enum { MOST_STACK = 4 << 20, GUARD = 16 << 20, STEP = 256 };
+/* Stacks are told apart by so many bytes, in the calls on tables and in those on lines. */
+enum { MOST_STACK = 4 << 20, GUARD = 16 << 20, TABLE_STEP = 256, LINE_STEP = 16 };
 
 static struct cell cell;
 static struct our_table *table;
@@ -116,13 +118,13 @@ static int survives(void (*call)(void), size_t bytes)
     return WIFEXITED(status);
 }
 
-static size_t least_stack(void (*call)(void))
+static size_t least_stack(void (*call)(void), size_t step)
 {
     size_t dies = 0, lives = MOST_STACK;
     if (!survives(call, lives))
         fail("a call does not survive %d bytes of stack", MOST_STACK);
-    while (lives - dies > STEP) {
-        size_t middle = (dies + lives) / 2 / STEP * STEP;
+    while (lives - dies > step) {
+        size_t middle = (dies + lives) / 2 / step * step;
         if (survives(call, middle))
             lives = middle;
         else
@@ -140,20 +142,36 @@ static void enter_alike(size_t n)
     table = our_table(&cell);
 }
 
-int main(void)
+static void measure_tables(void)
 {
     enum { CALLS = sizeof calls / sizeof *calls, LEVELS = NEARBY_MOST_CLAIMS / 2 };
     size_t half[CALLS], whole[CALLS];
-    make_stack();
     enter_alike(NEARBY_MOST_CLAIMS / 2);
     for (size_t i = 0; i < CALLS; i++)
-        half[i] = least_stack(calls[i].call);
+        half[i] = least_stack(calls[i].call, TABLE_STEP);
     enter_alike(NEARBY_MOST_CLAIMS);
     for (size_t i = 0; i < CALLS; i++)
-        whole[i] = least_stack(calls[i].call);
+        whole[i] = least_stack(calls[i].call, TABLE_STEP);
     printf("%d claims that are all alike, %d levels\n", NEARBY_MOST_CLAIMS, LEVELS);
     printf("%-22s %10s %22s\n", "call", "stack KiB", "bytes for each level");
     for (size_t i = 0; i < CALLS; i++)
         printf("%-22s %10.1f %22.1f\n", calls[i].name, (double)whole[i] / 1024,
                ((double)whole[i] - (double)half[i]) / (LEVELS / 2));
+}
+
+/* The caller's own room for what a call gives is in these. */
+static void measure_lines(void)
+{
+    write_lines();
+    printf("\ncalls on lines, with an answer of %d items\n", NEARBY_MOST_PAGE);
+    printf("%-24s %11s\n", "call", "stack bytes");
+    for (size_t i = 0; i < LINE_CALLS; i++)
+        printf("%-24s %11zu\n", line_calls[i].name, least_stack(line_calls[i].call, LINE_STEP));
+}
+
+int main(void)
+{
+    make_stack();
+    measure_tables();
+    measure_lines();
 }

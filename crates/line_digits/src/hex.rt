@@ -21,12 +21,13 @@ fn is_digit(b: u8) -> bool
     ((48 <= b) & (b < 58)) | ((97 <= b) & (b < 103))
 }
 
-// [5.1] The value of a digit. The lower half of 0 to 9 is the value; a to f have 64 besides, and a lower half from 1 on.
+// [5.1] The value of a digit. 0 to 9 have it as their lower half; a to f, which are over 64, have nine less there.
 pub fn digit(b: u8) -> u64
     requires { ⌜ Frames·digit b < 16 ⌝ }
     ensures { λ r. ⌜ r ≡ Frames·digit b ⌝ }
 {
-    (b % 16 + b / 64 * 9) as u64
+    let n = b as u64;
+    n % 16 + n / 64 * 9
 }
 
 // [8.9] Whether a line is pairs of digits, one at least, with 0A behind them, and not too long. All characters are looked at: without an early

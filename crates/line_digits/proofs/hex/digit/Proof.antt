@@ -10,11 +10,8 @@ mul-result c = search needs
 add-result : tie.Need-add-result
 add-result c = search needs
 
-cast-result : tie.Need-cast-result
-cast-result c = search needs
-
 returns : tie.Need-returns
 returns c = digit-halves (c .args .b) (c .pre)
 
 pub digit-spec : {M : Type 1} → statement M
-digit-spec = tie.close (tie.spec mul-result add-result cast-result returns)
+digit-spec = tie.close (tie.spec mul-result add-result returns)
