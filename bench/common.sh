@@ -22,6 +22,11 @@ stop() {
     exit 1
 }
 
+# Stops on another processor: an emulator's times, and valgrind's counts there, say nothing.
+needs_x86() {
+    [ -z "$x86_runner" ] || stop 'this measures on x86-64 alone'
+}
+
 # The archive: NEARBY_ARCHIVE names it or its folder; otherwise it is proved and made.
 find_archive() {
     archive=${NEARBY_ARCHIVE:-}

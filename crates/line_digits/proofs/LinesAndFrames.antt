@@ -1,4 +1,4 @@
--- Digits there and back, a frame from its line and a line from its frame, and when characters are a line. No contract cites this file. Assumes nothing.
+-- Digits there and back, a frame from its line and a line from its frame, when characters are a line, and what is known of one. No contract cites this file. Assumes nothing.
 use Prim.Native.Nat.{ℕ, zero, suc, _+_, _-_, _*_, _/_, _%_, _≤_, _<_}
 use native.Mathlib.Omega.{arith}
 use mathlib.Core.Path.{_≡_, refl, sym, ap}
@@ -6,7 +6,7 @@ use mathlib.Core.Bool.{Bool, true, false, cond, _&&_, _||_}
 use mathlib.Core.List.{List, [], _∷_, _++_}
 use lib.ListN.{length, getD, length-append}
 use lib.Dec.{ltb, leb, eqb}
-use borrow.Author.Tests.{ltb-true, ltb-false, leb-true, eqb-true, lt-ltb, le-ltb, le-leb, lt-leb}
+use borrow.Author.Tests.{ltb-true, ltb-false, eqb-true, lt-ltb, le-ltb, le-leb, lt-leb}
 use Rattle.paper.specs.Frames.{glyph, digit, hexes, lineOf, pairsEnded, isLine, frameOf}
 use Rattle.paper.specs.Limits.{longestAnswer, longestFrame}
 use Rattle.paper.proofs.Tests.{never}

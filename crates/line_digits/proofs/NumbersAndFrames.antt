@@ -6,7 +6,7 @@ use mathlib.Core.Path.{_≡_, refl, sym, ap, _∙_}
 use mathlib.Core.List.{List, [], _∷_, _++_, append-assoc}
 use lib.ListN.{length, getD, take, drop, length-append, length-drop, take-append-drop}
 use lib.Seq.{take-suc, getD-at, drop-at, drop-drop}
-use Rattle.paper.specs.Frames.{be, num, frameOf}
+use Rattle.paper.specs.Frames.{be, num}
 
 -- ---- bytes
 

@@ -1,7 +1,7 @@
--- What the tests of an answer say, and how long its frame is. No contract cites this file. Assumes nothing.
+-- What the tests of an answer say, how long its frame is, and the ways through its reader. No contract cites this file. Assumes nothing.
 use Prim.Native.Nat.{ℕ, _+_, _-_, _*_, _≤_}
 use native.Mathlib.Omega.{arith}
-use mathlib.Core.Path.{_≡_, refl, sym, ap, _∙_}
+use mathlib.Core.Path.{_≡_, sym, _∙_}
 use mathlib.Core.Bool.{Bool, true, false, _&&_, not}
 use mathlib.Core.List.{List, _++_}
 use lib.ListN.{length, drop, length-append}

@@ -1,4 +1,4 @@
--- What a query that fits is known for, and where a frame goes on behind its query and place. No contract cites this file. Assumes nothing.
+-- What a query that fits is known for, the query of a frame from its fields, and where the frame goes on behind its place. No contract cites this file. Assumes nothing.
 use Prim.Native.Nat.{ℕ, _+_, _*_}
 use native.Mathlib.Omega.{arith}
 use mathlib.Core.Path.{_≡_}

@@ -1,11 +1,10 @@
 -- `line_digits::numbers::byte` meets its contract: a byte of the frame is its two characters' digits. Assumes nothing.
-use Prim.Native.Nat.{ℕ, _+_, _*_, _%_, _≤_, _<_}
-use mathlib.Core.Path.{_≡_, sym, _∙_}
-use mathlib.Core.Bool.{true}
+use Prim.Native.Nat.{ℕ, _+_, _*_, _%_, _<_}
+use mathlib.Core.Path.{_≡_}
 use mathlib.Core.List.{List}
 use native.Mathlib.Omega.{arith}
 use lib.ListN.{length, getD}
-use Rattle.paper.specs.Frames.{digit, frameOf, isLine}
+use Rattle.paper.specs.Frames.{digit, frameOf}
 use Rattle.line_digits.specs.FrameBytes.{HasBytes}
 use Rattle.line_digits.proofs.LinesAndFrames.{frame-at, length-frame, sound-odd, sound-at}
 use Rattle.line_digits.proofs.numbers.byte.Statement.{statement}
