@@ -8,7 +8,7 @@ ghost use Rattle.paper.specs.Fields.{head, coordBytes, coordsIn, inSlots, scope
 ghost use Rattle.paper.specs.Fields.{front as Fields·front};
 ghost use Rattle.paper.specs.Orders.{queryIn};
 ghost use Rattle.paper.specs.Lines.{headOk};
-ghost use Rattle.line_digits.specs.FrameBytes.{overlaid, HasBytes};
+ghost use Rattle.line_digits.specs.FrameBytes.{overlaid, HasBytes, Field};
 ghost use Rattle.line_fields.specs.Layout.{laidOut};
 ghost use Rattle.paper.specs.Limits.{longestFrame, mostCoordinates};
 use checks::in_range;
@@ -24,16 +24,37 @@ pub fn kind(line: &[u8]) -> u64
     line_digits::number(line, 0, 1)
 }
 
-// [5.4] [8.10] Whether a line begins with a head of this kind (byte 0), with measure (5) and d (6) in range.
+// [5.4] The table number of a line: bytes 1 to 4.
+pub fn table(line: &[u8]) -> u32
+    requires { ⌜ HasBytes (now line) 5 ⌝ }
+    ensures { λ r. ⌜ Field (now (line .entry)) 1 4 r ⌝ }
+{
+    line_digits::number(line, 1, 4) as u32
+}
+
+// [5.4] The measure of a line: byte 5.
+pub fn measure(line: &[u8]) -> u8
+    requires { ⌜ HasBytes (now line) 6 ⌝ }
+    ensures { λ r. ⌜ Field (now (line .entry)) 5 1 r ⌝ }
+{
+    line_digits::number(line, 5, 1) as u8
+}
+
+// [5.4] The d of a line: byte 6.
+pub fn d(line: &[u8]) -> usize
+    requires { ⌜ HasBytes (now line) 7 ⌝ }
+    ensures { λ r. ⌜ Field (now (line .entry)) 6 1 r ⌝ }
+{
+    line_digits::number(line, 6, 1) as usize
+}
+
+// [5.4] [8.10] Whether a line begins with a head of this kind, with measure and d in range.
 pub fn head_ok(line: &[u8], kind: u8) -> bool
     requires { ⌜ HasBytes (now line) 7 ⌝ }
     ensures { λ r. ⌜ r ≡ headOk kind (frameOf (now (line .entry))) ⌝ }
 {
     if line_digits::number(line, 0, 1) == kind as u64 {
-        return in_range(
-            line_digits::number(line, 5, 1) as u8,
-            line_digits::number(line, 6, 1) as usize,
-        );
+        return in_range(measure(line), d(line));
     }
     false
 }
@@ -48,7 +69,7 @@ pub fn layout_ok(line: &[u8], kind: u8, fixed: usize) -> bool
         return false;
     }
     if head_ok(line, kind) {
-        return size == fixed + 4 * line_digits::number(line, 6, 1) as usize;
+        return size == fixed + 4 * d(line);
     }
     false
 }

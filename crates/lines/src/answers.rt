@@ -96,7 +96,7 @@ fn layout_ok(line: &[u8], kind: u8) -> bool
         return false;
     }
     if line_fields::head_ok(line, kind) {
-        let at = 28 + 4 * line_digits::number(line, 6, 1) as usize;
+        let at = 28 + 4 * line_fields::d(line);
         if n < at + 2 {
             return false;
         }
@@ -128,7 +128,7 @@ fn answer_in(line: &[u8]) -> AnswerRead
     if !layout_ok(line, answer_kind(order)) {
         return no_answer(10);
     }
-    let d = line_digits::number(line, 6, 1) as usize;
+    let d = line_fields::d(line);
     let at = 28 + 4 * d;
     let scope = line_fields::scope_at(line, at - 21);
     let last = line_digits::number(line, at, 1);
@@ -142,8 +142,8 @@ fn answer_in(line: &[u8]) -> AnswerRead
     let probe = line_fields::coords_at(line, 7, d);
     let query = Query {
         order,
-        table: line_digits::number(line, 1, 4) as u32,
-        measure: line_digits::number(line, 5, 1) as u8,
+        table: line_fields::table(line),
+        measure: line_fields::measure(line),
         d,
         probe,
         reach: line_digits::number(line, at - 21, 8),

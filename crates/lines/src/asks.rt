@@ -92,7 +92,7 @@ pub fn ask_in(line: &[u8]) -> AskRead
     if !line_fields::layout_ok(line, ask_kind(order), 29) {
         return no_ask(10);
     }
-    let d = line_digits::number(line, 6, 1) as usize;
+    let d = line_fields::d(line);
     let at = 7 + 4 * d;
     let scope = line_fields::scope_at(line, at);
     let size = line_digits::number(line, at + 21, 1);
@@ -102,8 +102,8 @@ pub fn ask_in(line: &[u8]) -> AskRead
     let probe = line_fields::coords_at(line, 7, d);
     let query = Query {
         order,
-        table: line_digits::number(line, 1, 4) as u32,
-        measure: line_digits::number(line, 5, 1) as u8,
+        table: line_fields::table(line),
+        measure: line_fields::measure(line),
         d,
         probe,
         reach: line_digits::number(line, at, 8),

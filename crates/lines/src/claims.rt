@@ -85,11 +85,11 @@ pub fn claim_in(line: &[u8]) -> ClaimRead
     if !line_fields::layout_ok(line, ClaimLine::KIND, 11) {
         return no_claim(10);
     }
-    let d = line_digits::number(line, 6, 1);
-    let coordinates = line_fields::coords_at(line, 11, d as usize);
+    let d = line_fields::d(line);
+    let coordinates = line_fields::coords_at(line, 11, d);
     let claim = ClaimLine {
-        table: line_digits::number(line, 1, 4) as u32,
-        measure: line_digits::number(line, 5, 1) as u8,
+        table: line_fields::table(line),
+        measure: line_fields::measure(line),
         d: d as u8,
         reference: line_digits::number(line, 7, 4) as u32,
         coordinates,

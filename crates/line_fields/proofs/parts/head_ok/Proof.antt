@@ -9,14 +9,11 @@ use Rattle.line_fields.proofs.parts.head_ok.Tie as tie
 number-requires : tie.Need-number-requires
 number-requires c κs = search needs
 
-number-requires-2 : tie.Need-number-requires-2
-number-requires-2 c κs = search needs
+measure-requires : tie.Need-measure-requires
+measure-requires c κs = search needs
 
-cast-in-range : tie.Need-cast-in-range
-cast-in-range c = search needs
-
-number-requires-3 : tie.Need-number-requires-3
-number-requires-3 c κs = search needs
+d-requires : tie.Need-d-requires
+d-requires c κs = search needs
 
 in-range-requires : tie.Need-in-range-requires
 in-range-requires c κs = search needs
@@ -25,7 +22,7 @@ returns : tie.Need-returns
 unfolding headOk
 returns c =
     c .in-range .ensures
-    ∙ rw (← c .before .before .before .before .number .ensures .value, ← c .before .before .number2 .ensures .value, ← c .before .number3 .ensures .value, eq-eqb _ _ (c .before .before .before .if1 .taken))
+    ∙ rw (← c .before .before .before .before .number .ensures .value, ← c .before .before .measure .ensures .value, ← c .before .d .ensures .value, eq-eqb _ _ (c .before .before .before .if1 .taken))
 
 returns-2 : tie.Need-returns-2
 unfolding headOk
@@ -33,4 +30,4 @@ returns-2 c = rw (← c .before .number .ensures .value, ne-eqb _ _ (c .if1 .lef
 
 pub head-ok-spec : {M : Type 1} → statement M
 head-ok-spec =
-    tie.close (tie.spec number-requires number-requires-2 cast-in-range number-requires-3 in-range-requires returns returns-2)
+    tie.close (tie.spec number-requires measure-requires d-requires in-range-requires returns returns-2)

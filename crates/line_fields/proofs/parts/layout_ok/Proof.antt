@@ -21,8 +21,8 @@ returns c =
 head-ok-requires : tie.Need-head-ok-requires
 head-ok-requires c κs = search needs
 
-number-requires : tie.Need-number-requires
-number-requires c κs = search needs
+d-requires : tie.Need-d-requires
+d-requires c κs = search needs
 
 mul-result : tie.Need-mul-result
 mul-result c = search needs
@@ -32,7 +32,7 @@ add-result c = search needs
 
 returns-2 : tie.Need-returns-2
 unfolding laidOut
-returns-2 c = rw (← c .before .before .head-ok .ensures, c .before .if2 .taken, ← c .number .ensures .value, ← c .before .before .before .before .size .ensures)
+returns-2 c = rw (← c .before .before .head-ok .ensures, c .before .if2 .taken, ← c .d .ensures .value, ← c .before .before .before .before .size .ensures)
 
 returns-3 : tie.Need-returns-3
 unfolding laidOut
@@ -45,7 +45,7 @@ layout-ok-spec =
     size-requires
     returns
     head-ok-requires
-    number-requires
+    d-requires
     mul-result
     add-result
     returns-2

@@ -34,8 +34,8 @@ returns c =
     let layout-ok = c .before .before .layout-ok in
     c .no-answer .ensures ∙ unlaid-answer _ pre _ (layout-ok .ensures ∙ rw (answer-kind .ensures, answer-order .ensures, kind .ensures)) (c .before .if1 .taken)
 
-number-requires : tie.Need-number-requires
-number-requires c κs = (laid-bytes _ _ _ (c .before .before .before .before .before .before .pre) _ (c .before .layout-ok .ensures) (c .if1 .left) _ refl _ (omega arith), omega arith)
+d-requires : tie.Need-d-requires
+d-requires c κs = laid-bytes _ _ _ (c .before .before .before .before .before .before .pre) _ (c .before .layout-ok .ensures) (c .if1 .left) _ refl _ (omega arith)
 
 mul-at : tie.Need-mul-at
 mul-at c = search needs
@@ -51,27 +51,27 @@ scope-at-requires c κs =
     let pre = c .before .before .before .before .before .before .before .pre in
     let layout-ok = c .before .before .layout-ok in
     let if1 = c .before .if1 in
-    let number = c .number in
-    laid-bytes _ _ _ pre _ (layout-ok .ensures) (if1 .left) _ (number .ensures .value) _ (omega arith)
+    let d = c .d in
+    laid-bytes _ _ _ pre _ (layout-ok .ensures) (if1 .left) _ (d .ensures .value) _ (omega arith)
 
-number-requires-2 : tie.Need-number-requires-2
-number-requires-2 c κs =
+number-requires : tie.Need-number-requires
+number-requires c κs =
     let pre = c .before .before .before .before .before .before .before .before .pre in
     let layout-ok = c .before .before .before .layout-ok in
     let if1 = c .before .before .if1 in
-    let number = c .before .number in
-    (laid-bytes _ _ _ pre _ (layout-ok .ensures) (if1 .left) _ (number .ensures .value) _ (omega arith), omega arith)
+    let d = c .before .d in
+    (laid-bytes _ _ _ pre _ (layout-ok .ensures) (if1 .left) _ (d .ensures .value) _ (omega arith), omega arith)
 
 add-number : tie.Need-add-number
 add-number c = search needs
 
-number-requires-3 : tie.Need-number-requires-3
-number-requires-3 c κs =
+number-requires-2 : tie.Need-number-requires-2
+number-requires-2 c κs =
     let pre = c .before .before .before .before .before .before .before .before .before .pre in
     let layout-ok = c .before .before .before .before .layout-ok in
     let if1 = c .before .before .before .if1 in
-    let number = c .before .before .number in
-    (laid-bytes _ _ _ pre _ (layout-ok .ensures) (if1 .left) _ (number .ensures .value) _ (omega arith), omega arith)
+    let d = c .before .before .d in
+    (laid-bytes _ _ _ pre _ (layout-ok .ensures) (if1 .left) _ (d .ensures .value) _ (omega arith), omega arith)
 
 answer-ranges-requires : tie.Need-answer-ranges-requires
 answer-ranges-requires c κs = search needs
@@ -87,14 +87,14 @@ returns-2 c =
     let answer-kind = c .before .before .before .before .before .before .before .before .before .answer-kind in
     let layout-ok = c .before .before .before .before .before .before .before .before .layout-ok in
     let if1 = c .before .before .before .before .before .before .before .if1 in
-    let number = c .before .before .before .before .before .before .number in
+    let d = c .before .before .before .before .before .before .d in
     let scope-at = c .before .before .before .before .before .scope-at in
-    let number2 = c .before .before .before .before .number2 in
-    let number3 = c .before .before .before .number3 in
+    let number = c .before .before .before .before .number in
+    let number2 = c .before .before .before .number2 in
     let answer-ranges = c .before .before .answer-ranges in
     c .no-answer2 .ensures
-    ∙ answer-out _ pre _ (layout-ok .ensures ∙ rw (answer-kind .ensures, answer-order .ensures, kind .ensures)) (if1 .left) _ (number .ensures .value) _ refl _ (number3 .ensures .value)
-    _ (scope-at .ensures) _ (number2 .ensures .value) _ (answer-ranges .ensures) (c .before .if2 .taken)
+    ∙ answer-out _ pre _ (layout-ok .ensures ∙ rw (answer-kind .ensures, answer-order .ensures, kind .ensures)) (if1 .left) _ (d .ensures .value) _ refl _ (number2 .ensures .value)
+    _ (scope-at .ensures) _ (number .ensures .value) _ (answer-ranges .ensures) (c .before .if2 .taken)
 
 add-numbers-ok : tie.Need-add-numbers-ok
 add-numbers-ok c = search needs
@@ -107,9 +107,9 @@ numbers-ok-requires c κs =
     let answer-kind = c .before .before .before .before .before .before .before .before .answer-kind in
     let layout-ok = c .before .before .before .before .before .before .before .layout-ok in
     let if1 = c .before .before .before .before .before .before .if1 in
-    let number = c .before .before .before .before .before .number in
-    let number3 = c .before .before .number3 in
-    answer-bytes _ pre _ (layout-ok .ensures ∙ rw (answer-kind .ensures, answer-order .ensures, kind .ensures)) (if1 .left) _ (number .ensures .value) _ refl _ (number3 .ensures .value) _ (omega arith)
+    let d = c .before .before .before .before .before .d in
+    let number2 = c .before .before .number2 in
+    answer-bytes _ pre _ (layout-ok .ensures ∙ rw (answer-kind .ensures, answer-order .ensures, kind .ensures)) (if1 .left) _ (d .ensures .value) _ refl _ (number2 .ensures .value) _ (omega arith)
 
 no-answer-requires-3 : tie.Need-no-answer-requires-3
 no-answer-requires-3 c κs = search needs
@@ -122,57 +122,51 @@ returns-3 c =
     let answer-kind = c .before .before .before .before .before .before .before .before .before .before .before .answer-kind in
     let layout-ok = c .before .before .before .before .before .before .before .before .before .before .layout-ok in
     let if1 = c .before .before .before .before .before .before .before .before .before .if1 in
-    let number = c .before .before .before .before .before .before .before .before .number in
+    let d = c .before .before .before .before .before .before .before .before .d in
     let scope-at = c .before .before .before .before .before .before .before .scope-at in
-    let number2 = c .before .before .before .before .before .before .number2 in
-    let number3 = c .before .before .before .before .before .number3 in
+    let number = c .before .before .before .before .before .before .number in
+    let number2 = c .before .before .before .before .before .number2 in
     let answer-ranges = c .before .before .before .before .answer-ranges in
     let if2 = c .before .before .before .if2 in
     let numbers-ok = c .before .before .numbers-ok in
     c .no-answer3 .ensures
-    ∙ items-out _ pre _ (layout-ok .ensures ∙ rw (answer-kind .ensures, answer-order .ensures, kind .ensures)) (if1 .left) _ (number .ensures .value) _ refl _ (number3 .ensures .value)
-    _ (scope-at .ensures) _ (number2 .ensures .value) _ (answer-ranges .ensures) (if2 .left) _ (numbers-ok .ensures) (c .before .if3 .taken)
+    ∙ items-out _ pre _ (layout-ok .ensures ∙ rw (answer-kind .ensures, answer-order .ensures, kind .ensures)) (if1 .left) _ (d .ensures .value) _ refl _ (number2 .ensures .value)
+    _ (scope-at .ensures) _ (number .ensures .value) _ (answer-ranges .ensures) (if2 .left) _ (numbers-ok .ensures) (c .before .if3 .taken)
 
 coords-at-requires : tie.Need-coords-at-requires
 coords-at-requires c κs =
     let pre = c .before .before .before .before .before .before .before .before .before .before .before .before .before .before .pre in
     let layout-ok = c .before .before .before .before .before .before .before .before .before .layout-ok in
     let if1 = c .before .before .before .before .before .before .before .before .if1 in
-    let number = c .before .before .before .before .before .before .before .number in
-    (laid-bytes _ _ _ pre _ (layout-ok .ensures) (if1 .left) _ (number .ensures .value) _ (omega arith), laid-narrow _ _ _ pre _ (layout-ok .ensures) (if1 .left) _ (number .ensures .value))
+    let d = c .before .before .before .before .before .before .before .d in
+    (laid-bytes _ _ _ pre _ (layout-ok .ensures) (if1 .left) _ (d .ensures .value) _ (omega arith), laid-narrow _ _ _ pre _ (layout-ok .ensures) (if1 .left) _ (d .ensures .value))
 
-number-requires-4 : tie.Need-number-requires-4
-number-requires-4 c κs =
+table-requires : tie.Need-table-requires
+table-requires c κs =
     let pre = c .before .before .before .before .before .before .before .before .before .before .before .before .before .before .before .pre in
     let layout-ok = c .before .before .before .before .before .before .before .before .before .before .layout-ok in
     let if1 = c .before .before .before .before .before .before .before .before .before .if1 in
-    let number = c .before .before .before .before .before .before .before .before .number in
-    (laid-bytes _ _ _ pre _ (layout-ok .ensures) (if1 .left) _ (number .ensures .value) _ (omega arith), omega arith)
+    let d = c .before .before .before .before .before .before .before .before .d in
+    laid-bytes _ _ _ pre _ (layout-ok .ensures) (if1 .left) _ (d .ensures .value) _ (omega arith)
 
-cast-t18 : tie.Need-cast-t18
-cast-t18 c = search needs
-
-number-requires-5 : tie.Need-number-requires-5
-number-requires-5 c κs =
+measure-requires : tie.Need-measure-requires
+measure-requires c κs =
     let pre = c .before .before .before .before .before .before .before .before .before .before .before .before .before .before .before .before .pre in
     let layout-ok = c .before .before .before .before .before .before .before .before .before .before .before .layout-ok in
     let if1 = c .before .before .before .before .before .before .before .before .before .before .if1 in
-    let number = c .before .before .before .before .before .before .before .before .before .number in
-    (laid-bytes _ _ _ pre _ (layout-ok .ensures) (if1 .left) _ (number .ensures .value) _ (omega arith), omega arith)
-
-cast-t14 : tie.Need-cast-t14
-cast-t14 c = search needs
+    let d = c .before .before .before .before .before .before .before .before .before .d in
+    laid-bytes _ _ _ pre _ (layout-ok .ensures) (if1 .left) _ (d .ensures .value) _ (omega arith)
 
 sub-number : tie.Need-sub-number
 sub-number c = search needs
 
-number-requires-6 : tie.Need-number-requires-6
-number-requires-6 c κs =
+number-requires-3 : tie.Need-number-requires-3
+number-requires-3 c κs =
     let pre = c .before .before .before .before .before .before .before .before .before .before .before .before .before .before .before .before .before .pre in
     let layout-ok = c .before .before .before .before .before .before .before .before .before .before .before .before .layout-ok in
     let if1 = c .before .before .before .before .before .before .before .before .before .before .before .if1 in
-    let number = c .before .before .before .before .before .before .before .before .before .before .number in
-    (laid-bytes _ _ _ pre _ (layout-ok .ensures) (if1 .left) _ (number .ensures .value) _ (omega arith), omega arith)
+    let d = c .before .before .before .before .before .before .before .before .before .before .d in
+    (laid-bytes _ _ _ pre _ (layout-ok .ensures) (if1 .left) _ (d .ensures .value) _ (omega arith), omega arith)
 
 add-items-at : tie.Need-add-items-at
 add-items-at c = search needs
@@ -185,18 +179,18 @@ items-at-requires c κs =
     let answer-kind = c .before .before .before .before .before .before .before .before .before .before .before .before .before .before .answer-kind in
     let layout-ok = c .before .before .before .before .before .before .before .before .before .before .before .before .before .layout-ok in
     let if1 = c .before .before .before .before .before .before .before .before .before .before .before .before .if1 in
-    let number = c .before .before .before .before .before .before .before .before .before .before .before .number in
-    let number3 = c .before .before .before .before .before .before .before .before .number3 in
+    let d = c .before .before .before .before .before .before .before .before .before .before .before .d in
+    let number2 = c .before .before .before .before .before .before .before .before .number2 in
     let answer-ranges = c .before .before .before .before .before .before .before .answer-ranges in
     let if2 = c .before .before .before .before .before .before .if2 in
     let few = few-items _ _ _ (sym (answer-ranges .ensures) ∙ not-false _ (if2 .left)) in
-    (answer-bytes _ pre _ (layout-ok .ensures ∙ rw (answer-kind .ensures, answer-order .ensures, kind .ensures)) (if1 .left) _ (number .ensures .value) _ refl _ (number3 .ensures .value) _ (omega arith), few .1)
+    (answer-bytes _ pre _ (layout-ok .ensures ∙ rw (answer-kind .ensures, answer-order .ensures, kind .ensures)) (if1 .left) _ (d .ensures .value) _ refl _ (number2 .ensures .value) _ (omega arith), few .1)
 
-cast-t14-2 : tie.Need-cast-t14-2
-cast-t14-2 c = search needs
+cast-t14 : tie.Need-cast-t14
+cast-t14 c = search needs
 
-cast-t21 : tie.Need-cast-t21
-cast-t21 c = search needs
+cast-t19 : tie.Need-cast-t19
+cast-t19 c = search needs
 
 returns-4 : tie.Need-returns-4
 returns-4 c =
@@ -206,22 +200,22 @@ returns-4 c =
     let answer-kind = c .before .before .before .before .before .before .before .before .before .before .before .before .before .before .before .answer-kind in
     let layout-ok = c .before .before .before .before .before .before .before .before .before .before .before .before .before .before .layout-ok in
     let if1 = c .before .before .before .before .before .before .before .before .before .before .before .before .before .if1 in
-    let number = c .before .before .before .before .before .before .before .before .before .before .before .before .number in
+    let d = c .before .before .before .before .before .before .before .before .before .before .before .before .d in
     let scope-at = c .before .before .before .before .before .before .before .before .before .before .before .scope-at in
-    let number2 = c .before .before .before .before .before .before .before .before .before .before .number2 in
-    let number3 = c .before .before .before .before .before .before .before .before .before .number3 in
+    let number = c .before .before .before .before .before .before .before .before .before .before .number in
+    let number2 = c .before .before .before .before .before .before .before .before .before .number2 in
     let answer-ranges = c .before .before .before .before .before .before .before .before .answer-ranges in
     let if2 = c .before .before .before .before .before .before .before .if2 in
     let numbers-ok = c .before .before .before .before .before .before .numbers-ok in
     let if3 = c .before .before .before .before .before .if3 in
     let coords-at = c .before .before .before .before .coords-at in
-    let number4 = c .before .before .before .number4 in
-    let number5 = c .before .before .number5 in
-    let number6 = c .before .number6 in
-    let reach : 28 + 4 * number .result - 21 ≡ 7 + 4 * number .result = omega arith in
-    answer-read _ pre _ (layout-ok .ensures ∙ rw (answer-kind .ensures, answer-order .ensures, kind .ensures)) (if1 .left) _ (number .ensures .value) _ refl _ (number3 .ensures .value)
-    _ (scope-at .ensures) _ (number2 .ensures .value) _ (answer-ranges .ensures) (if2 .left) _ (numbers-ok .ensures) (if3 .left) _
-    (query-value _ _ _ _ _ _ _ _ (number .ensures .value) reach (number4 .ensures .value) (number5 .ensures .value) (coords-at .ensures) (number6 .ensures .value)
+    let table = c .before .before .before .table in
+    let measure = c .before .before .measure in
+    let number3 = c .before .number3 in
+    let reach : 28 + 4 * d .result - 21 ≡ 7 + 4 * d .result = omega arith in
+    answer-read _ pre _ (layout-ok .ensures ∙ rw (answer-kind .ensures, answer-order .ensures, kind .ensures)) (if1 .left) _ (d .ensures .value) _ refl _ (number2 .ensures .value)
+    _ (scope-at .ensures) _ (number .ensures .value) _ (answer-ranges .ensures) (if2 .left) _ (numbers-ok .ensures) (if3 .left) _
+    (query-value _ _ _ _ _ _ _ _ (d .ensures .value) reach (table .ensures .value) (measure .ensures .value) (coords-at .ensures) (number3 .ensures .value)
     ∙ rw (answer-order .ensures, kind .ensures)) _ (c .items-at .ensures)
 
 pub answer-in-spec : {M : Type 1} → statement M
@@ -234,14 +228,14 @@ answer-in-spec =
     layout-ok-requires
     no-answer-requires
     returns
-    number-requires
+    d-requires
     mul-at
     add-at
     sub-scope-at
     scope-at-requires
-    number-requires-2
+    number-requires
     add-number
-    number-requires-3
+    number-requires-2
     answer-ranges-requires
     no-answer-requires-2
     returns-2
@@ -250,14 +244,12 @@ answer-in-spec =
     no-answer-requires-3
     returns-3
     coords-at-requires
-    number-requires-4
-    cast-t18
-    number-requires-5
-    cast-t14
+    table-requires
+    measure-requires
     sub-number
-    number-requires-6
+    number-requires-3
     add-items-at
     items-at-requires
-    cast-t14-2
-    cast-t21
+    cast-t14
+    cast-t19
     returns-4)

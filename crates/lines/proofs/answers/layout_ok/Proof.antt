@@ -23,8 +23,8 @@ returns c =
 head-ok-requires : tie.Need-head-ok-requires
 head-ok-requires c κs = search needs
 
-number-requires : tie.Need-number-requires
-number-requires c κs = search needs
+d-requires : tie.Need-d-requires
+d-requires c κs = search needs
 
 mul-at : tie.Need-mul-at
 mul-at c = search needs
@@ -46,8 +46,8 @@ add-result c = search needs
 add-number : tie.Need-add-number
 add-number c = search needs
 
-number-requires-2 : tie.Need-number-requires-2
-number-requires-2 c κs = search needs
+number-requires : tie.Need-number-requires
+number-requires c κs = search needs
 
 mul-result : tie.Need-mul-result
 mul-result c = search needs
@@ -59,7 +59,7 @@ returns-3 : tie.Need-returns-3
 returns-3 c =
     let head-ok = c .before .before .before .before .head-ok in
     let if2 = c .before .before .before .if2 in
-    answer-laid _ (frameOf (c .before .before .before .before .before .before .before .before .args .line .now)) _ _ _ (sym (head-ok .ensures) ∙ if2 .taken) (c .before .before .before .before .before .before .size .ensures) (c .before .before .number .ensures .value) (c .number2 .ensures .value)
+    answer-laid _ (frameOf (c .before .before .before .before .before .before .before .before .args .line .now)) _ _ _ (sym (head-ok .ensures) ∙ if2 .taken) (c .before .before .before .before .before .before .size .ensures) (c .before .before .d .ensures .value) (c .number .ensures .value)
 
 returns-4 : tie.Need-returns-4
 unfolding laidOut
@@ -72,14 +72,14 @@ layout-ok-spec =
     size-requires
     returns
     head-ok-requires
-    number-requires
+    d-requires
     mul-at
     add-at
     add-if3
     returns-2
     add-result
     add-number
-    number-requires-2
+    number-requires
     mul-result
     add-result-2
     returns-3

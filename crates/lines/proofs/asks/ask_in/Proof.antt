@@ -32,8 +32,8 @@ returns c =
     let layout-ok = c .before .before .layout-ok in
     c .no-ask .ensures ∙ unlaid-ask _ pre _ (layout-ok .ensures ∙ rw (ask-kind .ensures, ask-order .ensures, kind .ensures)) (c .before .if1 .taken)
 
-number-requires : tie.Need-number-requires
-number-requires c κs = (laid-bytes _ _ _ (c .before .before .before .before .before .before .pre) _ (c .before .layout-ok .ensures) (c .if1 .left) _ refl _ (omega arith), omega arith)
+d-requires : tie.Need-d-requires
+d-requires c κs = laid-bytes _ _ _ (c .before .before .before .before .before .before .pre) _ (c .before .layout-ok .ensures) (c .if1 .left) _ refl _ (omega arith)
 
 mul-at : tie.Need-mul-at
 mul-at c = search needs
@@ -46,19 +46,19 @@ scope-at-requires c κs =
     let pre = c .before .before .before .before .before .before .before .pre in
     let layout-ok = c .before .before .layout-ok in
     let if1 = c .before .if1 in
-    let number = c .number in
-    laid-bytes _ _ _ pre _ (layout-ok .ensures) (if1 .left) _ (number .ensures .value) _ (omega arith)
+    let d = c .d in
+    laid-bytes _ _ _ pre _ (layout-ok .ensures) (if1 .left) _ (d .ensures .value) _ (omega arith)
 
 add-number : tie.Need-add-number
 add-number c = search needs
 
-number-requires-2 : tie.Need-number-requires-2
-number-requires-2 c κs =
+number-requires : tie.Need-number-requires
+number-requires c κs =
     let pre = c .before .before .before .before .before .before .before .before .pre in
     let layout-ok = c .before .before .before .layout-ok in
     let if1 = c .before .before .if1 in
-    let number = c .before .number in
-    (laid-bytes _ _ _ pre _ (layout-ok .ensures) (if1 .left) _ (number .ensures .value) _ (omega arith), omega arith)
+    let d = c .before .d in
+    (laid-bytes _ _ _ pre _ (layout-ok .ensures) (if1 .left) _ (d .ensures .value) _ (omega arith), omega arith)
 
 ask-ranges-requires : tie.Need-ask-ranges-requires
 ask-ranges-requires c κs = search needs
@@ -74,52 +74,48 @@ returns-2 c =
     let ask-kind = c .before .before .before .before .before .before .before .before .ask-kind in
     let layout-ok = c .before .before .before .before .before .before .before .layout-ok in
     let if1 = c .before .before .before .before .before .before .if1 in
-    let number = c .before .before .before .before .before .number in
+    let d = c .before .before .before .before .before .d in
     let scope-at = c .before .before .before .before .scope-at in
-    let number2 = c .before .before .before .number2 in
+    let number = c .before .before .before .number in
     let ask-ranges = c .before .before .ask-ranges in
-    c .no-ask2 .ensures ∙ ask-out _ pre _ (layout-ok .ensures ∙ rw (ask-kind .ensures, ask-order .ensures, kind .ensures)) (if1 .left) _ (number .ensures .value) _ refl _ (scope-at .ensures) _ (number2 .ensures .value) _ (ask-ranges .ensures) (c .before .if2 .taken)
+    c .no-ask2 .ensures
+    ∙ ask-out _ pre _ (layout-ok .ensures ∙ rw (ask-kind .ensures, ask-order .ensures, kind .ensures)) (if1 .left) _ (d .ensures .value) _ refl
+    _ (scope-at .ensures) _ (number .ensures .value) _ (ask-ranges .ensures) (c .before .if2 .taken)
 
 coords-at-requires : tie.Need-coords-at-requires
 coords-at-requires c κs =
     let pre = c .before .before .before .before .before .before .before .before .before .before .before .pre in
     let layout-ok = c .before .before .before .before .before .before .layout-ok in
     let if1 = c .before .before .before .before .before .if1 in
-    let number = c .before .before .before .before .number in
-    (laid-bytes _ _ _ pre _ (layout-ok .ensures) (if1 .left) _ (number .ensures .value) _ (omega arith), laid-narrow _ _ _ pre _ (layout-ok .ensures) (if1 .left) _ (number .ensures .value))
+    let d = c .before .before .before .before .d in
+    (laid-bytes _ _ _ pre _ (layout-ok .ensures) (if1 .left) _ (d .ensures .value) _ (omega arith), laid-narrow _ _ _ pre _ (layout-ok .ensures) (if1 .left) _ (d .ensures .value))
 
-number-requires-3 : tie.Need-number-requires-3
-number-requires-3 c κs =
+table-requires : tie.Need-table-requires
+table-requires c κs =
     let pre = c .before .before .before .before .before .before .before .before .before .before .before .before .pre in
     let layout-ok = c .before .before .before .before .before .before .before .layout-ok in
     let if1 = c .before .before .before .before .before .before .if1 in
-    let number = c .before .before .before .before .before .number in
-    (laid-bytes _ _ _ pre _ (layout-ok .ensures) (if1 .left) _ (number .ensures .value) _ (omega arith), omega arith)
+    let d = c .before .before .before .before .before .d in
+    laid-bytes _ _ _ pre _ (layout-ok .ensures) (if1 .left) _ (d .ensures .value) _ (omega arith)
 
-cast-t15 : tie.Need-cast-t15
-cast-t15 c = search needs
-
-number-requires-4 : tie.Need-number-requires-4
-number-requires-4 c κs =
+measure-requires : tie.Need-measure-requires
+measure-requires c κs =
     let pre = c .before .before .before .before .before .before .before .before .before .before .before .before .before .pre in
     let layout-ok = c .before .before .before .before .before .before .before .before .layout-ok in
     let if1 = c .before .before .before .before .before .before .before .if1 in
-    let number = c .before .before .before .before .before .before .number in
-    (laid-bytes _ _ _ pre _ (layout-ok .ensures) (if1 .left) _ (number .ensures .value) _ (omega arith), omega arith)
+    let d = c .before .before .before .before .before .before .d in
+    laid-bytes _ _ _ pre _ (layout-ok .ensures) (if1 .left) _ (d .ensures .value) _ (omega arith)
 
-cast-t12 : tie.Need-cast-t12
-cast-t12 c = search needs
-
-number-requires-5 : tie.Need-number-requires-5
-number-requires-5 c κs =
+number-requires-2 : tie.Need-number-requires-2
+number-requires-2 c κs =
     let pre = c .before .before .before .before .before .before .before .before .before .before .before .before .before .before .pre in
     let layout-ok = c .before .before .before .before .before .before .before .before .before .layout-ok in
     let if1 = c .before .before .before .before .before .before .before .before .if1 in
-    let number = c .before .before .before .before .before .before .before .number in
-    (laid-bytes _ _ _ pre _ (layout-ok .ensures) (if1 .left) _ (number .ensures .value) _ (omega arith), omega arith)
+    let d = c .before .before .before .before .before .before .before .d in
+    (laid-bytes _ _ _ pre _ (layout-ok .ensures) (if1 .left) _ (d .ensures .value) _ (omega arith), omega arith)
 
-cast-t12-2 : tie.Need-cast-t12-2
-cast-t12-2 c = search needs
+cast-t12 : tie.Need-cast-t12
+cast-t12 c = search needs
 
 returns-3 : tie.Need-returns-3
 returns-3 c =
@@ -129,17 +125,18 @@ returns-3 c =
     let ask-kind = c .before .before .before .before .before .before .before .before .before .before .before .ask-kind in
     let layout-ok = c .before .before .before .before .before .before .before .before .before .before .layout-ok in
     let if1 = c .before .before .before .before .before .before .before .before .before .if1 in
-    let number = c .before .before .before .before .before .before .before .before .number in
+    let d = c .before .before .before .before .before .before .before .before .d in
     let scope-at = c .before .before .before .before .before .before .before .scope-at in
-    let number2 = c .before .before .before .before .before .before .number2 in
+    let number = c .before .before .before .before .before .before .number in
     let ask-ranges = c .before .before .before .before .before .ask-ranges in
     let if2 = c .before .before .before .before .if2 in
     let coords-at = c .before .before .before .coords-at in
-    let number3 = c .before .before .number3 in
-    let number4 = c .before .number4 in
-    let number5 = c .number5 in
-    ask-read _ pre _ (layout-ok .ensures ∙ rw (ask-kind .ensures, ask-order .ensures, kind .ensures)) (if1 .left) _ (number .ensures .value) _ refl _ (scope-at .ensures) _ (number2 .ensures .value) _ (ask-ranges .ensures) (if2 .left) _
-    (query-value _ _ _ _ _ _ _ _ (number .ensures .value) refl (number3 .ensures .value) (number4 .ensures .value) (coords-at .ensures) (number5 .ensures .value)
+    let table = c .before .before .table in
+    let measure = c .before .measure in
+    let number2 = c .number2 in
+    ask-read _ pre _ (layout-ok .ensures ∙ rw (ask-kind .ensures, ask-order .ensures, kind .ensures)) (if1 .left) _ (d .ensures .value) _ refl
+    _ (scope-at .ensures) _ (number .ensures .value) _ (ask-ranges .ensures) (if2 .left) _
+    (query-value _ _ _ _ _ _ _ _ (d .ensures .value) refl (table .ensures .value) (measure .ensures .value) (coords-at .ensures) (number2 .ensures .value)
     ∙ rw (ask-order .ensures, kind .ensures))
 
 pub ask-in-spec : {M : Type 1} → statement M
@@ -152,20 +149,18 @@ ask-in-spec =
     layout-ok-requires
     no-ask-requires
     returns
-    number-requires
+    d-requires
     mul-at
     add-at
     scope-at-requires
     add-number
-    number-requires-2
+    number-requires
     ask-ranges-requires
     no-ask-requires-2
     returns-2
     coords-at-requires
-    number-requires-3
-    cast-t15
-    number-requires-4
+    table-requires
+    measure-requires
+    number-requires-2
     cast-t12
-    number-requires-5
-    cast-t12-2
     returns-3)

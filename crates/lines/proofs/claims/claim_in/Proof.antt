@@ -17,47 +17,52 @@ no-claim-requires c κs = search needs
 returns : tie.Need-returns
 returns c = c .no-claim .ensures ∙ unlaid-claim _ (c .before .before .before .before .pre) _ (c .before .before .layout-ok .ensures) (c .before .if1 .taken)
 
-number-requires : tie.Need-number-requires
-number-requires c κs = (laid-bytes _ _ _ (c .before .before .before .pre) _ (c .before .layout-ok .ensures) (c .if1 .left) _ refl _ (omega arith), omega arith)
+d-requires : tie.Need-d-requires
+d-requires c κs = laid-bytes _ _ _ (c .before .before .before .pre) _ (c .before .layout-ok .ensures) (c .if1 .left) _ refl _ (omega arith)
 
 coords-at-requires : tie.Need-coords-at-requires
-coords-at-requires c κs = (
-  laid-bytes _ _ _ (c .before .before .before .before .pre) _ (c .before .before .layout-ok .ensures) (c .before .if1 .left) _ (c .number .ensures .value) _ (omega arith),
-  laid-narrow _ _ _ (c .before .before .before .before .pre) _ (c .before .before .layout-ok .ensures) (c .before .if1 .left) _ (c .number .ensures .value),
-)
+coords-at-requires c κs =
+    let pre = c .before .before .before .before .pre in
+    let layout-ok = c .before .before .layout-ok in
+    let if1 = c .before .if1 in
+    let d = c .d in
+    (laid-bytes _ _ _ pre _ (layout-ok .ensures) (if1 .left) _ (d .ensures .value) _ (omega arith), laid-narrow _ _ _ pre _ (layout-ok .ensures) (if1 .left) _ (d .ensures .value))
 
-number-requires-2 : tie.Need-number-requires-2
-number-requires-2 c κs =
+table-requires : tie.Need-table-requires
+table-requires c κs =
     let pre = c .before .before .before .before .before .pre in
-    (laid-bytes _ _ _ pre _ (c .before .before .before .layout-ok .ensures) (c .before .before .if1 .left) _ (c .before .number .ensures .value) _ (omega arith), omega arith)
+    let layout-ok = c .before .before .before .layout-ok in
+    let if1 = c .before .before .if1 in
+    let d = c .before .d in
+    laid-bytes _ _ _ pre _ (layout-ok .ensures) (if1 .left) _ (d .ensures .value) _ (omega arith)
+
+measure-requires : tie.Need-measure-requires
+measure-requires c κs =
+    let pre = c .before .before .before .before .before .before .pre in
+    let layout-ok = c .before .before .before .before .layout-ok in
+    let if1 = c .before .before .before .if1 in
+    let d = c .before .before .d in
+    laid-bytes _ _ _ pre _ (layout-ok .ensures) (if1 .left) _ (d .ensures .value) _ (omega arith)
 
 cast-t9 : tie.Need-cast-t9
 cast-t9 c = search needs
 
-number-requires-3 : tie.Need-number-requires-3
-number-requires-3 c κs =
-    let pre = c .before .before .before .before .before .before .pre in
-    (laid-bytes _ _ _ pre _ (c .before .before .before .before .layout-ok .ensures) (c .before .before .before .if1 .left) _ (c .before .before .number .ensures .value) _ (omega arith), omega arith)
+number-requires : tie.Need-number-requires
+number-requires c κs =
+    let pre = c .before .before .before .before .before .before .before .pre in
+    let layout-ok = c .before .before .before .before .before .layout-ok in
+    let if1 = c .before .before .before .before .if1 in
+    let d = c .before .before .before .d in
+    (laid-bytes _ _ _ pre _ (layout-ok .ensures) (if1 .left) _ (d .ensures .value) _ (omega arith), omega arith)
 
 cast-t11 : tie.Need-cast-t11
 cast-t11 c = search needs
-
-cast-t12 : tie.Need-cast-t12
-cast-t12 c = search needs
-
-number-requires-4 : tie.Need-number-requires-4
-number-requires-4 c κs =
-    let pre = c .before .before .before .before .before .before .before .pre in
-    (laid-bytes _ _ _ pre _ (c .before .before .before .before .before .layout-ok .ensures) (c .before .before .before .before .if1 .left) _ (c .before .before .before .number .ensures .value) _ (omega arith), omega arith)
-
-cast-t14 : tie.Need-cast-t14
-cast-t14 c = search needs
 
 returns-2 : tie.Need-returns-2
 unfolding claimAt
 returns-2 c =
     claim-read _ (c .before .before .before .before .before .before .before .before .pre) _ (c .before .before .before .before .before .before .layout-ok .ensures) (c .before .before .before .before .before .if1 .left) _
-    (rw (c .before .before .before .coords-at .ensures, c .before .before .number2 .ensures .value, c .before .number3 .ensures .value, c .before .before .before .before .number .ensures .value, c .number4 .ensures .value))
+    (rw (c .before .before .before .coords-at .ensures, c .before .before .table .ensures .value, c .before .measure .ensures .value, c .before .before .before .before .d .ensures .value, c .number .ensures .value))
 
 pub claim-in-spec : {M : Type 1} → statement M
 claim-in-spec =
@@ -66,13 +71,11 @@ claim-in-spec =
     layout-ok-requires
     no-claim-requires
     returns
-    number-requires
+    d-requires
     coords-at-requires
-    number-requires-2
+    table-requires
+    measure-requires
     cast-t9
-    number-requires-3
+    number-requires
     cast-t11
-    cast-t12
-    number-requires-4
-    cast-t14
     returns-2)
