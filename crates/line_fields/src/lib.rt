@@ -9,7 +9,6 @@ pub use items::numbers_ok;
 pub use items::put_items;
 pub use parts::coords_at;
 pub use parts::d;
-pub use parts::head_ok;
 pub use parts::kind;
 pub use parts::layout_ok;
 pub use parts::measure;

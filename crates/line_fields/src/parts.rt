@@ -1,7 +1,7 @@
 // The head, coordinates, the scope, and what an ask and an answer begin with.
 ghost use mathlib.Core.Path.{_≡_};
 ghost use mathlib.Core.Bool.{true};
-ghost use Prim.Native.Nat.{_+_, _*_, _≤_};
+ghost use Prim.Native.Nat.{_+_, _*_, _≤_, _<_};
 ghost use lib.ListN.{length, drop};
 ghost use Rattle.paper.specs.Frames.{num, frameOf, isLine};
 ghost use Rattle.paper.specs.Fields.{head, coordBytes, coordsIn, inSlots, scopeBytes, scopeIn, scopeOk};
@@ -10,7 +10,7 @@ ghost use Rattle.paper.specs.Orders.{queryIn};
 ghost use Rattle.paper.specs.Lines.{headOk};
 ghost use Rattle.line_digits.specs.FrameBytes.{overlaid, HasBytes, Field};
 ghost use Rattle.line_fields.specs.Layout.{laidOut};
-ghost use Rattle.paper.specs.Limits.{longestFrame, mostCoordinates};
+ghost use Rattle.paper.specs.Limits.{mostCoordinates};
 use checks::in_range;
 use paper::limits::MOST_COORDINATES;
 use paper::lines::Scope;
@@ -49,7 +49,7 @@ pub fn d(line: &[u8]) -> usize
 }
 
 // [5.4] [8.10] Whether a line begins with a head of this kind, with measure and d in range.
-pub fn head_ok(line: &[u8], kind: u8) -> bool
+fn head_ok(line: &[u8], kind: u8) -> bool
     requires { ⌜ HasBytes (now line) 7 ⌝ }
     ensures { λ r. ⌜ r ≡ headOk kind (frameOf (now (line .entry))) ⌝ }
 {
@@ -61,7 +61,7 @@ pub fn head_ok(line: &[u8], kind: u8) -> bool
 
 // [8.10] Whether a line begins with a head of this kind, and has the length that its d tells: fixed + 4d bytes.
 pub fn layout_ok(line: &[u8], kind: u8, fixed: usize) -> bool
-    requires { ⌜ (isLine (now line) ≡ true) × ((7 ≤ fixed) × (fixed ≤ longestFrame)) ⌝ }
+    requires { ⌜ (isLine (now line) ≡ true) × ((7 ≤ fixed) × (fixed < 65536)) ⌝ }
     ensures { λ r. ⌜ r ≡ laidOut kind fixed (frameOf (now (line .entry))) ⌝ }
 {
     let size = line_digits::size(line);

@@ -132,15 +132,6 @@ answer-rule k f =
     let e : 30 + 4 * num 1 (drop 6 f) + 14 * countIn f ≡ 30 + 14 * countIn f + 4 * num 1 (drop 6 f) = omega arith in
     rw e (laid-then k (30 + 14 * countIn f) f _)
 
--- the layout by the numbers that were read
-pub answer-laid : (k : ℕ) (f : List ℕ) (n d c : ℕ) → headOk k f ≡ true → n ≡ length f → d ≡ num 1 (drop 6 f) → c ≡ num 1 (drop (28 + 4 * d + 1) f)
-    → eqb n (28 + 4 * d + 2 + 14 * c) ≡ laidOut k (30 + 14 * countIn f) f
-unfolding laidOut
-answer-laid k f n d c h a e q =
-    let m : countIn f ≡ c = count-at f (28 + 4 * d) (omega arith) ∙ sym q in
-    let z : 28 + 4 * d + 2 + 14 * c ≡ 30 + 14 * c + 4 * d = omega arith in
-    rw (h, m, ← e, ← a, z)
-
 -- the ways through the reader of a sound line
 module _ (l : List ℕ) (s : isLine l ≡ true) (b : Bool) (be : b ≡ laidOut (answerKind (answerOrder (num 1 (frameOf l)))) (30 + 14 * countIn (frameOf l)) (frameOf l)) where
   pub unlaid-answer : not b ≡ true → noAnswer 10 ≡ readAsAnswer l

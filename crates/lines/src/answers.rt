@@ -95,14 +95,12 @@ fn layout_ok(line: &[u8], kind: u8) -> bool
     if n < 34 {
         return false;
     }
-    if line_fields::head_ok(line, kind) {
-        let at = 28 + 4 * line_fields::d(line);
-        if n < at + 2 {
-            return false;
-        }
-        return n == at + 2 + 14 * line_digits::number(line, at + 1, 1) as usize;
+    let at = 28 + 4 * line_fields::d(line);
+    if n < at + 2 {
+        return false;
     }
-    false
+    let count = line_digits::number(line, at + 1, 1) as usize;
+    line_fields::layout_ok(line, kind, 30 + 14 * count)
 }
 
 fn no_answer(n: u8) -> AnswerRead
