@@ -1,4 +1,4 @@
-// The lines: for asks, answers and claims a bare writer and a bare reader each, and for the office what an ask and a claim line hold that was found sound.
+// The lines: for asks, answers and claims a bare writer and a bare reader each, and for the office the ask and the claim in a line that was found sound.
 mod answers;
 mod asks;
 mod claims;

@@ -21,14 +21,14 @@ use Rattle.paper.specs.Program.{Books, tableFor, claimEntering, reply, refusal,
 use Rattle.lines.proofs.WritersReaders.{holds, holds-none}
 use Rattle.lines.proofs.ClaimTests.{is-claim}
 use Rattle.end_office.specs.Desk.{Given}
-use Rattle.end_office.proofs.AnswerToAsk.{ask-given}
+use Rattle.end_office.proofs.AnswerToAsk.{read-is}
 use Rattle.office_serve.specs.Serving.{Put, booksOf, Ready, Served, ServedCut}
 use Rattle.paper.specs.Limits.{longestAnswer}
 
 -- ---- what a line holds, by what reading it gave
 
 module _ (line : List ℕ) (c : ClaimRead) (ce : c ≡ readAsClaim line) where
-  pub claim-held : c .refusal ≡ 0 → (claimOk (frameOf line) ≡ true) × (c .claim ≡ claimAt (frameOf line))
+  claim-held : c .refusal ≡ 0 → (claimOk (frameOf line) ≡ true) × (c .claim ≡ claimAt (frameOf line))
   unfolding readAsClaim aClaim noClaim
   claim-held h =
       let p = holds claimOk (λ f. aClaim (claimAt f)) noClaim (λ (x : ClaimRead). x .refusal) line c ce (λ n. refl) h in
@@ -54,7 +54,7 @@ module _ (line : List ℕ) (a : AskRead) (ae : a ≡ readAsAsk line) where
   no-ask-held s h = holds-none isAsk (λ f. anAsk (askAt f)) noAsk (λ (x : AskRead). x .refusal) line a ae (λ f. refl) s h
 
   pub ask-fields : a .refusal ≡ 0 → Given (a .ask)
-  ask-fields h = let p = ask-held h in rw (p .1) (ask-given (frameOf line) (p .0))
+  ask-fields h = read-is line a ae .given h
 
 -- ---- a frame, and a line
 
