@@ -49,11 +49,11 @@ pub fn d(line: &[u8]) -> usize
 }
 
 // [5.4] [8.10] Whether a line begins with a head of this kind, with measure and d in range.
-fn head_ok(line: &[u8], kind: u8) -> bool
+fn head_ok(line: &[u8], wanted: u8) -> bool
     requires { ⌜ HasBytes (now line) 7 ⌝ }
-    ensures { λ r. ⌜ r ≡ headOk kind (frameOf (now (line .entry))) ⌝ }
+    ensures { λ r. ⌜ r ≡ headOk wanted (frameOf (now (line .entry))) ⌝ }
 {
-    if line_digits::number(line, 0, 1) == kind as u64 {
+    if kind(line) == wanted as u64 {
         return in_range(measure(line), d(line));
     }
     false

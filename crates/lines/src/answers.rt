@@ -92,7 +92,7 @@ fn layout_ok(line: &[u8], kind: u8) -> bool
     ensures { λ r. ⌜ r ≡ laidOut kind (30 + 14 * countIn (frameOf (now (line .entry)))) (frameOf (now (line .entry))) ⌝ }
 {
     let n = line_digits::size(line);
-    if n < 34 {
+    if n < 30 {
         return false;
     }
     let at = 28 + 4 * line_fields::d(line);

@@ -1,4 +1,4 @@
--- One line served: a frame as a claim or an ask, a line by its frame, and the line that was cut. Assumes nothing.
+-- One line served: what it holds by what reading it gave, a frame as a claim or an ask, a line by its frame, and the line that was cut. Assumes nothing.
 use Prim.Native.Nat.{ℕ, _≤_, _<_}
 use mathlib.Core.Path.{_≡_, refl, ap}
 use mathlib.Core.Bool.{Bool, true, false, _&&_}

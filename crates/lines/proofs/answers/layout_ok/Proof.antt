@@ -20,7 +20,7 @@ returns : tie.Need-returns
 returns c =
     let a = c .before .before .before .args in
     let f = frameOf (a .line .now) in
-    sym (refuted (laidOut (a .kind) (30 + 14 * countIn f) f) (λ e. let p = laid-is (a .kind) (30 + 14 * countIn f) f e in omega (arith, p .0 .range .wide, p .1)))
+    sym (refuted (laidOut (a .kind) (30 + 14 * countIn f) f) (λ e. let p = laid-is (a .kind) (30 + 14 * countIn f) f e in omega (arith, p .1)))
 
 d-requires : tie.Need-d-requires
 d-requires c κs = search needs
