@@ -117,7 +117,7 @@ uint8_t nearby_test_table(nearby_table table,
 /* [9.6] [3.15] Enters all claims of a run, or none: a reference in `given` and d coordinates in `points` for each. It gives the
  * header that counts from now on. Each reference has to be new [3.17]: 17 is given where a claim of the table has it already, or
  * where it stands twice in the run, be the run too long for the table or not. So a claim that two tablets send is entered once; the
- * second is told 17, and the table has the claim. What unused memory holds is no reference in force. Refusals 1, 2, 5, 17, 3, 4. */
+ * second is told 17, and the table has the claim. What unused memory holds is no reference in force. Refusals 1, 2, 5, 17, 3. */
 nearby_tabled nearby_enter(nearby_table table,
                            uint32_t *references, size_t references_length,
                            int32_t *coordinates, size_t coordinates_length,
@@ -349,12 +349,11 @@ nearby_claim_read nearby_read_claim_line(const uint8_t *line, size_t line_length
 /* ---- Refusals ---- */
 
 /* The refusals: row(number, meaning) for each, in rising order. A number without a row is given by no call. Rule 8.N says when N
- * is given, and docs/refusals what to do about it. */
+ * is given, and docs/refusals what to do about it. 4 is retired [8.4]: no later refusal will have it. */
 #define NEARBY_REFUSALS(row) \
     row(1, "measure, d or capacity is not in its range, or a slice is too short for them") \
     row(2, "the table is not sound, or the list is not") \
     row(3, "the run has more claims than the capacity leaves free") \
-    row(4, "the run has more claims than there are nodes left") \
     row(5, "not d coordinates in a probe or for each claim of a run, or not five numbers for each place") \
     row(6, "a page size that is not 1 to 16") \
     row(7, "a snapshot of more claims than there are") \

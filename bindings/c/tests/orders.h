@@ -6,8 +6,7 @@
 
 enum { MOST_NUMBERS = 10 };
 
-/* The numbers of each call, as section 9 of the rules lists them, and a 0 at the end. 4 is left out: in a sound table a node is free
- * wherever a claim has room, so nothing can reach it. */
+/* The numbers of each call, as section 9 of the rules lists them, and a 0 at the end. */
 extern const uint8_t call_numbers[CALLS][MOST_NUMBERS];
 
 /* The numbers that a call for many gives to single rows, behind those above. */

@@ -48,13 +48,19 @@ static bool is_refusal(unsigned number)
     return false;
 }
 
+static bool has(const uint8_t *numbers, int number)
+{
+    return memchr(numbers, number, MOST_NUMBERS) != NULL;
+}
+
 static void every_refusal_reached(void)
 {
     for (call which = 0; which < CALLS; which++) {
         CHECK(times_given(which, 0) > 0);
         for (int number = 1; number <= UINT8_MAX; number++) {
-            bool listed = memchr(call_numbers[which], number, MOST_NUMBERS) != NULL;
-            if (!CHECK((times_given(which, (uint8_t)number) > 0) == listed))
+            bool whole = (times_given(which, (uint8_t)number) > 0) == has(call_numbers[which], number);
+            bool rows = (times_given_to_a_row(which, (uint8_t)number) > 0) == has(row_numbers[which], number);
+            if (!CHECK(whole && rows))
                 printf(" (call %d, refusal %d)", (int)which, number);
         }
     }
@@ -85,9 +91,24 @@ static void every_refusal_has_a_meaning(void)
         CHECK(is_refusal(number) == (strcmp(nearby_refusal_meaning((uint8_t)number), no_such) != 0));
 }
 
+/* [8.4] Numbers that had a meaning once. None has one now, and no call and no row was given one by all the other tests. */
+static void no_call_gives_a_retired_number(void)
+{
+    static const uint8_t retired[] = { 4 };
+    const char *no_such = nearby_refusal_meaning(255);
+    for (size_t i = 0; i < LENGTH(retired); i++) {
+        CHECK(!is_refusal(retired[i]) && strcmp(nearby_refusal_meaning(retired[i]), no_such) == 0);
+        for (call which = 0; which < CALLS; which++) {
+            CHECK(!has(call_numbers[which], retired[i]) && !has(row_numbers[which], retired[i]));
+            CHECK(times_given(which, retired[i]) == 0 && times_given_to_a_row(which, retired[i]) == 0);
+        }
+    }
+}
+
 void refusal_tests(void)
 {
     run_test("refusals: every one of every call was reached, and no other", every_refusal_reached);
     run_test("refusals: the calls list no others", every_listed_number_is_a_refusal);
     run_test("refusals: every one has a meaning", every_refusal_has_a_meaning);
+    run_test("refusals: no call gives a number that is retired", no_call_gives_a_retired_number);
 }

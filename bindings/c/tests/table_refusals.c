@@ -57,6 +57,7 @@ static const refusal_case testing[] = {
     { { CAPACITY_OVER_THE_MEMORY }, 1 },
     { { NODE_NUMBER_CHANGED }, 2 },
     { { COUNT_OVER_CAPACITY }, 2 },
+    { { ALL_NODES_IN_USE }, 2 },
     { { MEASURE_0, NODE_NUMBER_CHANGED }, 1 },
 };
 
@@ -65,6 +66,7 @@ static const refusal_case entering[] = {
     { { CAPACITY_OVER_THE_MEMORY }, 1 },
     { { NODE_NUMBER_CHANGED }, 2 },
     { { COUNT_OVER_CAPACITY }, 2 },
+    { { ALL_NODES_IN_USE }, 2 },
     { { COORDINATE_TOO_MANY }, 5 },
     { { COORDINATE_MISSING }, 5 },
     { { REFERENCE_OF_CLAIM_2 }, 17 },

@@ -30,6 +30,7 @@ void put_fault(scene *c, fault f)
     case CAPACITY_OVER_THE_MEMORY: c->s.table.capacity = 9; break;
     case NODE_NUMBER_CHANGED: c->s.nodes[3] = 7; break;
     case COUNT_OVER_CAPACITY: c->s.table.capacity = 4; break;
+    case ALL_NODES_IN_USE: c->s.table.used = c->s.table.capacity; break;
     case COORDINATE_TOO_MANY: c->run_length++, c->probe_length++, c->probes_length++; break;
     case COORDINATE_MISSING: c->run_length--, c->probe_length--, c->probes_length--; break;
     case START_NUMBER_MISSING: c->starts_length--; break;

@@ -32,7 +32,7 @@ scene set_scene(seeded *from, uint8_t order);
 typedef enum {
     NO_FAULT,
     /* the table */
-    MEASURE_0, CAPACITY_OVER_THE_MEMORY, NODE_NUMBER_CHANGED, COUNT_OVER_CAPACITY,
+    MEASURE_0, CAPACITY_OVER_THE_MEMORY, NODE_NUMBER_CHANGED, COUNT_OVER_CAPACITY, ALL_NODES_IN_USE,
     /* the run, and lengths that go with d or with the number of questions */
     COORDINATE_TOO_MANY, COORDINATE_MISSING, START_NUMBER_MISSING, RUN_OVER_CAPACITY, REFERENCE_OF_CLAIM_2, REFERENCE_TWICE,
     /* the page */

@@ -3,16 +3,29 @@
 #include <stdlib.h>
 #include <string.h>
 
-static size_t given_so_far[CALLS][UINT8_MAX + 1];
+static size_t given_so_far[CALLS][UINT8_MAX + 1], given_to_rows[CALLS][UINT8_MAX + 1];
 
 size_t times_given(call which, uint8_t refusal)
 {
     return given_so_far[which][refusal];
 }
 
+size_t times_given_to_a_row(call which, uint8_t refusal)
+{
+    return given_to_rows[which][refusal];
+}
+
 static void note(call which, uint8_t refusal)
 {
     given_so_far[which][refusal]++;
+}
+
+/* Rows of so many numbers, each beginning with its refusal. */
+static void note_rows(call which, const uint64_t *at, size_t rows, size_t width)
+{
+    for (size_t i = 0; i < rows; i++)
+        if (CHECK(at[i * width] <= UINT8_MAX))
+            given_to_rows[which][at[i * width]]++;
 }
 
 /* ---- Lent memory before and after ---- */
@@ -360,6 +373,8 @@ uint8_t try_many_pages(const store *s, points probes, room reaches, room starts,
     check_kept(k_outcomes);
     check_kept(k_items);
     note(MANY_PAGES, is);
+    if (is == 0)
+        note_rows(MANY_PAGES, outcomes.at, reaches.length, 3);
     return is;
 }
 
@@ -375,5 +390,6 @@ nearby_answered try_many_answers(const store *s, text asks, room outcomes, outpu
     check_kept(k_outcomes);
     check_kept(k_out);
     note(MANY_ANSWERS, is.refusal);
+    note_rows(MANY_ANSWERS, outcomes.at, is.lines, 2);
     return is;
 }

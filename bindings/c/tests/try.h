@@ -10,8 +10,9 @@ typedef enum {
     READ_ASK, READ_ANSWER, READ_CLAIM, MANY_NEAREST, MANY_FARTHEST, MANY_PAGES, MANY_ANSWERS, CALLS
 } call;
 
-/* How often a call gave a refusal's number so far, 0 for none. */
+/* How often a call gave a refusal's number so far, 0 for none; and how often a call for many gave it to one of its rows. */
 size_t times_given(call which, uint8_t refusal);
+size_t times_given_to_a_row(call which, uint8_t refusal);
 
 nearby_tabled try_make(uint32_t number, uint8_t measure, size_t d, size_t capacity, const store *lent);
 uint8_t try_test(const store *s);

@@ -311,7 +311,7 @@ extern "C" {
         nodes_length: usize,
     ) -> Tabled;
 
-    /// Enters a run of claims with new references, whole or not at all. Refusals 1, 2, 5, 17, 3, 4.
+    /// Enters a run of claims with new references, whole or not at all. Refusals 1, 2, 5, 17, 3.
     pub fn nearby_enter(
         table: Table,
         references: *mut u32,

@@ -35,11 +35,11 @@ macro_rules! refusals {
     };
 }
 
+// [8.4] 4 is retired: no later refusal has it.
 refusals! {
     OutOfRange = 1, "measure, d or capacity is not in its range, or a slice is too short for them";
     NotSound = 2, "the table is not sound, or the list is not";
     OverCapacity = 3, "the run has more claims than the capacity leaves free";
-    NoRoomFree = 4, "the run has more claims than there are nodes left", "It never arises on a table of this crate.";
     WrongLength = 5, "not d coordinates in a probe or for each claim of a run, or not five numbers for each place";
     PageSize = 6, "a page size that is not 1 to 16";
     SnapshotOverCount = 7, "a snapshot of more claims than there are";

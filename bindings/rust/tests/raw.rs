@@ -148,3 +148,11 @@ fn refusals_are_the_headers() {
         assert_eq!(Refusal::from_number(number).map(Refusal::number), known.then_some(number));
     }
 }
+
+/// [8.4] The number has no meaning here or in the header, and its neighbours keep theirs.
+#[test]
+fn four_is_retired() {
+    assert_eq!(Refusal::from_number(4), None);
+    assert!(rows_of_the_header().iter().all(|row| row.0 != 4));
+    assert_eq!((Refusal::OverCapacity.number(), Refusal::WrongLength.number()), (3, 5));
+}

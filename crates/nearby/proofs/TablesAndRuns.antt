@@ -18,7 +18,6 @@ use Rattle.paper.specs.Runs.{makeCall, madeShown, addedRun, enterCall, enteredS
 use Rattle.paper.specs.Calls.{tableRefusal}
 use Rattle.paper.proofs.Outcomes.{must-stop, must-go, number-is, promise-refused, promise-given}
 use Rattle.tree.specs.Soundness.{Good}
-use Rattle.tree.proofs.TestedTables.{good-used}
 use Rattle.tree.proofs.ClaimsInMemory.{references-are}
 use Rattle.tree.proofs.RunLaws.{zero-enters, enters-gives}
 use Rattle.walk_tested.proofs.TableLaws.{fit-stops, fit-goes, table-refused, table-good, table-goes}
@@ -41,11 +40,8 @@ module _ (s : Store) (given : List ℕ) (points : List ℤ) where
   call = enterCall s given points
 
   -- the call from each of its tests on
-  abbrev from-4 : Outcome Store
-  from-4 = must (leb (s .table .used + length given) (s .table .capacity)) 4 (gives (addedRun given points (length given) s))
-
   abbrev from-3 : Outcome Store
-  from-3 = must (leb (s .table .count + length given) (s .table .capacity)) 3 from-4
+  from-3 = must (leb (s .table .count + length given) (s .table .capacity)) 3 (gives (addedRun given points (length given) s))
 
   abbrev from-17 : Outcome Store
   from-17 = must (anew (inForce (claimsIn s)) given) 17 from-3
@@ -70,9 +66,6 @@ module _ (s : Store) (given : List ℕ) (points : List ℤ) where
 
       pub run-stored : s .table .count ≤ length (s .references)
       run-stored = omega (arith, good .count, good .fit .references)
-
-      pub run-used : s .table .used ≤ s .table .capacity
-      run-used = omega (arith, good .count, good-used s good)
 
       module _ (w : Bool) (we' : w ≡ eqb (length points) (s .table .d * length given)) where
         past-2 : call ≡ from-5
@@ -100,24 +93,13 @@ module _ (s : Store) (given : List ℕ) (points : List ℤ) where
 
             pub run-3 : s .table .capacity - s .table .count < length given → 3 ≡ number call
             run-3 h =
-                sym (ap number (past-17 ∙ must-stop (leb (s .table .count + length given) (s .table .capacity)) 3 from-4
+                sym (ap number (past-17 ∙ must-stop (leb (s .table .count + length given) (s .table .capacity)) 3 _
                 (lt-leb (s .table .count + length given) (s .table .capacity) (omega (arith, run-count)))))
 
-            module _ (room : length given ≤ s .table .capacity - s .table .count) where
-              past-3 : call ≡ from-4
-              past-3 =
-                  past-17 ∙ must-go (leb (s .table .count + length given) (s .table .capacity)) 3 from-4
-                  (le-leb (s .table .count + length given) (s .table .capacity) (omega (arith, run-count)))
-
-              pub run-4 : s .table .capacity - s .table .used < length given → 4 ≡ number call
-              run-4 h =
-                  sym (ap number (past-3 ∙ must-stop (leb (s .table .used + length given) (s .table .capacity)) 4 _
-                  (lt-leb (s .table .used + length given) (s .table .capacity) (omega (arith, run-used)))))
-
-              pub run-0 : length given ≤ s .table .capacity - s .table .used → 0 ≡ number call
-              run-0 h =
-                  sym (ap number (past-3 ∙ must-go (leb (s .table .used + length given) (s .table .capacity)) 4 _
-                  (le-leb (s .table .used + length given) (s .table .capacity) (omega (arith, run-used)))))
+            pub run-0 : length given ≤ s .table .capacity - s .table .count → 0 ≡ number call
+            run-0 h =
+                sym (ap number (past-17 ∙ must-go (leb (s .table .count + length given) (s .table .capacity)) 3 _
+                (le-leb (s .table .count + length given) (s .table .capacity) (omega (arith, run-count)))))
 
   -- refused, or entered
   module _ (why : ℕ) (we : why ≡ number call) where

@@ -76,13 +76,10 @@ fn run_refusal(
     if t.capacity - t.count < given.len() {
         return 3;
     }
-    if t.capacity - t.used < given.len() {
-        return 4;
-    }
     0
 }
 
-// [9.6] [3.15] Refusals 1, 2, 5, 17, 3, 4. All claims of the run are entered, or none.
+// [9.6] [3.15] Refusals 1, 2, 5, 17, 3. All claims of the run are entered, or none.
 pub fn enter(
     t: Table,
     references: &mut [u32],

@@ -7,3 +7,4 @@ pub mod Alone
 pub mod Given
 pub mod Ample
 pub mod Unended
+pub mod Retired

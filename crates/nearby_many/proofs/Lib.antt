@@ -3,3 +3,4 @@ pub mod PagesOfMany
 pub mod RowLaws
 pub mod Alone
 pub mod Settled
+pub mod Retired

@@ -49,6 +49,7 @@ entering-marked =
       changed2 = refl;
       changedLast2 = refl;
       over2 = refl;
+      moreNodes2 = refl;
       short1 = refl;
       entered = refl;
       nothingEntered = refl;

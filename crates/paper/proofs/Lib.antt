@@ -8,4 +8,6 @@ pub mod Tests
 pub mod Ranges
 pub mod Outcomes
 pub mod Reading
+pub mod FreeNodes
+pub mod Retired
 pub mod LineKinds

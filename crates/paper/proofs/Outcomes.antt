@@ -3,6 +3,8 @@ use Prim.Native.Nat.{ℕ, suc}
 use mathlib.Core.Path.{_≡_, refl, sym, ap, _∙_}
 use mathlib.Core.Bool.{Bool, true, false}
 use native.Mathlib.Omega.{arith}
+use lib.Dec.{eqb}
+use borrow.Author.Tests.{eqb-false}
 use Rattle.paper.specs.Outcomes.{Outcome, refused, gives, must, onto, number, leaves, Promise}
 
 -- A call's refusals are one chain of tests, `must a 1 (must b 2 (gives x))`: behind a test that passes it goes on, at one that fails it
@@ -23,15 +25,29 @@ pub must-rest : {A : Type 0} (b : Bool) (n : ℕ) (x : Outcome A) (a : A) → mu
 must-rest true n x a p = p
 must-rest false n x a p = absurd (let y : _≡_ {A = ℕ} 0 1 = cc in omega arith)
 
--- a call that is refused under another number passed the test
-pub must-other : {A : Type 0} (b : Bool) (n : ℕ) (x : Outcome A) (m : ℕ) → must b n x ≡ refused m → (n ≡ m → ⊥) → (b ≡ true) × (x ≡ refused m)
-must-other true n x m e h = (refl, e)
-must-other false n x m e h = absurd (h (ap number e))
-
 -- a call that tells 0 passed the test
 pub number-0 : {A : Type 0} (b : Bool) (n : ℕ) (x : Outcome A) → number (must b (suc n) x) ≡ 0 → (b ≡ true) × (number x ≡ 0)
 number-0 true n x h = (refl, h)
 number-0 false n x h = absurd (omega arith)
+
+-- a number that a call does not tell
+pub record Untold {A : Type 0} (r : ℕ) (x : Outcome A) : Type 0 where
+  pub other : number x ≡ r → ⊥
+
+-- it is one that no test of its chain stands under, whatever the tests say
+pub must-untold : {A : Type 0} (r : ℕ) (b : Bool) (n : ℕ) (x : Outcome A) → eqb n r ≡ false → Untold r x → Untold r (must b n x)
+must-untold r true n x apart rest = rest
+must-untold r false n x apart rest = record { other = eqb-false n r apart }
+
+pub onto-untold : {A B : Type 0} (r : ℕ) (x : Outcome A) (f : A → Outcome B) → Untold r x → ((a : A) → Untold r (f a)) → Untold r (onto x f)
+onto-untold r (refused n) f first second = record { other = first .other }
+onto-untold r (gives a) f first second = second a
+
+pub gives-untold : {A : Type 0} (r : ℕ) (a : A) → eqb 0 r ≡ false → Untold r (gives a)
+gives-untold r a apart = record { other = eqb-false 0 r apart }
+
+-- for `search`
+pub ruleset untold = (must-untold, onto-untold, gives-untold)
 
 -- a call is refused by its number
 pub number-is : {A : Type 0} (x : Outcome A) (n : ℕ) → n ≡ number x → (n ≡ 0 → ⊥) → x ≡ refused n

@@ -67,6 +67,10 @@ changed = fiveIn 6 (roomsOf 5 0)
 abbrev pub short : Store
 short = fiveIn 7 (roomsOf 5 0)
 
+-- no claim, and yet a node in use, in memory that held nothing
+abbrev pub nodeInUse : Store
+nodeInUse = store (header 1 1 6 0 1) (replicate 6 0) (replicate 6 (pos 0)) (replicate 36 0)
+
 -- what the test gives that every call on a table begins with
 abbrev pub passed : Store → Outcome Table
 passed s = onTable s (gives (s .table))
@@ -135,11 +139,12 @@ pub record MakingMarked : Type 0 where
 -- ---- [9.6] entering
 
 pub record EnteringMarked : Type 0 where
-  -- every call on a table begins with 1 and 2; more claims than the capacity are not sound either
+  -- every call on a table begins with 1 and 2; more claims than the capacity are not sound either, nor more nodes in use than claims
   pub tested : passed fiveStored ≡ gives (header 1 1 6 5 3)
   pub changed2 : passed changed ≡ refused 2
   pub changedLast2 : passed (fiveIn 6 (roomsOf 6 1)) ≡ refused 2
   pub over2 : passed (fiveIn 4 (roomsOf 6 0)) ≡ refused 2
+  pub moreNodes2 : passed nodeInUse ≡ refused 2
   pub short1 : passed short ≡ refused 1
   -- the five claims into a table that has none: example a's nodes
   pub entered : enterCall none (101 ∷ 102 ∷ 103 ∷ 104 ∷ 105 ∷ []) (pos 2 ∷ pos 3 ∷ pos 9 ∷ pos 6 ∷ pos 5 ∷ []) ≡ gives fiveStored

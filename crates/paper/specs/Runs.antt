@@ -52,7 +52,7 @@ addedRun given points zero s = s
 addedRun given points (suc i) s = added (addedRun given points i s) (referenceAt given i) (point (s .table .d) points i)
 
 -- [9.6] [3.15] all claims of a run are entered, or none: 5 where there are not d coordinates for each [8.5], 17 where a reference is not
--- new [8.17], 3 where the capacity leaves too few claims free [8.3], 4 where it leaves too few nodes, one for each claim [8.4]
+-- new [8.17], 3 where the capacity leaves too few claims free [8.3]. Nodes need no test [8.4].
 unfoldable pub enterCall : Store → List ℕ → List ℤ → Outcome Store
 enterCall s given points =
     must (fits s) 1
@@ -60,8 +60,7 @@ enterCall s given points =
     (must (eqb (length points) (s .table .d * length given)) 5
     (must (anew (inForce (claimsIn s)) given) 17
     (must (leb (s .table .count + length given) (s .table .capacity)) 3
-    (must (leb (s .table .used + length given) (s .table .capacity)) 4
-    (gives (addedRun given points (length given) s)))))))
+    (gives (addedRun given points (length given) s))))))
 
 -- how its outcome is shown, the header that comes back, and what it makes of lent memory
 abbrev pub enteredShown : Outcome Store → Entered

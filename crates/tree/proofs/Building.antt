@@ -4,10 +4,10 @@ use mathlib.Core.Path.{_≡_, refl, sym, _∙_, subst}
 use mathlib.Core.List.{List}
 use native.Mathlib.Omega.{arith}
 use native.Mathlib.Decide.{decLe}
-use native.Mathlib.Nat.{le-refl}
 use lib.ListN.{length, getD}
 use lib.Seq.{ext-getD}
 use Rattle.paper.specs.Tree.{Grown, grown, fieldAt, entered, built}
+use Rattle.paper.proofs.FreeNodes.{built-takes}
 use Rattle.tree.specs.BuiltNodes.{Linked, Neartree, IsBuilt}
 use Rattle.tree.proofs.Stores.{fresh-length}
 use Rattle.tree.proofs.Keeping.{keeps, place}
@@ -22,11 +22,11 @@ pub record BuiltOver (e : ℕ → ℕ → ℕ) (n : ℕ) (a : List ℕ) (x : Gro
   pub behind : (m g : ℕ) → x .used ≤ m → g < 6 → fieldAt (x .nodes) m g ≡ fieldAt a m g
 
 pub enter-long : (e : ℕ → ℕ → ℕ) (used k : ℕ) (a : List ℕ) → used * 6 + 6 ≤ length a → Linked a used k
-    → (length (entered e used k a .nodes) ≡ length a) × (used ≤ entered e used k a .used) × (entered e used k a .used ≤ used + 1)
+    → (length (entered e used k a .nodes) ≡ length a) × (used ≤ entered e used k a .used)
 unfolding entered
-enter-long e zero k a room lk = (fresh-length a 0 k, omega arith, omega arith)
+enter-long e zero k a room lk = (fresh-length a 0 k, omega arith)
 enter-long e (suc u) k a room lk =
-    let p = place (suc u) e (suc u) k 0 a (omega arith) (omega arith) room lk in (p .long, p .more, p .atMost)
+    let p = place (suc u) e (suc u) k 0 a (omega arith) (omega arith) room lk in (p .long, p .more)
 
 pub build : (e : ℕ → ℕ → ℕ) (n : ℕ) (a : List ℕ) → n * 6 ≤ length a → n < 2 ^ 64 - 1 → BuiltOver e n a (built e n a)
 unfolding built Linked
@@ -34,7 +34,7 @@ build e zero a room few =
     record {
       sound = record { linked = λ m hm. absurd (omega arith); room = omega arith; few = few; empty = λ q. refl; all = λ j hj. absurd (omega arith) };
       long = refl;
-      few = le-refl 0;
+      few = built-takes e 0 a;
       behind = λ m g hm hg. refl;
     }
 build e (suc n) a room few =
@@ -45,7 +45,7 @@ build e (suc n) a room few =
     record {
       sound = rw n1 at (keeps e (built e n a .used) n (built e n a .nodes) (b .sound) r (omega arith));
       long = l .0 ∙ b .long;
-      few = omega (arith, l .2, b .few);
+      few = built-takes e (suc n) a;
       behind = λ m g hm hg. enter-behind e (built e n a .used) n (built e n a .nodes) r (b .sound .linked) m g hm hg
           ∙ b .behind m g (omega (arith, l .1)) hg;
     }

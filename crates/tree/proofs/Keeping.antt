@@ -11,6 +11,7 @@ use mathlib.Core.Bool.{Bool, true, false, cond}
 use borrow.Author.Tests.{leb-true, leb-false}
 use lib.Seq.{getD-set-same}
 use Rattle.paper.specs.Tree.{Grown, grown, fieldAt, putField, sideClaim, newNode, nearSide, raise, enteredFrom, entered}
+use Rattle.paper.proofs.FreeNodes.{takes-one}
 use Rattle.tree.specs.BuiltNodes.{Inside, Linked, Under, here, deeper, Holds, Neartree}
 use Rattle.tree.proofs.OneEntering.{other, still-linked, raise-length, side-small}
 use Rattle.tree.proofs.Stores.{NodesGrow, grows-trans, grows-put, fresh-length, fresh-left, fresh-rest, fresh-small, grows-fresh}
@@ -82,7 +83,6 @@ pub record EnteredFrom (e : ℕ → ℕ → ℕ) (used k m : ℕ) (nodes : List 
   pub holds : Holds (out .nodes) e m k
   pub long : length (out .nodes) ≡ length nodes
   pub more : used ≤ out .used
-  pub atMost : out .used ≤ used + 1
 
 -- the three ways through a node
 module _ (e : ℕ → ℕ → ℕ) (used k m : ℕ) (nodes : List ℕ) (hm : m < used) (room : used * 6 + 6 ≤ length nodes) (lk : Linked nodes used k) where
@@ -94,7 +94,6 @@ module _ (e : ℕ → ℕ → ℕ) (used k m : ℕ) (nodes : List ℕ) (hm : m <
         holds = record { side = 1; which = lit< tt; under = here (getD-set-same nodes (m * 6 + 1) (k + 1) 0 (omega arith)) };
         long = length-set nodes (m * 6 + 1) (k + 1);
         more = le-refl used;
-        atMost = omega arith;
       }
 
   -- side s of a node has a claim
@@ -132,7 +131,6 @@ module _ (e : ℕ → ℕ → ℕ) (used k m : ℕ) (nodes : List ℕ) (hm : m <
               (record { side = 0; which = lit< tt; under = here (fresh-left nodes₂ used k (omega arith)) });
           long = fresh-length nodes₂ used k ∙ len₂ ∙ len₁;
           more = omega arith;
-          atMost = le-refl (used + 1);
         }
 
     down : (w : ℕ) (out : Grown) → fieldAt nodes m (4 + s) ≡ w + 1 → EnteredFrom e used k w (raise e nodes m s k) out → EnteredFrom e used k m nodes out
@@ -150,7 +148,6 @@ module _ (e : ℕ → ℕ → ℕ) (used k m : ℕ) (nodes : List ℕ) (hm : m <
               (deep .holds);
           long = deep .long ∙ raise-length e nodes m k s;
           more = deep .more;
-          atMost = deep .atMost;
         }
 
 pub place : (f : ℕ) (e : ℕ → ℕ → ℕ) (used k m : ℕ) (nodes : List ℕ) → m < used → used ≤ m + f → used * 6 + 6 ≤ length nodes → Linked nodes used k
@@ -187,7 +184,7 @@ keeps e (suc u) n nodes h room few =
     let p = place (suc u) e (suc u) n 0 nodes (omega arith) (omega arith) room (h .linked) in
     record {
       linked = p .linked;
-      room = omega (arith, p .long, p .atMost);
+      room = omega (arith, p .long, takes-one e (suc u) n nodes);
       few = few;
       empty = λ q. absurd (omega (arith, p .more));
       all = λ j hj. ⊎-elim

@@ -3,18 +3,17 @@ use Prim.Native.Nat.{ℕ, _+_, _*_, _≤_}
 use mathlib.Core.Path.{_≡_, sym, ap, _∙_}
 use mathlib.Core.Bool.{true}
 use mathlib.Core.List.{List, _++_}
-use native.Mathlib.Omega.{arith}
 use lib.IntN.{ℤ}
 use lib.ListN.{length}
 use lib.Dec.{leb, eqb}
 use borrow.Author.Tests.{leb-true, eqb-true, le-leb, eq-eqb}
-use Rattle.paper.specs.Outcomes.{refused, gives, number}
+use Rattle.paper.specs.Outcomes.{gives, number}
 use Rattle.paper.specs.Tree.{Store, fits, sound, claimsFrom, claimsIn}
 use Rattle.paper.specs.References.{inForce, anew}
 use Rattle.paper.specs.Runs.{addedRun, enterCall}
-use Rattle.paper.proofs.Outcomes.{must-go, must-other, number-0, same-given}
+use Rattle.paper.proofs.Outcomes.{must-go, number-0, same-given}
 use Rattle.tree.specs.Soundness.{Good, Roomy}
-use Rattle.tree.proofs.TestedTables.{fits-fit, fit-fits, sound-good, good-sound, good-used}
+use Rattle.tree.proofs.TestedTables.{fits-fit, fit-fits, sound-good, good-sound}
 use Rattle.tree.proofs.Adding.{run-claims, run-good}
 
 -- nothing refuses the run
@@ -49,28 +48,12 @@ module _ (s : Store) (given : List ℕ) (points : List ℤ) where
       ∙ must-go (eqb (length points) (s .table .d * length given)) 5 _ (eq-eqb (length points) (s .table .d * length given) (h .whole))
       ∙ must-go (anew (inForce (claimsIn s)) given) 17 _ (h .new)
       ∙ must-go (leb (s .table .count + length given) (s .table .capacity)) 3 _ (le-leb (s .table .count + length given) (s .table .capacity) (h .free))
-      ∙ must-go (leb (s .table .used + length given) (s .table .capacity)) 4 _
-      (le-leb (s .table .used + length given) (s .table .capacity) (omega (arith, h .free, good-used s (h .good))))
 
   -- what entering a run asks of the table
   pub enters-roomy : (why : ℕ) → why ≡ number (enterCall s given points) → why ≡ 0
       → Roomy s (length given) × (length points ≡ s .table .d * length given)
   enters-roomy why we z =
       let e = zero-enters (sym we ∙ z) in (record { good = e .good; free = e .free }, e .whole)
-
-  -- [8.4] 4 never arises: a sound table has a node free for each claim that it has node for
-  pub four-never : enterCall s given points ≡ refused 4 → ⊥
-  unfolding enterCall
-  four-never e =
-      let h1 = must-other (fits s) 1 _ 4 e (λ q. omega arith) in
-      let h2 = must-other (sound s) 2 _ 4 (h1 .1) (λ q. omega arith) in
-      let h5 = must-other (eqb (length points) (s .table .d * length given)) 5 _ 4 (h2 .1) (λ q. omega arith) in
-      let h17 = must-other (anew (inForce (claimsIn s)) given) 17 _ 4 (h5 .1) (λ q. omega arith) in
-      let h3 = must-other (leb (s .table .count + length given) (s .table .capacity)) 3 _ 4 (h17 .1) (λ q. omega arith) in
-      let free = leb-true (s .table .count + length given) (s .table .capacity) (h3 .0) in
-      let room = le-leb (s .table .used + length given) (s .table .capacity) (omega (arith, good-used s (sound-good s (fits-fit s (h1 .0)) (h2 .0)), free)) in
-      let z : _≡_ {A = ℕ} 0 4 = ap number (sym (must-go (leb (s .table .used + length given) (s .table .capacity)) 4 _ room) ∙ h3 .1) in
-      omega arith
 
   -- a run that was entered leaves a good table with the old claims and then the run's
   pub entered-good : (x : Store) → enterCall s given points ≡ gives x

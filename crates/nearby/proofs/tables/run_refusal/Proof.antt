@@ -1,6 +1,6 @@
 -- `nearby::tables::run_refusal` meets its contract: one law for each way through it. Assumes nothing.
 use Rattle.paper.specs.Tree.{store}
-use Rattle.nearby.proofs.TablesAndRuns.{run-refused, run-wide, run-stored, run-count, run-used, run-5, run-17, run-3, run-4, run-0}
+use Rattle.nearby.proofs.TablesAndRuns.{run-refused, run-wide, run-stored, run-count, run-5, run-17, run-3, run-0}
 use borrow.Author.Needs.{needs}
 use Rattle.nearby.proofs.tables.run_refusal.Statement.{statement}
 use Rattle.nearby.proofs.tables.run_refusal.Tie as tie
@@ -54,27 +54,13 @@ returns-4 c =
     run-3 (store (a .t) (a .references .now) (a .coordinates .now) (a .nodes .now)) (a .given .now) (a .points .now) _ (tested .table-refusal .ensures) (new .before .before .before .if1 .left) _
     (new .before .before .is-whole .ensures) (new .before .if2 .left) _ (new .are-new .ensures) (c .before .before .if3 .left) (c .if4 .taken)
 
-sub-if5 : tie.Need-sub-if5
-sub-if5 c =
-    let tested = c .before .before .before .before .before .before .before .before in
-    let a = tested .before .before .before .before .args in
-    run-used (store (a .t) (a .references .now) (a .coordinates .now) (a .nodes .now)) (a .given .now) (a .points .now) _ (tested .table-refusal .ensures) (c .before .before .before .before .before .before .before .if1 .left)
-
 returns-5 : tie.Need-returns-5
 returns-5 c =
-    let new = c .before .before .before .before .before in
-    let tested = new .before .before .before .before in
-    let a = tested .before .before .before .before .args in
-    run-4 (store (a .t) (a .references .now) (a .coordinates .now) (a .nodes .now)) (a .given .now) (a .points .now) _ (tested .table-refusal .ensures) (new .before .before .before .if1 .left) _
-    (new .before .before .is-whole .ensures) (new .before .if2 .left) _ (new .are-new .ensures) (c .before .before .before .before .if3 .left) (c .before .before .if4 .left) (c .if5 .taken)
-
-returns-6 : tie.Need-returns-6
-returns-6 c =
-    let new = c .before .before .before .before .before in
+    let new = c .before .before .before in
     let tested = new .before .before .before .before in
     let a = tested .before .before .before .before .args in
     run-0 (store (a .t) (a .references .now) (a .coordinates .now) (a .nodes .now)) (a .given .now) (a .points .now) _ (tested .table-refusal .ensures) (new .before .before .before .if1 .left) _
-    (new .before .before .is-whole .ensures) (new .before .if2 .left) _ (new .are-new .ensures) (c .before .before .before .before .if3 .left) (c .before .before .if4 .left) (c .if5 .left)
+    (new .before .before .is-whole .ensures) (new .before .if2 .left) _ (new .are-new .ensures) (c .before .before .if3 .left) (c .if4 .left)
 
 pub run-refusal-spec : {M : Type 1} → statement M
 run-refusal-spec =
@@ -88,6 +74,4 @@ run-refusal-spec =
     returns-3
     sub-if4
     returns-4
-    sub-if5
-    returns-5
-    returns-6)
+    returns-5)
