@@ -1,16 +1,19 @@
 -- A run that fits by its claims fits by its nodes: why no call has a refusal for nodes. Assumes nothing.
 use Prim.Native.Nat.{ℕ, zero, suc, _+_, _*_, _≤_}
-use mathlib.Core.Path.{_≡_}
+use mathlib.Core.Path.{_≡_, refl}
 use mathlib.Core.Bool.{Bool, true, false, cond, _&&_}
 use mathlib.Core.List.{List}
 use native.Mathlib.Omega.{arith}
 use native.Mathlib.Nat.{le-refl}
 use lib.Dec.{leb, eqb}
 use lib.ListN.{replicate}
-use borrow.Author.Tests.{eqb-true}
+use borrow.Author.Tests.{leb-true, le-leb, eqb-true}
 use Rattle.paper.specs.Tree.{Grown, fieldAt, nearSide, enteredFrom, entered, built, afresh, Store, apartIn, sameFront, sound}
+use Rattle.paper.specs.Outcomes.{Outcome, must}
 use Rattle.paper.proofs.Tests.{and-first, and-second}
+use Rattle.paper.proofs.Outcomes.{must-go}
 
+-- a bound of both is one of either
 either : (b : Bool) (x y : Grown) (n : ℕ) → x .used ≤ n → y .used ≤ n → cond b x y .used ≤ n
 either true x y n p q = p
 either false x y n p q = q
@@ -50,3 +53,14 @@ module _ (s : Store) (well : sound s ≡ true) where
   -- [8.4] where the capacity leaves a claim free for each of a run, it leaves a node free for each
   pub a-node-is-free : (n : ℕ) → s .table .count + n ≤ s .table .capacity → s .table .used + n ≤ s .table .capacity
   a-node-is-free n room = omega (arith, no-more-nodes-than-claims, room)
+
+  -- so behind the test of claims a test of nodes, under whatever number, refuses nothing
+  pub nodes-need-no-test : {A : Type 0} (n r : ℕ) (x : Outcome A)
+      → must (leb (s .table .count + n) (s .table .capacity)) 3 (must (leb (s .table .used + n) (s .table .capacity)) r x)
+      ≡ must (leb (s .table .count + n) (s .table .capacity)) 3 x
+  nodes-need-no-test n r x = go (leb (s .table .count + n) (s .table .capacity)) refl
+    where
+      go : (b : Bool) → leb (s .table .count + n) (s .table .capacity) ≡ b
+          → must b 3 (must (leb (s .table .used + n) (s .table .capacity)) r x) ≡ must b 3 x
+      go true h = must-go _ r x (le-leb (s .table .used + n) (s .table .capacity) (a-node-is-free n (leb-true (s .table .count + n) (s .table .capacity) h)))
+      go false h = refl
