@@ -91,7 +91,7 @@ static void every_refusal_has_a_meaning(void)
         CHECK(is_refusal(number) == (strcmp(nearby_refusal_meaning((uint8_t)number), no_such) != 0));
 }
 
-/* [8.4] Numbers that had a meaning once. None has one now, and no call and no row was given one by all the other tests. */
+/* [8.4] Numbers that had a meaning once. None has one now, and in all the other tests no call gave one, of the whole or of a row. */
 static void no_call_gives_a_retired_number(void)
 {
     static const uint8_t retired[] = { 4 };

@@ -6,7 +6,7 @@ use Rattle.paper.proofs.Outcomes.{Untold, untold}
 use Rattle.paper.proofs.Retired.{four-is-retired}
 use Rattle.nearby_batch.specs.Batch.{batchCall, alone}
 
--- [8.4]
+-- [8.4] the batch as a whole, and each line that it answers
 module _ (s : Store) (asks : List ℕ) where
   pub batch-without-4 : (outcomes out : List ℕ) → Untold 4 (batchCall s asks outcomes out)
   unfolding batchCall

@@ -9,11 +9,12 @@ use Rattle.paper.proofs.Retired.{four-is-retired}
 use Rattle.nearby_many.specs.Many.{firstsCall}
 use Rattle.nearby_many.specs.Pages.{PageRooms, pageAt, pagesEach}
 
--- [8.4] a row of `firstsCall` has an item or none, and no refusal
+-- [8.4] the firsts as a whole: their rows have an item or none, and no refusal
 pub firsts-without-4 : (s : Store) (probes n : ℕ) (answer : ℕ → Found) (out : List ℕ) → Untold 4 (firstsCall s probes n answer out)
 unfolding firstsCall
 firsts-without-4 s probes n answer out = search untold depth 10
 
+-- [8.4] the pages as a whole, and each row
 module _ (s : Store) (probes : List ℤ) (reaches places : List ℕ) (size : ℕ) where
   pub pages-without-4 : (before : PageRooms) → Untold 4 (pagesEach s probes reaches places size before)
   unfolding pagesEach

@@ -1,4 +1,4 @@
--- 4 is retired: no call of `nearby` tells it, and the program prints no refusal under it. Assumes nothing.
+-- 4 is retired: no call of `nearby` tells it, nor does the program of a claim or an ask. Assumes nothing.
 use Prim.Native.Nat.{ℕ}
 use mathlib.Core.Path.{_≡_, refl}
 use mathlib.Core.Bool.{Bool, true, false, cond}
@@ -37,7 +37,7 @@ pub record NoCallTells (r : ℕ) : Type 0 where
   pub read-ask : (l : List ℕ) → readAsAsk l .refusal ≡ r → ⊥
   pub read-answer : (l : List ℕ) → readAsAnswer l .refusal ≡ r → ⊥
   pub read-claim : (l : List ℕ) → readAsClaim l .refusal ≡ r → ⊥
-  -- the program
+  -- [10.6] the program, of a claim and of an ask; what is neither it refuses under 9 or 10
   pub enter-line : (t : Table) (c : ClaimLine) → Untold r (claimEntering t c)
   pub answer-ask : (b : Books) (a : Ask) → Untold r (reply b a)
 
