@@ -1,5 +1,5 @@
 -- Adding claims to a good table: it stays good, its claims are the old ones with the new ones behind, and nothing else of the lent memory changes. Assumes nothing.
-use Prim.Native.Nat.{ℕ, zero, suc, _+_, _-_, _*_, _<_, _≤_, _^_}
+use Prim.Native.Nat.{ℕ, zero, suc, _+_, _-_, _*_, _<_, _≤_}
 use mathlib.Core.Path.{_≡_, refl, sym, ap, _∙_}
 use mathlib.Core.List.{List, [], _∷_, _++_, append-assoc, append-nil}
 use native.Mathlib.Omega.{arith}
@@ -52,8 +52,7 @@ module _ (s : Store) (g : Good s) (more : s .table .count < s .table .capacity) 
         let same : (j k : ℕ) → j < k → k < n → apartIn s j k ≡ e j k =
         λ j k hj hk. apart-ext (s .table .measure) d n (s .coordinates) l (λ i hi. sym (put-before (s .coordinates) (n * d) p d (omega (arith, good-end)) i hi)) j k (omega arith) hk in
         let room : n * 6 ≤ length (s .nodes) = omega (arith, g .fit .lent .nodes) in
-        let few : n < 2 ^ 64 - 1 = omega (arith, good-few s g) in
-        let is : built e n (s .nodes) ≡ grown (s .nodes) (s .table .used) = sym (build-ext (apartIn s) e n (s .nodes) room few same) ∙ g .built in
+        let is : built e n (s .nodes) ≡ grown (s .nodes) (s .table .used) = sym (build-ext (apartIn s) e n (s .nodes) room (good-few s g) same) ∙ g .built in
         let long = enter-long e (s .table .used) n (s .nodes) (omega (arith, good-used s g, g .fit .lent .nodes)) (good-tree s g .linked) in
         record {
           fit = record {
@@ -68,7 +67,7 @@ module _ (s : Store) (g : Good s) (more : s .table .count < s .table .capacity) 
             };
           };
           count = omega arith;
-          built = rw (add-one n) (stays-built e n (s .table .used) (s .nodes) (omega (arith, g .fit .lent .nodes)) (omega (arith, good-few s g)) is);
+          built = rw (add-one n) (stays-built e n (s .table .used) (s .nodes) (omega (arith, g .fit .lent .nodes)) (omega (arith, g .fit .lent .most)) is);
         }
 
     -- its claims are those that it had, and the new one

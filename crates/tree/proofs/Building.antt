@@ -1,5 +1,5 @@
 -- What building gives, whatever the memory held, and that a built table stays one. Assumes nothing.
-use Prim.Native.Nat.{ℕ, zero, suc, _+_, _-_, _*_, _/_, _%_, _<_, _≤_, _^_}
+use Prim.Native.Nat.{ℕ, zero, suc, _+_, _-_, _*_, _/_, _%_, _<_, _≤_}
 use mathlib.Core.Path.{_≡_, refl, sym, _∙_, subst}
 use mathlib.Core.List.{List}
 use native.Mathlib.Omega.{arith}
@@ -7,6 +7,7 @@ use native.Mathlib.Decide.{decLe}
 use lib.ListN.{length, getD}
 use lib.Seq.{ext-getD}
 use Rattle.paper.specs.Tree.{Grown, grown, fieldAt, entered, built}
+use Rattle.paper.specs.Limits.{mostClaims}
 use Rattle.paper.proofs.FreeNodes.{built-takes}
 use Rattle.tree.specs.BuiltNodes.{Linked, Neartree, IsBuilt}
 use Rattle.tree.proofs.Stores.{fresh-length}
@@ -28,7 +29,7 @@ enter-long e zero k a room lk = (fresh-length a 0 k, omega arith)
 enter-long e (suc u) k a room lk =
     let p = place (suc u) e (suc u) k 0 a (omega arith) (omega arith) room lk in (p .long, p .more)
 
-pub build : (e : ℕ → ℕ → ℕ) (n : ℕ) (a : List ℕ) → n * 6 ≤ length a → n < 2 ^ 64 - 1 → BuiltOver e n a (built e n a)
+pub build : (e : ℕ → ℕ → ℕ) (n : ℕ) (a : List ℕ) → n * 6 ≤ length a → n ≤ mostClaims → BuiltOver e n a (built e n a)
 unfolding built Linked
 build e zero a room few =
     record {
@@ -52,7 +53,7 @@ build e (suc n) a room few =
 
 -- ---- two memories are built alike
 
-pub build-alike : (e : ℕ → ℕ → ℕ) (n : ℕ) (a b : List ℕ) → n * 6 ≤ length a → n < 2 ^ 64 - 1 → length a ≤ length b → SameInUse (built e n a) (built e n b)
+pub build-alike : (e : ℕ → ℕ → ℕ) (n : ℕ) (a b : List ℕ) → n * 6 ≤ length a → n ≤ mostClaims → length a ≤ length b → SameInUse (built e n a) (built e n b)
 unfolding built
 build-alike e zero a b room few len = record { agree = record { long = len; same = λ m g hm hg. absurd (omega arith) }; used = refl }
 build-alike e (suc n) a b room few len =
@@ -75,7 +76,7 @@ same-list a b w long ag rest = ext-getD 0 a b long (λ i hi. go i (decLe w (i / 
 -- ---- handed on
 
 -- a built table stays one when the next claim is entered
-pub stays-built : (e : ℕ → ℕ → ℕ) (n used : ℕ) (a : List ℕ) → n * 6 + 6 ≤ length a → n + 1 < 2 ^ 64 - 1 → IsBuilt e n a used
+pub stays-built : (e : ℕ → ℕ → ℕ) (n used : ℕ) (a : List ℕ) → n * 6 + 6 ≤ length a → n + 1 ≤ mostClaims → IsBuilt e n a used
     → IsBuilt e (suc n) (entered e used n a .nodes) (entered e used n a .used)
 unfolding IsBuilt built
 stays-built e n used a room few is =

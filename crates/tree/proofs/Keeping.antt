@@ -1,6 +1,6 @@
 -- Entering a claim keeps the nodes a neartree, and adds the claim. Assumes nothing.
-use Prim.Native.Nat.{ℕ, zero, suc, _+_, _-_, _*_, _<_, _≤_, _^_, max}
-use mathlib.Core.Path.{_≡_, refl, ap, _∙_}
+use Prim.Native.Nat.{ℕ, zero, suc, _+_, _-_, _*_, _<_, _≤_, max}
+use mathlib.Core.Path.{_≡_, refl, sym, ap, _∙_}
 use mathlib.Core.Logic.{⊎-elim}
 use mathlib.Core.List.{List}
 use native.Mathlib.Omega.{arith}
@@ -11,6 +11,7 @@ use mathlib.Core.Bool.{Bool, true, false, cond}
 use borrow.Author.Tests.{leb-true, leb-false}
 use lib.Seq.{getD-set-same}
 use Rattle.paper.specs.Tree.{Grown, grown, fieldAt, putField, sideClaim, newNode, nearSide, raise, enteredFrom, entered}
+use Rattle.paper.specs.Limits.{mostClaims}
 use Rattle.paper.proofs.FreeNodes.{takes-one}
 use Rattle.tree.specs.BuiltNodes.{Inside, Linked, Under, here, deeper, Holds, Neartree}
 use Rattle.tree.proofs.OneEntering.{other, still-linked, raise-length, side-small}
@@ -20,24 +21,36 @@ use Rattle.tree.proofs.Descent.{descend}
 
 -- ---- what is under a side
 
+-- where both sides have a claim, the right one has
+right-taken : (nodes : List ℕ) (m s k o : ℕ) → s < 2 → fieldAt nodes m s ≡ k + 1 → fieldAt nodes m (1 - s) ≡ o + 1 → fieldAt nodes m 1 ≡ 0 → ⊥
+right-taken nodes m zero k o hs p q z = omega arith
+right-taken nodes m (suc zero) k o hs p q z = omega arith
+right-taken nodes m (suc (suc s)) k o hs p q z = omega arith
+
+-- so what is numbered above both sides stays so
+later-grows : (used : ℕ) (nodes nodes' : List ℕ) → NodesGrow used nodes nodes' → (m s k o j : ℕ) → m < used → s < 2
+    → fieldAt nodes m s ≡ k + 1 → fieldAt nodes m (1 - s) ≡ o + 1 → fieldAt nodes m 1 ≤ j → fieldAt nodes' m 1 ≤ j
+later-grows used nodes nodes' g m s k o j hm hs p q later = rw (g .held m 1 hm (lit< tt) (right-taken nodes m s k o hs p q)) later
+
 -- what is under a side stays there
 pub under-grows : (used n : ℕ) (e : ℕ → ℕ → ℕ) (nodes nodes' : List ℕ) → Linked nodes used n → NodesGrow used nodes nodes'
     → (m s j : ℕ) → m < used → s < 2 → Under nodes e m s j → Under nodes' e m s j
 unfolding Linked
 under-grows used n e nodes nodes' lk g m s j hm hs (here p) = here (g .held m s hm hs (λ q. omega arith) ∙ p)
-under-grows used n e nodes nodes' lk g m s j hm hs (deeper k o w z p q p' near r hz u) =
-    deeper k o w z (g .held m s hm hs (λ q. omega arith) ∙ p) (le-trans q (g .far m s hm hs)) (g .held m (1 - s) hm (omega arith) (λ q. omega arith) ∙ p') near (g .below m s hm hs (λ q. omega arith) ∙ r) hz
+under-grows used n e nodes nodes' lk g m s j hm hs (deeper k o w z p q p' near later r hz u) =
+    deeper k o w z (g .held m s hm hs (λ q. omega arith) ∙ p) (le-trans q (g .far m s hm hs)) (g .held m (1 - s) hm (omega arith) (λ q. omega arith) ∙ p') near
+    (later-grows used nodes nodes' g m s k o j hm hs p p' later) (g .below m s hm hs (λ q. omega arith) ∙ r) hz
     (under-grows used n e nodes nodes' lk g w z j (omega (arith, lk m hm .leads s hs)) hz u)
 
 -- what the node below a side holds, the node above holds too, if the side's far distance reaches it
 above-holds : (used : ℕ) (e : ℕ → ℕ → ℕ) (nodes nodes' : List ℕ) → NodesGrow used nodes nodes' → (m s c o w j : ℕ) → m < used → s < 2
-    → fieldAt nodes m s ≡ c + 1 → e c j ≤ fieldAt nodes m (2 + s) → fieldAt nodes m (1 - s) ≡ o + 1 → e c j + s ≤ e o j → fieldAt nodes m (4 + s) ≡ w + 1 → Holds nodes' e w j → Holds nodes' e m j
-above-holds used e nodes nodes' g m s c o w j hm hs p q p' near r h =
+    → fieldAt nodes m s ≡ c + 1 → e c j ≤ fieldAt nodes m (2 + s) → fieldAt nodes m (1 - s) ≡ o + 1 → e c j + s ≤ e o j → fieldAt nodes m 1 ≤ j → fieldAt nodes m (4 + s) ≡ w + 1 → Holds nodes' e w j → Holds nodes' e m j
+above-holds used e nodes nodes' g m s c o w j hm hs p q p' near later r h =
     record {
       side = s;
       which = hs;
       under = deeper c o w (h .side) (g .held m s hm hs (λ q. omega arith) ∙ p) (le-trans q (g .far m s hm hs))
-          (g .held m (1 - s) hm (omega arith) (λ q. omega arith) ∙ p') near
+          (g .held m (1 - s) hm (omega arith) (λ q. omega arith) ∙ p') near (later-grows used nodes nodes' g m s c o j hm hs p p' later)
           (g .below m s hm hs (λ q. omega arith) ∙ r) (h .which) (h .under);
     }
 
@@ -103,9 +116,17 @@ module _ (e : ℕ → ℕ → ℕ) (used k m : ℕ) (nodes : List ℕ) (hm : m <
   claimed (suc zero) hs no1 = omega arith
   claimed (suc (suc s)) hs no1 = absurd (omega arith)
 
+  -- claim k is numbered above the right claim
+  above-right : fieldAt nodes m 1 ≤ k
+  unfolding Linked
+  above-right = lk m hm .stored 1 (lit< tt)
+
   module _ (s : ℕ) (hs : s < 2) (no1 : fieldAt nodes m 1 ≡ 0 → ⊥) (near : e (sideClaim nodes m s) k + s ≤ e (sideClaim nodes m (1 - s)) k) where
     in-m : Inside nodes m
     in-m = omega arith
+
+    right-kept : fieldAt (raise e nodes m s k) m 1 ≡ fieldAt nodes m 1
+    right-kept = raise-keeps e nodes m s k hs in-m 1 (lit< tt) (λ q. omega arith)
 
     new : fieldAt nodes m (4 + s) ≡ 0
         → EnteredFrom e used k m nodes (grown (newNode (putField (raise e nodes m s k) m (4 + s) (used + 1)) used k) (used + 1))
@@ -127,6 +148,7 @@ module _ (e : ℕ → ℕ → ℕ) (used k m : ℕ) (nodes : List ℕ) (hm : m <
               (g₂ .held m s hm hs (λ q. omega arith) ∙ held₁)
               (le-trans (raise-reaches e nodes m s k hs in-m c (claimed s hs no1)) (g₂ .far m s hm hs))
               (g₂ .held m (1 - s) hm (omega arith) (λ q. omega arith) ∙ held₁') near
+              (rw (g₂ .held m 1 hm (lit< tt) (λ q. no1 (sym right-kept ∙ q)), right-kept) above-right)
               (getD-set-same nodes₁ (m * 6 + (4 + s)) (used + 1) 0 (omega arith))
               (record { side = 0; which = lit< tt; under = here (fresh-left nodes₂ used k (omega arith)) });
           long = fresh-length nodes₂ used k ∙ len₂ ∙ len₁;
@@ -143,7 +165,7 @@ module _ (e : ℕ → ℕ → ℕ) (used k m : ℕ) (nodes : List ℕ) (hm : m <
           holds = above-holds used e nodes₁ (out .nodes) (deep .grows) m s c _ w k hm hs
               (raise-keeps e nodes m s k hs in-m s (omega arith) (λ q. omega arith) ∙ claimed s hs no1)
               (raise-reaches e nodes m s k hs in-m c (claimed s hs no1))
-              (raise-keeps e nodes m s k hs in-m (1 - s) (omega arith) (λ q. omega arith) ∙ claimed (1 - s) (omega arith) no1) near
+              (raise-keeps e nodes m s k hs in-m (1 - s) (omega arith) (λ q. omega arith) ∙ claimed (1 - s) (omega arith) no1) near (rw right-kept above-right)
               (raise-keeps e nodes m s k hs in-m (4 + s) (omega arith) (λ q. omega arith) ∙ r)
               (deep .holds);
           long = deep .long ∙ raise-length e nodes m k s;
@@ -162,7 +184,7 @@ place f e used k m = descend e used k (λ f m nodes out. EnteredFrom e used k m 
 -- ---- handed on
 
 -- entering the next claim keeps a neartree
-pub keeps : (e : ℕ → ℕ → ℕ) (used n : ℕ) (nodes : List ℕ) → Neartree nodes e used n → used * 6 + 6 ≤ length nodes → n + 1 < 2 ^ 64 - 1
+pub keeps : (e : ℕ → ℕ → ℕ) (used n : ℕ) (nodes : List ℕ) → Neartree nodes e used n → used * 6 + 6 ≤ length nodes → n + 1 ≤ mostClaims
     → Neartree (entered e used n nodes .nodes) e (entered e used n nodes .used) (n + 1)
 unfolding entered Linked
 keeps e zero n nodes h room few =

@@ -10,12 +10,12 @@ use Rattle.tree.specs.BuiltNodes.{Linked, Under, here, deeper, Holds, Se
 module _ (nodes : List ℕ) (e : ℕ → ℕ → ℕ) (m s : ℕ) where
   pub not-free : (j : ℕ) → Under nodes e m s j → fieldAt nodes m s ≡ 0 → ⊥
   not-free j (here p) z = omega arith
-  not-free j (deeper k x w y p q f g r h u) z = omega arith
+  not-free j (deeper k x w y p q f g t r h u) z = omega arith
 
   -- a claim under a side with nothing below is the side's
   pub only : (k j : ℕ) → fieldAt nodes m s ≡ k + 1 → fieldAt nodes m (4 + s) ≡ 0 → Under nodes e m s j → j ≡ k
   only k j at0 at4 (here p) = omega arith
-  only k j at0 at4 (deeper l x w y p q f g r h u) = absurd (omega arith)
+  only k j at0 at4 (deeper l x w y p q f g t r h u) = absurd (omega arith)
 
 two-sides-at : (nodes : List ℕ) (e : ℕ → ℕ → ℕ) (m j s : ℕ) → s < 2 → Under nodes e m s j → Under nodes e m 0 j ⊎ Under nodes e m 1 j
 two-sides-at nodes e m j zero h u = inl u

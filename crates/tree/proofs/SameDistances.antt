@@ -1,11 +1,12 @@
 -- Entering looks at no distance but those between claims that are entered: two distances that agree there build alike. Assumes nothing.
-use Prim.Native.Nat.{ℕ, zero, suc, _+_, _-_, _*_, _<_, _≤_, _^_}
+use Prim.Native.Nat.{ℕ, zero, suc, _+_, _-_, _*_, _<_, _≤_}
 use mathlib.Core.Path.{_≡_, refl, ap, _∙_}
 use mathlib.Core.List.{List}
 use native.Mathlib.Omega.{arith}
 use lib.ListN.{length}
 use lib.Dec.{lit<}
 use Rattle.paper.specs.Tree.{Grown, fieldAt, sideClaim, nearSide, raise, enteredFrom, entered, built}
+use Rattle.paper.specs.Limits.{mostClaims}
 use Rattle.tree.specs.BuiltNodes.{Linked}
 use Rattle.tree.proofs.OneEntering.{side-small, entered-stop, entered-new, entered-down}
 use Rattle.tree.proofs.Building.{build}
@@ -48,7 +49,7 @@ unfolding entered
 enter-ext e e' zero k a room lk same = refl
 enter-ext e e' (suc u) k a room lk same = place-ext (suc u) e e' (suc u) k 0 a (omega arith) (omega arith) room lk same
 
-pub build-ext : (e e' : ℕ → ℕ → ℕ) (n : ℕ) (a : List ℕ) → n * 6 ≤ length a → n < 2 ^ 64 - 1
+pub build-ext : (e e' : ℕ → ℕ → ℕ) (n : ℕ) (a : List ℕ) → n * 6 ≤ length a → n ≤ mostClaims
     → ((j k : ℕ) → j < k → k < n → e j k ≡ e' j k) → built e n a ≡ built e' n a
 unfolding built
 build-ext e e' zero a room few same = refl

@@ -100,7 +100,7 @@ module _ (measure d : ℕ) (coordinates : List ℤ) (nodes₀ nodes : List ℕ) 
   -- what rebuilding leaves of the memory
   pub rebuild-few : k * 6 ≤ length nodes₀ → k ≤ mostClaims → (used ≤ k) × (length nodes ≡ length nodes₀)
   rebuild-few room few =
-      let b : BuiltOver (apart measure d coordinates) k nodes₀ (grown nodes used) = rw is (build (apart measure d coordinates) k nodes₀ room (omega arith)) in
+      let b : BuiltOver (apart measure d coordinates) k nodes₀ (grown nodes used) = rw is (build (apart measure d coordinates) k nodes₀ room few) in
       (b .few, b .long)
 
 pub rebuild-start : (e : ℕ → ℕ → ℕ) (nodes : List ℕ) → grown nodes 0 ≡ built e 0 nodes
@@ -114,7 +114,7 @@ alike-afresh : (e : ℕ → ℕ → ℕ) (nodes : List ℕ) (n : ℕ) → n * 6 
 unfolding afresh
 alike-afresh e nodes n room few =
     let l = length-replicate {A = ℕ} (n * 6) 0 in
-    build-alike e n (replicate (n * 6) 0) nodes (omega arith) (omega arith) (omega arith)
+    build-alike e n (replicate (n * 6) 0) nodes (omega arith) few (omega arith)
 
 module _ (s : Store) where
   pub sound-over : s .table .capacity < s .table .count → false ≡ sound s
@@ -162,7 +162,7 @@ sound-good s f hs =
     let room : n * 6 ≤ length (s .nodes) = omega (arith, f .lent .nodes) in
     let few : n ≤ mostClaims = omega (arith, f .lent .most) in
     let h = alike-afresh e (s .nodes) n room few in
-    let b = build e n (s .nodes) room (omega arith) in
+    let b = build e n (s .nodes) room few in
     let x : Grown = built e n (s .nodes) in
     let xu : x .used ≡ t .used = sym (h .used) ∙ hu in
     let eq : x .nodes ≡ s .nodes = same-list (x .nodes) (s .nodes) (t .used) (b .long)
@@ -191,7 +191,7 @@ module _ (s : Store) (g : Good s) where
 
   pub good-built : BuiltOver (apartIn s) (s .table .count) (s .nodes) (grown (s .nodes) (s .table .used))
   unfolding IsBuilt
-  good-built = rw (g .built) at (build (apartIn s) (s .table .count) (s .nodes) room (omega (arith, good-few)))
+  good-built = rw (g .built) at (build (apartIn s) (s .table .count) (s .nodes) room good-few)
 
   -- what a walk needs
   pub good-tree : Neartree (s .nodes) (apartIn s) (s .table .used) (s .table .count)

@@ -6,7 +6,7 @@ use mathlib.Core.List.{List}
 use lib.IntN.{ℤ}
 use lib.ListN.{length}
 use Rattle.paper.specs.Tree.{fieldAt, grown, built}
-use Rattle.paper.specs.Limits.{mostCoordinates}
+use Rattle.paper.specs.Limits.{mostClaims, mostCoordinates}
 
 -- node m has all of its six numbers
 abbrev pub Inside : List ℕ → ℕ → Type 0
@@ -23,11 +23,12 @@ unfoldable pub Linked : List ℕ → ℕ → ℕ → Type 0
 Linked nodes used n = (m : ℕ) → m < used → NodeOk nodes used n m
 
 -- [3.8] [3.9] claim j is on side s of node m, or below it: then the side's far distance reaches it, and the side is the nearer one of the
--- node's two, the left one of two as near
+-- node's two, the left one of two as near. A claim goes below a side only where both sides are taken, so it is numbered above both: field 1 is
+-- the number of the right claim, the later of the two, plus one
 pub data Under (nodes : List ℕ) (e : ℕ → ℕ → ℕ) : ℕ → ℕ → ℕ → Type 0 where
   here : {m s j : ℕ} → fieldAt nodes m s ≡ j + 1 → Under nodes e m s j
   deeper : {m s j : ℕ} (k o w z : ℕ) → fieldAt nodes m s ≡ k + 1 → e k j ≤ fieldAt nodes m (2 + s) → fieldAt nodes m (1 - s) ≡ o + 1 → e k j + s ≤ e o j
-      → fieldAt nodes m (4 + s) ≡ w + 1 → z < 2 → Under nodes e w z j → Under nodes e m s j
+      → fieldAt nodes m 1 ≤ j → fieldAt nodes m (4 + s) ≡ w + 1 → z < 2 → Under nodes e w z j → Under nodes e m s j
 
 -- claim j is on a side of node m, or below it
 pub record Holds (nodes : List ℕ) (e : ℕ → ℕ → ℕ) (m j : ℕ) : Type 0 where
@@ -45,7 +46,7 @@ pub record Searchable (nodes : List ℕ) (used n m : ℕ) : Type 0 where
 pub record Neartree (nodes : List ℕ) (e : ℕ → ℕ → ℕ) (used n : ℕ) : Type 0 where
   pub linked : Linked nodes used n
   pub room : used * 6 ≤ length nodes
-  pub few : n < 2 ^ 64 - 1
+  pub few : n ≤ mostClaims
   pub empty : used ≡ 0 → n ≡ 0
   pub all : (j : ℕ) → j < n → Holds nodes e 0 j
 
