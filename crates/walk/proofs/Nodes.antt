@@ -49,7 +49,7 @@ module _ (ask : Asked) (references : List ℕ) (k x : ℕ) (o : List ℕ) (count
 module _ (nodes : List ℕ) (e : ℕ → ℕ → ℕ) where
   parts : (m s k j : ℕ) → k ≡ fieldAt nodes m s - 1 → Under nodes e m s j → (j ≡ k) ⊎ Below nodes e m s k j
   parts m s k j p (here q) = inl (omega arith)
-  parts m s k j p (deeper l x w z q near side closer leads hz u) =
+  parts m s k j p (deeper l x w z q near side closer later leads hz u) =
       let y : l ≡ k = omega arith in
       let v : x ≡ fieldAt nodes m (1 - s) - 1 = omega arith in
       inr
@@ -57,6 +57,7 @@ module _ (nodes : List ℕ) (e : ℕ → ℕ → ℕ) where
         near = rw (← y) near;
         beside = λ z. omega arith;
         closer = rw (← y, ← v) closer;
+        later = later;
         room = w;
         leads = leads;
         holds = record { side = z; which = hz; under = u };
@@ -64,7 +65,7 @@ module _ (nodes : List ℕ) (e : ℕ → ℕ → ℕ) where
 
   not-free : (m s j : ℕ) → Under nodes e m s j → fieldAt nodes m s ≡ 0 → ⊥
   not-free m s j (here p) z = omega arith
-  not-free m s j (deeper k x w y p q f g r h u) z = omega arith
+  not-free m s j (deeper k x w y p q f g t r h u) z = omega arith
 
   two-sides-at : (m j s : ℕ) → s < 2 → Under nodes e m s j → Under nodes e m 0 j ⊎ Under nodes e m 1 j
   two-sides-at m j zero h u = inl u

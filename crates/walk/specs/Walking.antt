@@ -54,11 +54,12 @@ pub record Metric (e : ℕ → ℕ → ℕ) (dist : ℕ → ℕ) : Type 0 where
   pub back : (k j : ℕ) → dist j ≤ e k j + dist k
   pub between : (k j : ℕ) → e k j ≤ dist k + dist j
 
--- a claim below side s of node m, where k is the side's claim
+-- a claim below side s of node m, where k is the side's claim: numbered above the claims of both sides, as it was entered after both
 pub record Below (nodes : List ℕ) (e : ℕ → ℕ → ℕ) (m s k j : ℕ) : Type 0 where
   pub near : e k j ≤ fieldAt nodes m (2 + s)
   pub beside : fieldAt nodes m (1 - s) ≡ 0 → ⊥
   pub closer : e k j + s ≤ e (fieldAt nodes m (1 - s) - 1) j
+  pub later : fieldAt nodes m 1 ≤ j
   pub room : ℕ
   pub leads : fieldAt nodes m (4 + s) ≡ room + 1
   pub holds : Holds nodes e room j
