@@ -161,11 +161,14 @@ module _ {e : ℕ → ℕ → ℕ} {used k : ℕ} {nodes₀ nodes : List ℕ} {m
       go zero en sm = absurd (omega (arith, g .inUse))
       go (suc f) en sm = sym sm ∙ entered-new f e used k m nodes (t .full) (rw (← (t .near)) (sym read ∙ z))
 
-  pub going-rises : (below ≡ 0 → ⊥) → m < below - 1
+  going-rises : (below ≡ 0 → ⊥) → m < below - 1
   unfolding Linked
   going-rises no4 =
       let hs : s < 2 = rw (t .near) (side-small e nodes m k) in
       omega (arith, g .linked m (g .inUse) .rises s hs (λ q. no4 (read ∙ q)))
+
+  pub going-less : (below ≡ 0 → ⊥) → used - (below - 1) < used - m
+  going-less no4 = omega (arith, going-rises no4, g .inUse)
 
   pub going-down : (below ≡ 0 → ⊥) → EnteringGoing e used k nodes₀ nodes' (below - 1)
   unfolding Linked

@@ -23,7 +23,8 @@ fn widen(nodes: &mut [u64], m: usize, s: usize, distance: u64)
     store(nodes, m, 2 + s, larger(far, distance));
 }
 
-// [3.5] [3.7] [3.10] [3.11] Enters claim k, and gives the number of nodes then in use.
+// [3.5] [3.7] [3.8] [3.10] [3.11] Enters claim k, below the nearer side of each node, the left one of two as near, and gives the number
+// of nodes then in use.
 pub fn enter(
     nodes: &mut [u64],
     measure: u8,

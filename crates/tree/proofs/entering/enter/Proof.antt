@@ -1,4 +1,4 @@
--- `tree::entering::enter` meets its contract: the loop goes down as `placed` does. Assumes nothing.
+-- `tree::entering::enter` meets its contract: the loop goes down as `enteredFrom` does. Assumes nothing.
 use borrow.Author.Needs.{needs}
 use Prim.Native.Nat.{ℕ, _+_, _-_, _*_, _<_, _^_}
 use mathlib.Core.Path.{_≡_, sym, ap, _∙_}
@@ -10,7 +10,7 @@ use mir.Syntax.{w64}
 use mir.Val.{Fits}
 use Rattle.paper.specs.Tree.{Grown, fieldAt, newNode, apart}
 use Rattle.measure.specs.Measured.{PairAt}
-use Rattle.tree.proofs.OneEntering.{EnteringGoing, GoingBelow, going-start, entered-first, below-left, below-right, going-claim, going-pair, going-stop, going-new, going-rises, going-down}
+use Rattle.tree.proofs.OneEntering.{EnteringGoing, GoingBelow, going-start, entered-first, below-left, below-right, going-claim, going-pair, going-stop, going-new, going-less, going-down}
 use Rattle.tree.proofs.entering.enter.Statement.{statement}
 use Rattle.tree.proofs.entering.enter.Tie as tie
 
@@ -151,10 +151,7 @@ sub-m : tie.Need-sub-m Inv-loop μ-loop
 sub-m c = omega arith
 
 loop-less : tie.Need-loop-less Inv-loop μ-loop
-loop-less c =
-    let inUse = c .before .before .before .before .before .before .before .before .before .before .before .before .before .before .before .before .before .loop .inv .inUse in
-    let up = going-rises (left (c .before .before .before .before .before .before .before)) (c .before .before .before .before .before .field4 .ensures) (c .before .before .before .widen .ensures) (c .if4 .left) in
-    omega arith
+loop-less c = going-less (left (c .before .before .before .before .before .before .before)) (c .before .before .before .before .before .field4 .ensures) (c .before .before .before .widen .ensures) (c .if4 .left)
 
 loop-again : tie.Need-loop-again Inv-loop μ-loop
 loop-again c = going-down (left (c .before .before .before .before .before .before .before)) (c .before .before .before .before .before .field4 .ensures) (c .before .before .before .widen .ensures) (c .if4 .left)
@@ -195,10 +192,7 @@ sub-m-2 : tie.Need-sub-m-2 Inv-loop μ-loop
 sub-m-2 c = omega arith
 
 loop-less-2 : tie.Need-loop-less-2 Inv-loop μ-loop
-loop-less-2 c =
-    let inUse = c .before .before .before .before .before .before .before .before .before .before .before .before .before .before .before .before .before .loop .inv .inUse in
-    let up = going-rises (right (c .before .before .before .before .before .before .before)) (c .before .before .before .before .before .field5 .ensures) (c .before .before .before .widen2 .ensures) (c .if5 .left) in
-    omega arith
+loop-less-2 c = going-less (right (c .before .before .before .before .before .before .before)) (c .before .before .before .before .before .field5 .ensures) (c .before .before .before .widen2 .ensures) (c .if5 .left)
 
 loop-again-2 : tie.Need-loop-again-2 Inv-loop μ-loop
 loop-again-2 c = going-down (right (c .before .before .before .before .before .before .before)) (c .before .before .before .before .before .field5 .ensures) (c .before .before .before .widen2 .ensures) (c .if5 .left)
