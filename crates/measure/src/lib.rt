@@ -8,6 +8,9 @@ ghost use Rattle.paper.specs.Points.{distance as Points·distance};
 ghost use Rattle.paper.specs.Limits.{mostCoordinates};
 use paper::points::Measure;
 
+pub mod few;
+pub mod one;
+
 // [1.5] |x - y|. At 32 bits the difference would overflow, so it is taken at 64.
 pub fn gap(x: i32, y: i32) -> u64
     ensures { λ r. ⌜ (r ≡ natAbs (x -ℤ y)) × (r ≤ 4294967295) ⌝ }
@@ -54,4 +57,10 @@ pub fn distance(measure: u8, d: usize, a: &[i32], at: usize, b: &[i32], bt: usiz
     ensures bounded { λ r. ⌜ r ≤ greatestOf (measureOf measure) d ⌝ }
 {
     measured(Measure::numbered(measure), d, a, at, b, bt)
+}
+
+// How far two claims are from a third point.
+pub struct Pair {
+    pub left: u64,
+    pub right: u64,
 }

@@ -1,15 +1,18 @@
--- Laws of entering: one for each way through `nearer` and a turn of `enter`. Assumes nothing.
+-- Laws of entering: one for each way through a turn of `enter`. Assumes nothing.
 use Prim.Native.Nat.{ℕ, zero, suc, _+_, _-_, _*_, _<_, _≤_, max}
 use mathlib.Core.Path.{_≡_, refl, sym, ap, _∙_}
 use mathlib.Core.List.{List}
 use native.Mathlib.Omega.{arith}
+use lib.IntN.{ℤ}
 use lib.ListN.{length, length-set}
 use lib.Dec.{leb, lit<}
 use mathlib.Core.Bool.{Bool, true, false, cond}
 use lib.Seq.{getD-set-other}
 use borrow.Author.Tests.{le-leb, lt-leb, eq-eqb, ne-eqb}
 use Rattle.paper.specs.Tree.{grown, fieldAt, putField, sideClaim, newNode, nearSide, raise, enteredFrom, entered}
-use Rattle.tree.specs.BuiltNodes.{Linked, HasClaim}
+use Rattle.measure.specs.Measured.{PairAt}
+use Rattle.tree.specs.BuiltNodes.{Linked, Located}
+use Rattle.tree.proofs.PointsInMemory.{located-at}
 
 -- ---- a field stored, and a far distance raised
 
@@ -18,19 +21,6 @@ pub other : (nodes : List ℕ) (m f v n g : ℕ) → f < 6 → g < 6 → (f ≡ 
 other nodes m f v n g hf hg ne = getD-set-other nodes (m * 6 + f) (n * 6 + g) v 0 (λ q. ne (omega arith))
 
 module _ (e : ℕ → ℕ → ℕ) (nodes : List ℕ) (m k : ℕ) where
-  module _ (l r dl dr : ℕ) (pl : l ≡ fieldAt nodes m 0) (pr : r ≡ fieldAt nodes m 1) (ql : dl ≡ e (l - 1) k) (qr : dr ≡ e (r - 1) k) where
-    pub near-left : dl ≤ dr → (0 ≡ nearSide e nodes m k) × (dl ≡ e (sideClaim nodes m 0) k)
-    unfolding nearSide
-    near-left h =
-        let t : leb (e (sideClaim nodes m 0) k) (e (sideClaim nodes m 1) k) ≡ true = rw (← pl, ← pr, ← ql, ← qr) (le-leb dl dr h) in
-        (sym (ap (λ (b : Bool). cond {A = ℕ} b 0 1) t), rw (← pl) ql)
-
-    pub near-right : dr < dl → (1 ≡ nearSide e nodes m k) × (dr ≡ e (sideClaim nodes m 1) k)
-    unfolding nearSide
-    near-right h =
-        let t : leb (e (sideClaim nodes m 0) k) (e (sideClaim nodes m 1) k) ≡ false = rw (← pl, ← pr, ← ql, ← qr) (lt-leb dl dr h) in
-        (sym (ap (λ (b : Bool). cond {A = ℕ} b 0 1) t), rw (← pr) qr)
-
   pub side-small : nearSide e nodes m k < 2
   unfolding nearSide
   side-small = go (leb (e (sideClaim nodes m 0) k) (e (sideClaim nodes m 1) k))
@@ -101,17 +91,29 @@ pub entered-first : (e : ℕ → ℕ → ℕ) (used k : ℕ) (nodes : List ℕ) 
 unfolding entered
 entered-first e used k nodes z = rw z
 
-module _ (e : ℕ → ℕ → ℕ) (used k : ℕ) (nodes₀ nodes : List ℕ) (m : ℕ) (g : EnteringGoing e used k nodes₀ nodes m) where
-  -- a claim of the node is stored
-  pub going-claim : (s : ℕ) → s < 2 → used * 6 + 6 ≤ length nodes₀ → (fieldAt nodes m 1 ≡ 0 → ⊥) → HasClaim nodes k m s
+module _ {e : ℕ → ℕ → ℕ} {used k : ℕ} {nodes₀ nodes : List ℕ} {m : ℕ} (g : EnteringGoing e used k nodes₀ nodes m) where
+  -- where the node has a claim on its right, both of its claims are stored
+  pub going-claim : {l s : ℕ} → s < 2 → (fieldAt nodes m 1 ≡ 0 → ⊥) → l ≡ fieldAt nodes m s → (0 < l) × (l ≤ k)
   unfolding Linked
-  going-claim zero hs room no1 =
+  going-claim {l} {s} hs no1 e =
       let ok = g .linked m (g .inUse) in
-      record { inside = omega (arith, g .long); held = ok .left; stored = ok .stored 0 (lit< tt) }
-  going-claim (suc zero) hs room no1 =
-      let ok = g .linked m (g .inUse) in
-      record { inside = omega (arith, g .long); held = omega arith; stored = ok .stored 1 (lit< tt) }
-  going-claim (suc (suc s)) hs room no1 = absurd (omega arith)
+      rw e (held s hs (ok .left), ok .stored s hs)
+    where
+      held : (s : ℕ) → s < 2 → 0 < fieldAt nodes m 0 → 0 < fieldAt nodes m s
+      held zero hs h = h
+      held (suc zero) hs h = omega arith
+      held (suc (suc s)) hs h = absurd (omega arith)
+
+  pub going-pair : {l r d : ℕ} {coordinates : List ℤ} → (fieldAt nodes m 1 ≡ 0 → ⊥) → l ≡ fieldAt nodes m 0 → r ≡ fieldAt nodes m 1 → Located d (k + 1) coordinates
+      → PairAt d coordinates ((l - 1) * d) ((r - 1) * d) coordinates (k * d)
+  going-pair {l} {r} {d} {coordinates} full pl pr h =
+      let a = going-claim {s = 0} (lit< tt) full pl in
+      let b = going-claim {s = 1} (lit< tt) full pr in
+      let third = located-at d (k + 1) k coordinates h (omega arith) in
+      record {
+        left-at = record { first = located-at d (k + 1) (l - 1) coordinates h (omega arith); second = third };
+        right-at = record { first = located-at d (k + 1) (r - 1) coordinates h (omega arith); second = third };
+      }
 
   pub going-stop : fieldAt nodes m 1 ≡ 0 → entered e used k nodes₀ ≡ grown (putField nodes m 1 (k + 1)) used
   going-stop z = go (g .fuel) (g .enough) (g .same)
@@ -120,39 +122,71 @@ module _ (e : ℕ → ℕ → ℕ) (used k : ℕ) (nodes₀ nodes : List ℕ) (m
       go zero en sm = absurd (omega (arith, g .inUse))
       go (suc f) en sm = sym sm ∙ entered-stop f e used k m nodes z
 
-  module _ (s below : ℕ) (nodes' : List ℕ) (no1 : fieldAt nodes m 1 ≡ 0 → ⊥) (near : s ≡ nearSide e nodes m k)
-      (read : below ≡ fieldAt nodes m (4 + s)) (lifted : nodes' ≡ raise e nodes m s k) where
-    pub going-new : below ≡ 0 → entered e used k nodes₀ ≡ grown (newNode (putField nodes' m (4 + s) (used + 1)) used k) (used + 1)
-    going-new z = rw (lifted, near) (go (g .fuel) (g .enough) (g .same))
-      where
-        go : (f : ℕ) → used ≤ m + f → enteredFrom f e used k m nodes ≡ entered e used k nodes₀
-            → entered e used k nodes₀ ≡ grown (newNode (putField (raise e nodes m (nearSide e nodes m k) k) m (4 + nearSide e nodes m k) (used + 1)) used k) (used + 1)
-        go zero en sm = absurd (omega (arith, g .inUse))
-        go (suc f) en sm = sym sm ∙ entered-new f e used k m nodes no1 (rw (← near) (sym read ∙ z))
+-- a turn that goes below side s of the node, whose claim is x away from claim k
+pub record GoingBelow (e : ℕ → ℕ → ℕ) (used k : ℕ) (nodes₀ nodes : List ℕ) (m s x : ℕ) : Type 0 where
+  pub going : EnteringGoing e used k nodes₀ nodes m
+  pub full : fieldAt nodes m 1 ≡ 0 → ⊥
+  pub near : s ≡ nearSide e nodes m k
+  pub away : x ≡ e (sideClaim nodes m s) k
 
-    pub going-rises : (below ≡ 0 → ⊥) → m < below - 1
-    unfolding Linked
-    going-rises no4 =
-        let hs : s < 2 = rw near (side-small e nodes m k) in
-        omega (arith, g .linked m (g .inUse) .rises s hs (λ q. no4 (read ∙ q)))
+-- the nearer of the node's two sides, by the distances dl and dr of its claims
+module _ {e : ℕ → ℕ → ℕ} {used k : ℕ} {nodes₀ nodes : List ℕ} {m l r dl dr : ℕ} (g : EnteringGoing e used k nodes₀ nodes m) (full : fieldAt nodes m 1 ≡ 0 → ⊥)
+    (pl : l ≡ fieldAt nodes m 0) (pr : r ≡ fieldAt nodes m 1) (ql : dl ≡ e (l - 1) k) (qr : dr ≡ e (r - 1) k) where
+  pub below-left : dl ≤ dr → GoingBelow e used k nodes₀ nodes m 0 dl
+  unfolding nearSide
+  below-left h =
+      let t : leb (e (sideClaim nodes m 0) k) (e (sideClaim nodes m 1) k) ≡ true = rw (← pl, ← pr, ← ql, ← qr) (le-leb dl dr h) in
+      record { going = g; full = full; near = sym (ap (λ (b : Bool). cond {A = ℕ} b 0 1) t); away = rw (← pl) ql }
 
-    pub going-down : (below ≡ 0 → ⊥) → EnteringGoing e used k nodes₀ nodes' (below - 1)
-    unfolding Linked
-    going-down no4 =
-        let hs : s < 2 = rw near (side-small e nodes m k) in
-        let up = going-rises no4 in
-        record {
-          fuel = g .fuel - 1;
-          enough = omega (arith, g .enough);
-          inUse = omega (arith, g .linked m (g .inUse) .leads s hs);
-          long = rw lifted (raise-length e nodes m k s ∙ g .long);
-          linked = rw lifted (still-linked e nodes m k s used k hs (g .linked));
-          same = go (g .fuel) (g .enough) (g .same);
-        }
-      where
-        go : (f : ℕ) → used ≤ m + f → enteredFrom f e used k m nodes ≡ entered e used k nodes₀
-            → enteredFrom (f - 1) e used k (below - 1) nodes' ≡ entered e used k nodes₀
-        go zero en sm = absurd (omega (arith, g .inUse))
-        go (suc f) en sm =
-            let pf : suc f - 1 ≡ f = omega arith in
-            rw (pf, lifted, read, near) (sym (entered-down f e used k m nodes no1 (λ q. no4 (read ∙ rw near q))) ∙ sm)
+  pub below-right : dr < dl → GoingBelow e used k nodes₀ nodes m 1 dr
+  unfolding nearSide
+  below-right h =
+      let t : leb (e (sideClaim nodes m 0) k) (e (sideClaim nodes m 1) k) ≡ false = rw (← pl, ← pr, ← ql, ← qr) (lt-leb dl dr h) in
+      record { going = g; full = full; near = sym (ap (λ (b : Bool). cond {A = ℕ} b 0 1) t); away = rw (← pr) qr }
+
+-- the side's node below is `below`, and its far distance is raised in nodes'
+module _ {e : ℕ → ℕ → ℕ} {used k : ℕ} {nodes₀ nodes : List ℕ} {m s x : ℕ} (t : GoingBelow e used k nodes₀ nodes m s x) {below : ℕ} {nodes' : List ℕ}
+    (read : below ≡ fieldAt nodes m (4 + s)) (widened : nodes' ≡ putField nodes m (2 + s) (max (fieldAt nodes m (2 + s)) x)) where
+  g : EnteringGoing e used k nodes₀ nodes m
+  g = t .going
+
+  lifted : nodes' ≡ raise e nodes m s k
+  lifted = widened ∙ raised e nodes m k s x (t .away)
+
+  pub going-new : below ≡ 0 → entered e used k nodes₀ ≡ grown (newNode (putField nodes' m (4 + s) (used + 1)) used k) (used + 1)
+  going-new z = rw (lifted, t .near) (go (g .fuel) (g .enough) (g .same))
+    where
+      go : (f : ℕ) → used ≤ m + f → enteredFrom f e used k m nodes ≡ entered e used k nodes₀
+          → entered e used k nodes₀ ≡ grown (newNode (putField (raise e nodes m (nearSide e nodes m k) k) m (4 + nearSide e nodes m k) (used + 1)) used k) (used + 1)
+      go zero en sm = absurd (omega (arith, g .inUse))
+      go (suc f) en sm = sym sm ∙ entered-new f e used k m nodes (t .full) (rw (← (t .near)) (sym read ∙ z))
+
+  going-rises : (below ≡ 0 → ⊥) → m < below - 1
+  unfolding Linked
+  going-rises no4 =
+      let hs : s < 2 = rw (t .near) (side-small e nodes m k) in
+      omega (arith, g .linked m (g .inUse) .rises s hs (λ q. no4 (read ∙ q)))
+
+  pub going-less : (below ≡ 0 → ⊥) → used - (below - 1) < used - m
+  going-less no4 = omega (arith, going-rises no4, g .inUse)
+
+  pub going-down : (below ≡ 0 → ⊥) → EnteringGoing e used k nodes₀ nodes' (below - 1)
+  unfolding Linked
+  going-down no4 =
+      let hs : s < 2 = rw (t .near) (side-small e nodes m k) in
+      let up = going-rises no4 in
+      record {
+        fuel = g .fuel - 1;
+        enough = omega (arith, g .enough);
+        inUse = omega (arith, g .linked m (g .inUse) .leads s hs);
+        long = rw lifted (raise-length e nodes m k s ∙ g .long);
+        linked = rw lifted (still-linked e nodes m k s used k hs (g .linked));
+        same = go (g .fuel) (g .enough) (g .same);
+      }
+    where
+      go : (f : ℕ) → used ≤ m + f → enteredFrom f e used k m nodes ≡ entered e used k nodes₀
+          → enteredFrom (f - 1) e used k (below - 1) nodes' ≡ entered e used k nodes₀
+      go zero en sm = absurd (omega (arith, g .inUse))
+      go (suc f) en sm =
+          let pf : suc f - 1 ≡ f = omega arith in
+          rw (pf, lifted, read, t .near) (sym (entered-down f e used k m nodes (t .full) (λ q. no4 (read ∙ rw (t .near) q))) ∙ sm)

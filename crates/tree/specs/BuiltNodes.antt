@@ -50,12 +50,6 @@ pub record Neartree (nodes : List ℕ) (e : ℕ → ℕ → ℕ) (used n : ℕ) 
   pub empty : used ≡ 0 → n ≡ 0
   pub all : (j : ℕ) → j < n → Holds nodes e 0 j
 
--- side s of node m has a stored claim
-pub record HasClaim (nodes : List ℕ) (n m s : ℕ) : Type 0 where
-  pub inside : Inside nodes m
-  pub held : 0 < fieldAt nodes m s
-  pub stored : fieldAt nodes m s ≤ n
-
 -- claims numbered below n have their d coordinates in the lent memory
 pub record Located (d n : ℕ) (coordinates : List ℤ) : Type 0 where
   pub narrow : d ≤ mostCoordinates

@@ -1,49 +1,12 @@
 // Entering one claim, from the root.
 ghost use mathlib.Core.Path.{_≡_};
 ghost use Prim.Native.Nat.{_+_, _<_, max};
-ghost use Rattle.paper.specs.Tree.{fieldAt, putField, sideClaim, nearSide, entered, apart};
-ghost use Rattle.tree.specs.BuiltNodes.{Inside, HasClaim, Located, Enterable};
+ghost use Rattle.paper.specs.Tree.{fieldAt, putField, entered, apart};
+ghost use Rattle.tree.specs.BuiltNodes.{Inside, Enterable};
+use super::measuring::from_both;
 use super::nodes::field;
 use super::nodes::make;
 use super::nodes::store;
-
-// How far claims j and k are apart.
-pub fn between(measure: u8, d: usize, coordinates: &[i32], j: u64, k: u64) -> u64
-    requires { ⌜ (j < k) × Located d (k + 1) (now coordinates) ⌝ }
-    ensures { λ r. ⌜ r ≡ apart measure d (now (coordinates .entry)) j k ⌝ }
-{
-    let at = j as usize * d;
-    let bt = k as usize * d;
-    measure::distance(measure, d, coordinates, at, coordinates, bt)
-}
-
-// The side of a node that is nearer to a claim, and how far that side's claim is from it.
-pub struct NearSide {
-    pub side: usize,
-    pub distance: u64,
-}
-
-// [3.8] The side of node m that claim k goes below: the left one of two as near.
-fn nearer(nodes: &[u64], measure: u8, d: usize, coordinates: &[i32], m: usize, k: u64) -> NearSide
-    requires { ⌜ (HasClaim (now nodes) k m 0 × HasClaim (now nodes) k m 1) × Located d (k + 1) (now coordinates) ⌝ }
-    ensures { λ r. ⌜ (r .side ≡ nearSide (apart measure d (now (coordinates .entry))) (now (nodes .entry)) m k)
-        × (r .distance ≡ apart measure d (now (coordinates .entry)) (sideClaim (now (nodes .entry)) m (r .side)) k) ⌝ }
-{
-    let left = field(nodes, m, 0);
-    let right = field(nodes, m, 1);
-    let to_left = between(measure, d, coordinates, left - 1, k);
-    let to_right = between(measure, d, coordinates, right - 1, k);
-    if to_left <= to_right {
-        return NearSide {
-            side: 0,
-            distance: to_left,
-        };
-    }
-    NearSide {
-        side: 1,
-        distance: to_right,
-    }
-}
 
 fn larger(a: u64, b: u64) -> u64
     ensures { λ r. ⌜ r ≡ max a b ⌝ }
@@ -60,7 +23,8 @@ fn widen(nodes: &mut [u64], m: usize, s: usize, distance: u64)
     store(nodes, m, 2 + s, larger(far, distance));
 }
 
-// [3.5] [3.7] [3.10] [3.11] Enters claim k, and gives the number of nodes then in use.
+// [3.5] [3.7] [3.8] [3.10] [3.11] Enters claim k, below the nearer side of each node, the left one of two as near, and gives the number
+// of nodes then in use.
 pub fn enter(
     nodes: &mut [u64],
     measure: u8,
@@ -83,12 +47,31 @@ pub fn enter(
             store(nodes, m, 1, k + 1);
             return used;
         }
-        let near = nearer(nodes, measure, d, coordinates, m, k);
-        let s = near.side;
-        let below = field(nodes, m, 4 + s);
-        widen(nodes, m, s, near.distance);
+        let left = field(nodes, m, 0);
+        let right = field(nodes, m, 1);
+        let to = from_both(
+            measure,
+            d,
+            coordinates,
+            (left - 1) as usize * d,
+            (right - 1) as usize * d,
+            k as usize * d,
+        );
+        if to.left <= to.right {
+            let below = field(nodes, m, 4);
+            widen(nodes, m, 0, to.left);
+            if below == 0 {
+                store(nodes, m, 4, used as u64 + 1);
+                make(nodes, used, k);
+                return used + 1;
+            }
+            m = (below - 1) as usize;
+            continue;
+        }
+        let below = field(nodes, m, 5);
+        widen(nodes, m, 1, to.right);
         if below == 0 {
-            store(nodes, m, 4 + s, used as u64 + 1);
+            store(nodes, m, 5, used as u64 + 1);
             make(nodes, used, k);
             return used + 1;
         }
