@@ -17,10 +17,10 @@ pub record DistanceIs (m : Measure) (d : ℕ) (a : List ℤ) (at : ℕ) (b : Lis
   pub exact : r ≡ distance m d (drop at a) (drop bt b)
   pub bounded : r ≤ greatestOf m d
 
--- two points of a, at `left` and at `right`, and one of b
-pub record PairAt (d : ℕ) (a : List ℤ) (left right : ℕ) (b : List ℤ) (bt : ℕ) : Type 0 where
-  pub left-at : PointsAt d a left b bt
-  pub right-at : PointsAt d a right b bt
+-- two points stand at `left` and at `right` of a
+pub record TwoAt (d : ℕ) (a : List ℤ) (left right : ℕ) : Type 0 where
+  pub left-at : left + d ≤ length a
+  pub right-at : right + d ≤ length a
 
 -- x and y are how far the points at `left` and at `right` of a are from the one at `bt` of b
 pub record PairIs (m : Measure) (d : ℕ) (a : List ℤ) (left right : ℕ) (b : List ℤ) (bt x y : ℕ) : Type 0 where

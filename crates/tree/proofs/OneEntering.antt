@@ -10,7 +10,7 @@ use mathlib.Core.Bool.{Bool, true, false, cond}
 use lib.Seq.{getD-set-other}
 use borrow.Author.Tests.{le-leb, lt-leb, eq-eqb, ne-eqb}
 use Rattle.paper.specs.Tree.{grown, fieldAt, putField, sideClaim, newNode, nearSide, raise, enteredFrom, entered}
-use Rattle.measure.specs.Measured.{PairAt}
+use Rattle.measure.specs.Measured.{TwoAt}
 use Rattle.tree.specs.BuiltNodes.{Linked, Located}
 use Rattle.tree.proofs.PointsInMemory.{located-at}
 
@@ -104,16 +104,12 @@ module _ {e : ℕ → ℕ → ℕ} {used k : ℕ} {nodes₀ nodes : List ℕ} {m
       held (suc zero) hs h = omega arith
       held (suc (suc s)) hs h = absurd (omega arith)
 
-  pub going-pair : {l r d : ℕ} {coordinates : List ℤ} → (fieldAt nodes m 1 ≡ 0 → ⊥) → l ≡ fieldAt nodes m 0 → r ≡ fieldAt nodes m 1 → Located d (k + 1) coordinates
-      → PairAt d coordinates ((l - 1) * d) ((r - 1) * d) coordinates (k * d)
-  going-pair {l} {r} {d} {coordinates} full pl pr h =
+  pub going-two : {l r d : ℕ} {coordinates : List ℤ} → (fieldAt nodes m 1 ≡ 0 → ⊥) → l ≡ fieldAt nodes m 0 → r ≡ fieldAt nodes m 1 → Located d (k + 1) coordinates
+      → TwoAt d coordinates ((l - 1) * d) ((r - 1) * d)
+  going-two {l} {r} {d} {coordinates} full pl pr h =
       let a = going-claim {s = 0} (lit< tt) full pl in
       let b = going-claim {s = 1} (lit< tt) full pr in
-      let third = located-at d (k + 1) k coordinates h (omega arith) in
-      record {
-        left-at = record { first = located-at d (k + 1) (l - 1) coordinates h (omega arith); second = third };
-        right-at = record { first = located-at d (k + 1) (r - 1) coordinates h (omega arith); second = third };
-      }
+      record { left-at = located-at d (k + 1) (l - 1) coordinates h (omega arith); right-at = located-at d (k + 1) (r - 1) coordinates h (omega arith) }
 
   pub going-stop : fieldAt nodes m 1 ≡ 0 → entered e used k nodes₀ ≡ grown (putField nodes m 1 (k + 1)) used
   going-stop z = go (g .fuel) (g .enough) (g .same)

@@ -1,10 +1,11 @@
 // How far two claims are from a third. Up to three coordinates are written out, for each measure: most of a table's time goes into
 // these distances.
-ghost use Prim.Native.Nat.{_≤_};
+ghost use Prim.Native.Nat.{_+_, _≤_};
+ghost use lib.ListN.{length};
 ghost use Rattle.paper.specs.Limits.{mostCoordinates};
 ghost use Rattle.paper.specs.Points.{measureOf};
 ghost use Rattle.paper.specs.declared.points.Measure.the-variants.{CityBlock, Maximum, Hamming};
-ghost use Rattle.measure.specs.Measured.{PairAt, PairIs};
+ghost use Rattle.measure.specs.Measured.{TwoAt, PairIs};
 use measure::Pair;
 use measure::few::city2;
 use measure::few::city3;
@@ -17,7 +18,7 @@ use measure::one::gap_at;
 
 // [1.6] By city block.
 fn city_both(d: usize, a: &[i32], left: usize, right: usize, bt: usize) -> Pair
-    requires { ⌜ (d ≤ 3) × PairAt d (now a) left right (now a) bt ⌝ }
+    requires { ⌜ (d ≤ 3) × (TwoAt d (now a) left right × (bt + d ≤ length (now a))) ⌝ }
     ensures { λ r. ⌜ PairIs CityBlock d (now (a .entry)) left right (now (a .entry)) bt (r .left) (r .right) ⌝ }
 {
     if d == 2 {
@@ -43,7 +44,7 @@ fn city_both(d: usize, a: &[i32], left: usize, right: usize, bt: usize) -> Pair
 
 // [1.7] By maximum.
 fn maximum_both(d: usize, a: &[i32], left: usize, right: usize, bt: usize) -> Pair
-    requires { ⌜ (d ≤ 3) × PairAt d (now a) left right (now a) bt ⌝ }
+    requires { ⌜ (d ≤ 3) × (TwoAt d (now a) left right × (bt + d ≤ length (now a))) ⌝ }
     ensures { λ r. ⌜ PairIs Maximum d (now (a .entry)) left right (now (a .entry)) bt (r .left) (r .right) ⌝ }
 {
     if d == 2 {
@@ -69,7 +70,7 @@ fn maximum_both(d: usize, a: &[i32], left: usize, right: usize, bt: usize) -> Pa
 
 // [1.8] By Hamming.
 fn hamming_both(d: usize, a: &[i32], left: usize, right: usize, bt: usize) -> Pair
-    requires { ⌜ (d ≤ 3) × PairAt d (now a) left right (now a) bt ⌝ }
+    requires { ⌜ (d ≤ 3) × (TwoAt d (now a) left right × (bt + d ≤ length (now a))) ⌝ }
     ensures { λ r. ⌜ PairIs Hamming d (now (a .entry)) left right (now (a .entry)) bt (r .left) (r .right) ⌝ }
 {
     if d == 2 {
@@ -95,7 +96,7 @@ fn hamming_both(d: usize, a: &[i32], left: usize, right: usize, bt: usize) -> Pa
 
 // How far the claims at `left` and at `right` of the coordinates are from the one at `bt`.
 pub fn from_both(measure: u8, d: usize, a: &[i32], left: usize, right: usize, bt: usize) -> Pair
-    requires { ⌜ (d ≤ mostCoordinates) × PairAt d (now a) left right (now a) bt ⌝ }
+    requires { ⌜ (d ≤ mostCoordinates) × (TwoAt d (now a) left right × (bt + d ≤ length (now a))) ⌝ }
     ensures { λ r. ⌜ PairIs (measureOf measure) d (now (a .entry)) left right (now (a .entry)) bt (r .left) (r .right) ⌝ }
 {
     if 3 < d {

@@ -1,6 +1,6 @@
 -- `tree::entering::enter` meets its contract: the loop goes down as `enteredFrom` does. Assumes nothing.
 use borrow.Author.Needs.{needs}
-use Prim.Native.Nat.{ℕ, _+_, _-_, _*_, _<_, _^_}
+use Prim.Native.Nat.{ℕ, _+_, _-_, _*_, _<_, _≤_, _^_}
 use mathlib.Core.Path.{_≡_, sym, ap, _∙_}
 use mathlib.Core.List.{List}
 use native.Mathlib.Omega.{arith}
@@ -9,8 +9,9 @@ use lib.ListN.{length}
 use mir.Syntax.{w64}
 use mir.Val.{Fits}
 use Rattle.paper.specs.Tree.{Grown, fieldAt, newNode, apart}
-use Rattle.measure.specs.Measured.{PairAt}
-use Rattle.tree.proofs.OneEntering.{EnteringGoing, GoingBelow, going-start, entered-first, below-left, below-right, going-claim, going-pair, going-stop, going-new, going-less, going-down}
+use Rattle.measure.specs.Measured.{TwoAt}
+use Rattle.tree.proofs.PointsInMemory.{located-at}
+use Rattle.tree.proofs.OneEntering.{EnteringGoing, GoingBelow, going-start, entered-first, below-left, below-right, going-claim, going-two, going-stop, going-new, going-less, going-down}
 use Rattle.tree.proofs.entering.enter.Statement.{statement}
 use Rattle.tree.proofs.entering.enter.Tie as tie
 
@@ -34,9 +35,12 @@ more c = record { fits = omega (arith, c .before .before .before .pre .room, c .
 full : (c : tie.Else2 Inv-loop μ-loop) → fieldAt (c .before .before .before .loop .nodes) (c .before .before .before .loop .m) 1 ≡ 0 → ⊥
 full c z = c .if2 .left (c .before .field .ensures ∙ z)
 
-pair : (c : tie.After-field3 Inv-loop μ-loop)
-    → let a = c .before .before .before .before .before .before .before .before .before .before .args in PairAt (a .d) (a .coordinates .now) ((c .before .before .field2 .result - 1) * a .d) ((c .field3 .result - 1) * a .d) (a .coordinates .now) (a .k * a .d)
-pair c = going-pair (c .before .before .before .before .before .before .before .loop .inv) (full (c .before .before .before .before)) (c .before .before .field2 .ensures) (c .field3 .ensures) (c .before .before .before .before .before .before .before .before .before .before .pre .located)
+two : (c : tie.After-field3 Inv-loop μ-loop)
+    → let a = c .before .before .before .before .before .before .before .before .before .before .args in TwoAt (a .d) (a .coordinates .now) ((c .before .before .field2 .result - 1) * a .d) ((c .field3 .result - 1) * a .d)
+two c = going-two (c .before .before .before .before .before .before .before .loop .inv) (full (c .before .before .before .before)) (c .before .before .field2 .ensures) (c .field3 .ensures) (c .before .before .before .before .before .before .before .before .before .before .pre .located)
+
+third : (c : tie.After-field3 Inv-loop μ-loop) → let a = c .before .before .before .before .before .before .before .before .before .before .args in a .k * a .d + a .d ≤ length (a .coordinates .now)
+third c = let k = c .before .before .before .before .before .before .before .before .before .before .args .k in located-at _ (k + 1) k _ (c .before .before .before .before .before .before .before .before .before .before .pre .located) (omega arith)
 
 -- once the two distances are known: the side to go below
 abbrev Below : tie.After-struct-known Inv-loop μ-loop → ℕ → ℕ → Type 0
@@ -101,19 +105,19 @@ sub-from-both : tie.Need-sub-from-both Inv-loop μ-loop
 sub-from-both c = going-claim (c .before .before .before .before .before .before .before .loop .inv) {s = 0} (lit< tt) (full (c .before .before .before .before)) (c .before .before .field2 .ensures) .0
 
 mul-from-both : tie.Need-mul-from-both Inv-loop μ-loop
-mul-from-both c = record { fits = omega (arith, pair c .left-at .first) }
+mul-from-both c = record { fits = omega (arith, two c .left-at) }
 
 sub-from-both-2 : tie.Need-sub-from-both-2 Inv-loop μ-loop
 sub-from-both-2 c = going-claim (c .before .before .before .before .before .before .before .loop .inv) {s = 1} (lit< tt) (full (c .before .before .before .before)) (c .field3 .ensures) .0
 
 mul-from-both-2 : tie.Need-mul-from-both-2 Inv-loop μ-loop
-mul-from-both-2 c = record { fits = omega (arith, pair c .right-at .first) }
+mul-from-both-2 c = record { fits = omega (arith, two c .right-at) }
 
 mul-from-both-3 : tie.Need-mul-from-both-3 Inv-loop μ-loop
-mul-from-both-3 c = record { fits = omega (arith, pair c .left-at .second) }
+mul-from-both-3 c = record { fits = omega (arith, third c) }
 
 from-both-requires : tie.Need-from-both-requires Inv-loop μ-loop
-from-both-requires c κs = (c .before .before .before .before .before .before .before .before .before .before .pre .located .narrow, pair c)
+from-both-requires c κs = (c .before .before .before .before .before .before .before .before .before .before .pre .located .narrow, (two c, third c))
 
 field-requires-4 : tie.Need-field-requires-4 Inv-loop μ-loop
 field-requires-4 c κs = (lit< tt, inside (c .before .before .before .before .before .before .before .before .before .before .before))
