@@ -35,6 +35,12 @@ find_archive() {
         (cd "$root" && rt staticlib nearby_c) >"$out/archive.log" 2>&1 || stop "the archive could not be made: see $out/archive.log"
         archive=$root/target/staticlib
     fi
+    use_archive "$archive"
+}
+
+# The archive that is linked from now on.
+use_archive() { # its name or its folder's
+    archive=$1
     [ -d "$archive" ] && archive=$archive/libnearby_c.a
     [ -f "$archive" ] || stop "there is no archive $archive"
 }

@@ -3,6 +3,7 @@ import statistics
 import sys
 
 import results as r
+from markdown import table
 
 WHOLE = {"entering": "entering n claims", "soundness test": "soundness test", "single nearest": "nearest, single call"}
 
@@ -14,11 +15,6 @@ def microseconds(ns):
 
 def ratio(x):
     return f"{x:.4f}" if x < 0.01 else f"{x:.2f}" if x < 10 else f"{x:.1f}" if x < 100 else f"{x:.0f}"
-
-
-def table(head, rows):
-    lines = [head, ["---"] * len(head)] + rows
-    return "\n".join("| " + " | ".join(line) + " |" for line in lines) + "\n"
 
 
 def machine(path):

@@ -26,10 +26,10 @@ static uint64_t next(struct source *s)
     return z ^ (z >> 31);
 }
 
-/* Hamming distances of coordinates from the whole range are all d, so there a coordinate is one of a few letters. */
+/* Hamming distances of coordinates from the whole range are all d, so there a coordinate is one of a few letters, as in codes. */
 static int32_t anywhere(struct source *s, const struct cell *cell)
 {
-    if (cell->measure == NEARBY_HAMMING)
+    if (cell->measure == NEARBY_HAMMING || cell->spread == CODES)
         return (int32_t)(next(s) % LETTERS);
     if (cell->spread == MILLION)
         return (int32_t)(next(s) % 1000001);

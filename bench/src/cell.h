@@ -20,7 +20,8 @@ enum { FOUND = 4, OUTCOME = 3, ITEMS = NEARBY_MOST_PAGE * NEARBY_ITEM };
 /* Where the numbers of a place stand in its row, which has NEARBY_PLACE. */
 enum { ORDER, FROM, SNAPSHOT, MARK_DISTANCE, MARK_NUMBER };
 
-enum spread { UNIFORM, CLUSTERED, SORTED, MILLION };
+/* CODES are such as those of damage: each coordinate one of eight letters, by any measure. */
+enum spread { UNIFORM, CLUSTERED, SORTED, MILLION, CODES };
 
 enum { TABLE_NUMBER = 7 };
 

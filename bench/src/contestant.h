@@ -37,6 +37,13 @@ __attribute__((noreturn, format(printf, 1, 2)))
 #endif
 void fail(const char *format, ...);
 
+/* Ends the run with status REFUSED: the archive refuses a call, as one of another time may do with a call that has changed since. */
+enum { REFUSED = 3 };
+#if defined(__GNUC__)
+__attribute__((noreturn))
+#endif
+void refused(const char *call, uint8_t refusal);
+
 /* Memory, or the end of the run. */
 void *need(size_t size);
 

@@ -1,16 +1,29 @@
-/* Enters 4,096 uniform claims, city block, in one run or in runs of one, or does not, for a counter of instructions around the process:
- * with entering less without is what entering costs. */
+/* Enters the claims of a cell in one run and tests the table, and enters all but the last and then that one alone, for callgrind to
+ * count. */
+#include "counting.h"
 #include "ours.h"
+#include "words.h"
 
 #include <stdlib.h>
-#include <string.h>
 
 int main(int argc, char **argv)
 {
     static struct cell cell;
-    if (argc != 3 || atoi(argv[1]) < 1 || atoi(argv[1]) > NEARBY_MOST_COORDINATES)
-        fail("usage: entering D none|whole|single");
-    make_cell(&cell, NEARBY_MOST_CLAIMS, (size_t)atoi(argv[1]), NEARBY_CITY_BLOCK, UNIFORM);
-    if (strcmp(argv[2], "none") != 0)
-        free(our_table_in_runs(&cell, strcmp(argv[2], "whole") == 0 ? cell.n : 1));
+    if (argc != 4)
+        fail("usage: entering MEASURE D COORDINATES");
+    make_named_cell(&cell, argv[1], argv[2], argv[3]);
+    struct our_table *whole = empty_table(&cell), *most = empty_table(&cell);
+    enter_more(most, &cell, cell.n - 1);
+    start_counting();
+    begin_piece();
+    enter_more(whole, &cell, cell.n);
+    end_piece("run", cell.n);
+    begin_piece();
+    test_soundness(whole);
+    end_piece("test", cell.n);
+    begin_piece();
+    enter_more(most, &cell, 1);
+    end_piece("alone", 1);
+    free(whole);
+    free(most);
 }

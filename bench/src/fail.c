@@ -1,4 +1,4 @@
-/* The two ways in which a run ends early. */
+/* The ways in which a run ends early. */
 #include "contestant.h"
 
 #include <stdarg.h>
@@ -15,6 +15,13 @@ void fail(const char *format, ...)
     fputc('\n', stderr);
     va_end(rest);
     exit(1);
+}
+
+void refused(const char *call, uint8_t refusal)
+{
+    fflush(stdout);
+    fprintf(stderr, "bench: %s is refused with %u: %s\n", call, refusal, nearby_refusal_meaning(refusal));
+    exit(REFUSED);
 }
 
 void *need(size_t size)

@@ -1,55 +1,63 @@
-/* Answers the questions of one kind on 4,096 uniform claims in the plane, once or twice over, for a counter of instructions around the
- * process: twice less once is what the questions cost, without making the cell, entering the claims and testing the table. */
+/* Answers questions of some kinds about a cell, for callgrind to count: a call with a batch of them, and a call with two batches. The
+ * second less the first is what a batch costs, without entering the claims and without the test of the table. */
 #include "check.h"
+#include "counting.h"
 #include "plane_scan.h"
+#include "words.h"
 
+#include <stdlib.h>
 #include <string.h>
 
-/* A reach that a tenth of the claims are within, where coordinates are of all 32 bits. */
-#define SHORT_REACH (UINT64_C(1) << 30)
+static const char *const kinds[] = { "first", "fifth", "far-first", "far-fifth", "nearest", "farthest" };
+
+enum { KINDS = sizeof kinds / sizeof *kinds };
 
 static const struct contestant *contestant_named(const char *name)
 {
     static const struct contestant *const all[] = { &ours, &plain_scan, &plane_scan };
-    for (size_t i = 0; i < sizeof all / sizeof *all; i++)
-        if (strcmp(all[i]->name, name) == 0)
-            return all[i];
-    fail("no contestant is called %s", name);
+    static const char *const names[] = { "ours", "plain scan", "plane scan" };
+    return all[place_of(name, names, sizeof names / sizeof *names)];
 }
 
 static enum question question_named(const char *name)
 {
-    static const char *const names[] = { "first", "fifth", "far-first", "far-fifth", "nearest", "farthest" };
-    for (size_t i = 0; i < sizeof names / sizeof *names; i++)
-        if (strcmp(names[i], name) == 0)
-            return (enum question)i;
-    fail("no question is called %s", name);
+    return (enum question)place_of(name, kinds, KINDS);
 }
 
-/* For first pages: the marks of later ones may lie beyond a short reach. */
-static void shorten_reaches(struct cell *cell)
+/* What was answered is forgotten before each call and checked afterwards. */
+static void count_kind(const struct contestant *who, void *table, const struct cell *cell, enum question question, size_t batch,
+                       const struct answers *right)
 {
-    for (size_t i = 0; i < ALL_QUESTIONS; i++)
-        cell->reaches[i] = SHORT_REACH;
+    static struct answers given;
+    for (size_t count = batch; count <= 2 * batch; count += batch) {
+        memset(&given, 0, sizeof given);
+        begin_piece();
+        who->ask(table, cell, question, count, &given);
+        end_piece(kinds[question], count);
+        check_answers(who, cell, question, count, &given, right);
+    }
 }
 
 int main(int argc, char **argv)
 {
     static struct cell cell;
-    static struct answers given, right;
-    if (argc != 5)
-        fail("usage: instructions ours|'plain scan'|'plane scan' nearest|farthest|first|fifth|far-first|far-fifth "
-             "full|million|short once|twice");
-    const struct contestant *who = contestant_named(argv[1]);
-    const enum question question = question_named(argv[2]);
-    const size_t count = strcmp(argv[4], "twice") == 0 ? ALL_QUESTIONS : QUESTIONS;
-    make_cell(&cell, NEARBY_MOST_CLAIMS, 2, NEARBY_CITY_BLOCK, strcmp(argv[3], "million") == 0 ? MILLION : UNIFORM);
-    if (strcmp(argv[3], "short") == 0)
-        shorten_reaches(&cell);
+    static struct answers right[KINDS];
+    if (argc < 7 || atoi(argv[5]) < 1 || atoi(argv[5]) > QUESTIONS)
+        fail("usage: instructions MEASURE D COORDINATES ours|'plain scan'|'plane scan' BATCH "
+             "nearest|farthest|first|fifth|far-first|far-fifth ...");
+    const struct contestant *who = contestant_named(argv[4]);
+    const size_t batch = (size_t)atoi(argv[5]);
+    make_named_cell(&cell, argv[1], argv[2], argv[3]);
     void *table = who->enter(&cell), *scan = plain_scan.enter(&cell);
-    plain_scan.ask(scan, &cell, question, QUESTIONS, &right);
-    who->ask(table, &cell, question, count, &given);
-    check_answers(who, &cell, question, QUESTIONS, &given, &right);
+    for (int i = 6; i < argc; i++) {
+        const enum question question = question_named(argv[i]);
+        plain_scan.ask(scan, &cell, question, 2 * batch, &right[question]);
+    }
+    start_counting();
+    for (int i = 6; i < argc; i++) {
+        const enum question question = question_named(argv[i]);
+        count_kind(who, table, &cell, question, batch, &right[question]);
+    }
     who->leave(table);
     plain_scan.leave(scan);
 }

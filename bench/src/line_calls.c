@@ -15,7 +15,7 @@ static uint64_t room[ITEMS];
 static size_t length_of(nearby_written written)
 {
     if (written.refusal != 0)
-        fail("a line is refused with %d", written.refusal);
+        refused("writing a line", written.refusal);
     return written.length;
 }
 
@@ -41,7 +41,7 @@ void write_lines(void)
     claim_length = length_of(nearby_write_claim_line(TABLE_NUMBER, NEARBY_CITY_BLOCK, D, 2863311530u, probe, D, claim, sizeof claim));
     nearby_listed opened = nearby_open_list(NEARBY_NEAR, TABLE_NUMBER, NEARBY_CITY_BLOCK, D, probe, D, UINT64_MAX);
     if (opened.refusal != 0)
-        fail("a list is refused with %d", opened.refusal);
+        refused("nearby_open_list", opened.refusal);
     list = opened.list;
 }
 

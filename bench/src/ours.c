@@ -3,25 +3,38 @@
 
 #include <stdlib.h>
 
-void *our_table_in_runs(const struct cell *cell, size_t run)
+struct our_table *empty_table(const struct cell *cell)
 {
     struct our_table *t = need(sizeof *t);
     nearby_tabled made = nearby_make_table(TABLE_NUMBER, cell->measure, cell->d, cell->n, t->references, cell->n, t->coordinates,
                                            cell->n * cell->d, t->nodes, cell->n * NEARBY_NODE);
-    t->header = made.table;
-    while (made.refusal == 0 && t->header.count < cell->n) {
-        const size_t at = t->header.count, length = cell->n - at < run ? cell->n - at : run;
-        made = nearby_enter(OUR_TABLE(t), &cell->references[at], length, &cell->coordinates[at * cell->d], length * cell->d);
-        t->header = made.table;
-    }
     if (made.refusal != 0)
-        fail("entering was refused: %s", nearby_refusal_meaning(made.refusal));
+        refused("nearby_make_table", made.refusal);
+    t->header = made.table;
     return t;
+}
+
+void enter_more(struct our_table *t, const struct cell *cell, size_t run)
+{
+    const size_t at = t->header.count;
+    nearby_tabled made = nearby_enter(OUR_TABLE(t), &cell->references[at], run, &cell->coordinates[at * cell->d], run * cell->d);
+    if (made.refusal != 0)
+        refused("nearby_enter", made.refusal);
+    t->header = made.table;
 }
 
 void *our_table(const struct cell *cell)
 {
-    return our_table_in_runs(cell, cell->n);
+    struct our_table *t = empty_table(cell);
+    enter_more(t, cell, cell->n);
+    return t;
+}
+
+void test_soundness(struct our_table *t)
+{
+    uint8_t refusal = nearby_test_table(OUR_TABLE(t));
+    if (refusal != 0)
+        refused("nearby_test_table", refusal);
 }
 
 static void many_answers(struct our_table *t, const struct cell *cell, size_t count, struct answers *answers)
@@ -54,7 +67,7 @@ static void ask(void *table, const struct cell *cell, enum question question, si
                                     count * ITEMS);
     }
     if (refusal != 0)
-        fail("a call for many questions was refused: %s", nearby_refusal_meaning(refusal));
+        refused("a call for many questions", refusal);
 }
 
 static int can(const struct cell *cell, enum question question)

@@ -16,8 +16,16 @@ struct our_table {
     (t)->header, (t)->references, (t)->header.capacity, (t)->coordinates, (t)->header.capacity * (t)->header.d, \
         (t)->nodes, (t)->header.capacity * NEARBY_NODE
 
-/* Makes a table and enters the claims of a cell, in runs of so many or in one. */
-void *our_table_in_runs(const struct cell *cell, size_t run);
+/* Makes a table for the claims of a cell, with none of them in it. */
+struct our_table *empty_table(const struct cell *cell);
+
+/* Enters the next so many claims of the cell in one run. */
+void enter_more(struct our_table *t, const struct cell *cell, size_t run);
+
+/* Makes a table and enters all claims of a cell in one run. */
 void *our_table(const struct cell *cell);
+
+/* Tests a table, which has to be sound. */
+void test_soundness(struct our_table *t);
 
 #endif

@@ -63,17 +63,10 @@ static void call_singly(const struct cell *cell, struct our_table *t, size_t cou
     for (size_t i = 0; i < count; i++) {
         nearby_item item = nearby_nearest(OUR_TABLE(t), &cell->probes[i * cell->d], cell->d, cell->reaches[i]);
         if (item.refusal != 0)
-            fail("nearby_nearest was refused: %s", nearby_refusal_meaning(item.refusal));
+            refused("nearby_nearest", item.refusal);
         const uint64_t row[FOUND] = { item.found, item.number, item.reference, item.distance };
         memcpy(&given->found[i * FOUND], row, sizeof row);
     }
-}
-
-static void test_soundness(struct our_table *t)
-{
-    uint8_t refusal = nearby_test_table(OUR_TABLE(t));
-    if (refusal != 0)
-        fail("the table is not sound: %s", nearby_refusal_meaning(refusal));
 }
 
 static void do_task(struct rounds *r, int task, const struct turn *turn)
