@@ -45,4 +45,4 @@ module _ (t : Table) where
     -- a page of it can be asked for
     pub pageable : (place : Place) → ((count : ℕ) → a .snapshot ≤ count → snapshotOf place count ≤ count) → (room : List ℕ) → length room ≡ itemRoom
         → (a .size ≤ mostPage) × Pageable t place (a .size) room
-    pageable place stored room e = (d .most, record { stored = stored (t .count) (d .stored); some = d .some; long = omega (arith, d .most, e) })
+    pageable place stored room e = (d .most, record { stored = stored (t .count) (d .stored); some = d .some; few = omega (arith, d .most); long = omega (arith, d .most, e) })

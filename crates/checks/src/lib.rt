@@ -6,6 +6,7 @@ mod kinds;
 mod orders;
 mod places;
 mod ranges;
+mod slots;
 mod tables;
 
 pub use counts::is_whole;
@@ -21,4 +22,5 @@ pub use places::place_of;
 pub use places::snapshot_holds;
 pub use ranges::in_range;
 pub use ranges::size_holds;
+pub use slots::padded;
 pub use tables::is_ours;

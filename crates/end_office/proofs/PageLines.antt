@@ -169,7 +169,7 @@ module _ (s : Store) (q : queries.Query) (p : Scope) (size out : ℕ) (h : Pagin
   Scoped = scopeOf (placeIn p) (snapshotOf (placeIn p) (s .table .count))
 
   pub pageable : (place : Place) (room : List ℕ) → place ≡ placeIn p → scratchItems ≤ length room → Pageable (s .table) place (size + 1) room
-  pageable place room e l = record { stored = rw e (h .stored); some = omega arith; long = omega (arith, h .asking .ask .most) }
+  pageable place room e l = record { stored = rw e (h .stored); some = omega arith; few = omega (arith, h .asking .ask .most); long = omega (arith, h .asking .ask .most) }
 
   page-few : length Page ≤ size
   unfolding pageOf

@@ -1,4 +1,3 @@
 pub mod PartLaws
 pub mod ItemLaws
-pub mod PadLaws
 pub mod Round

@@ -2,28 +2,14 @@
 ghost use mathlib.Core.Path.{_≡_};
 ghost use Prim.Native.Nat.{_≤_};
 ghost use lib.ListN.{length};
-ghost use Rattle.paper.specs.Fields.{inSlots, queryInSlots};
+ghost use Rattle.paper.specs.Fields.{queryInSlots};
 ghost use Rattle.paper.specs.Orders.{queryIn};
 ghost use Rattle.paper.specs.Lines.{queryFits};
 ghost use Rattle.paper.specs.Limits.{mostCoordinates};
 use checks::in_range;
-use paper::limits::MOST_COORDINATES;
+use checks::padded;
 use paper::orders::Order;
 use paper::queries::Query;
-
-// [7.3] [5.14] A probe in eight slots, the unused ones 0.
-fn padded(probe: &[i32]) -> [i32; MOST_COORDINATES]
-    requires { ⌜ length (now probe) ≤ mostCoordinates ⌝ }
-    ensures { λ r. ⌜ r ≡ inSlots (length (now (probe .entry))) (now (probe .entry)) ⌝ }
-{
-    let mut slots = [0i32; MOST_COORDINATES];
-    let mut i: usize = 0;
-    while i < probe.len() {
-        slots[i] = probe[i];
-        i += 1;
-    }
-    slots
-}
 
 // [7.1] The query of these parts.
 pub fn query_of(order: Order, table: u32, measure: u8, d: usize, probe: &[i32], reach: u64) -> Query

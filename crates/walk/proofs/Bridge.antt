@@ -1,5 +1,5 @@
 -- From the walk's claim numbers to the items of paper/specs. Assumes nothing.
-use Prim.Native.Nat.{ℕ, zero, suc, _+_, _*_, _<_, _≤_, _^_}
+use Prim.Native.Nat.{ℕ, zero, suc, _+_, _-_, _*_, _<_, _≤_}
 use mathlib.Core.Path.{_≡_, refl, sym, ap, subst, _∙_}
 use mathlib.Core.Logic.{⊎-elim}
 use mathlib.Core.Bool.{Bool, true, false, cond, _&&_}
@@ -10,21 +10,22 @@ use lib.Dec.{ltb, leb, eqb}
 use lib.IntN.{ℤ, pos}
 use lib.ListN.{length, getD, take, drop, length-map, List·getD-append}
 use lib.Seq.{getD-take, getD-at}
-use borrow.Author.Tests.{lt-ltb, le-ltb, ne-eqb}
+use borrow.Author.Tests.{lt-ltb, ne-eqb}
 use Rattle.paper.specs.declared.orders.Order.{Order}
 use Rattle.paper.specs.declared.orders.Place.{Place}
 use Rattle.paper.specs.declared.points.Measure.{Measure}
 use Rattle.paper.specs.declared.tables.Table.{Table}
 use Rattle.paper.specs.Points.{measureOf, distance, Claim, zeroClaim, point}
-use Rattle.paper.specs.Orders.{Item, Query, rank, earlier, itemOf, listed, follows, rest, snapshotOf, following, pageOf, flat, fronted}
+use Rattle.paper.specs.Fields.{inSlots}
+use Rattle.paper.specs.Limits.{mostClaims}
+use Rattle.paper.specs.Orders.{Item, Query, rank, before, earlier, itemOf, listed, follows, rest, snapshotOf, following, pageOf, flat, fronted}
 use Rattle.paper.specs.Orders.{insert as put}
 use Rattle.paper.specs.Tree.{claimsFrom, referenceAt}
 use Rattle.paper.specs.Calls.{tableQuery}
 use Rattle.tree.proofs.PointsInMemory.{claims-length}
-use Rattle.walk_keep.specs.Page.{ranks, sooner, insertBy, sortedOf, firstSorted, items, Filled}
+use Rattle.walk_keep.specs.Page.{ranks, ahead, sooner, insertBy, sortedOf, firstSorted, items, Filled}
 use Rattle.walk_keep.specs.Kept.{key, RisingClaims, none, more}
 use Rattle.walk_keep.proofs.Keeping.{sooner-true, sooner-false, key-sooner, key-differs, scan-rising}
-use Rattle.walk_keep.proofs.ItemPosition.{before-ranks}
 use Rattle.walk.specs.Walking.{distOf}
 use Rattle.walk.specs.Asking.{Fills}
 use Rattle.orders.proofs.Sorted.{rest-insert}
@@ -35,8 +36,13 @@ use Rattle.orders.proofs.Sorted.{rest-insert}
 abbrev pub itemAt : (ℕ → ℕ) → (ℕ → ℕ) → ℕ → Item
 itemAt ref dist k = record { number = k; reference = ref k; distance = dist k }
 
+-- [2.3] the order of items is the order of ranks
+before-ranks : (order : Order) (x k y j : ℕ) → before order x k y j ≡ ahead (rank order x) k (rank order y) j
+unfolding before ahead
+before-ranks order x k y j = refl
+
 -- of two claims, one comes first
-sooner-turned : (rank : ℕ → ℕ) (j k : ℕ) (b : Bool) → j < 2 ^ 64 → k < 2 ^ 64 → (j ≡ k → ⊥) → sooner rank j k ≡ b → cond b (sooner rank k j ≡ false) (sooner rank k j ≡ true)
+sooner-turned : (rank : ℕ → ℕ) (j k : ℕ) (b : Bool) → j < mostClaims → k < mostClaims → (j ≡ k → ⊥) → sooner rank j k ≡ b → cond b (sooner rank k j ≡ false) (sooner rank k j ≡ true)
 sooner-turned rank j k true hj hk ne p = go (sooner rank k j) refl
   where
     go : (u : Bool) → sooner rank k j ≡ u → u ≡ false
@@ -47,7 +53,7 @@ sooner-turned rank j k false hj hk ne p =
 
 module _ (o : Order) (ref dist : ℕ → ℕ) where
   -- a claim behind all of l, put in its place among the numbers and among the items
-  put-numbers : (ok : ℕ → Bool) (k s lo : ℕ) (l : List ℕ) → k < 2 ^ 64 → RisingClaims (ranks o dist) ok k s lo l
+  put-numbers : (ok : ℕ → Bool) (k s lo : ℕ) (l : List ℕ) → k < mostClaims → RisingClaims (ranks o dist) ok k s lo l
       → put o (itemAt ref dist k) (map (itemAt ref dist) l) ≡ map (itemAt ref dist) (insertBy (ranks o dist) k l)
   unfolding put insertBy
   put-numbers ok k s lo [] hk none = refl
@@ -70,7 +76,7 @@ abbrev okIn : Query → Place → (ℕ → ℕ) → (ℕ → ℕ) → ℕ → Bo
 okIn q p ref dist k = leb (dist k) (q .reach) && follows (q .order) p (itemAt ref dist k)
 
 -- what follows the place in the list of items, by number
-module _ (q : Query) (cs : List Claim) (p : Place) (ref dist : ℕ → ℕ) (n : ℕ) (small : n < 2 ^ 64) (agree : (k : ℕ) → k < n → itemOf q cs k ≡ itemAt ref dist k) where
+module _ (q : Query) (cs : List Claim) (p : Place) (ref dist : ℕ → ℕ) (n : ℕ) (small : n ≤ mostClaims) (agree : (k : ℕ) → k < n → itemOf q cs k ≡ itemAt ref dist k) where
   abbrev Sorted : ℕ → List ℕ
   Sorted s = sortedOf (ranks (q .order) dist) (okIn q p ref dist) s
 
@@ -92,20 +98,11 @@ module _ (q : Query) (cs : List Claim) (p : Place) (ref dist : ℕ → ℕ) (n :
 
 -- ---- claims that are admitted
 
--- filters that agree, and one that lets nothing pass from s on
+-- filters that agree
 sorted-alike : (rank : ℕ → ℕ) (f g : ℕ → Bool) (n : ℕ) → ((k : ℕ) → k < n → f k ≡ g k) → sortedOf rank f n ≡ sortedOf rank g n
 unfolding sortedOf
 sorted-alike rank f g zero h = refl
 sorted-alike rank f g (suc n) h = rw (h n (omega arith), sorted-alike rank f g n (λ k l. h k (omega arith)))
-
-sorted-stops : (rank : ℕ → ℕ) (g : ℕ → Bool) (s n : ℕ) → s ≤ n → ((k : ℕ) → s ≤ k → g k ≡ false) → sortedOf rank g s ≡ sortedOf rank g n
-unfolding sortedOf
-sorted-stops rank g s zero h stop = let e : s ≡ 0 = omega arith in rw e
-sorted-stops rank g s (suc n) h stop =
-    ⊎-elim (λ e. rw e) (λ l. let le : s ≤ n = omega arith in rw (stop n le) (sorted-stops rank g s n le stop)) (eq-or-lt-of-le h)
-
-sorted-front : (rank : ℕ → ℕ) (f g : ℕ → Bool) (s n : ℕ) → s ≤ n → ((k : ℕ) → k < s → f k ≡ g k) → ((k : ℕ) → s ≤ k → g k ≡ false) → sortedOf rank f s ≡ sortedOf rank g n
-sorted-front rank f g s n h same stop = sorted-alike rank f g s same ∙ sorted-stops rank g s n h stop
 
 -- ---- lists of items
 
@@ -142,6 +139,16 @@ unfolding distance
 distance-front m zero e p q h = refl
 distance-front m (suc d) e p q h = rw (distance-front m d e p q (omega arith), getD-take e p d (pos 0) h)
 
+-- nor at more than the first d of a probe's slots
+distance-behind : (m : Measure) (d : ℕ) (p q z : List ℤ) → d ≤ length q → distance m d p (q ++ z) ≡ distance m d p q
+unfolding distance
+distance-behind m zero p q z h = refl
+distance-behind m (suc d) p q z h = rw (distance-behind m d p q z (omega arith), List·getD-append q z (pos 0) d h)
+
+pub slots-away : (measure d : ℕ) (coordinates probe slots : List ℤ) (k : ℕ) → length probe ≡ d → slots ≡ inSlots (length probe) probe → distOf measure d coordinates slots k ≡ distOf measure d coordinates probe k
+unfolding distOf inSlots
+slots-away measure d coordinates probe slots k aimed padded = rw padded (distance-behind (measureOf measure) d (drop (k * d) coordinates) probe _ (omega arith))
+
 module _ (t : Table) (order : Order) (reach : ℕ) (references : List ℕ) (coordinates probe : List ℤ) where
   -- claim k, measured
   pub item-is : (k : ℕ) → k < t .count
@@ -155,7 +162,7 @@ module _ (t : Table) (order : Order) (reach : ℕ) (references : List ℕ) (coor
       (λ (x : ℕ). record { number = k; reference = getD references k 0; distance = x })
       (distance-front (measureOf (t .measure)) (t .d) (t .d) (drop (k * t .d) coordinates) probe (le-refl (t .d)))
 
-  module _ (place : Place) (small : t .count < 2 ^ 64) (stored : snapshotOf place (t .count) ≤ t .count) (ok : ℕ → Bool)
+  module _ (place : Place) (small : t .count ≤ mostClaims) (stored : snapshotOf place (t .count) ≤ t .count) (ok : ℕ → Bool)
       (oks : (k : ℕ) → ok k ≡ (ltb k (snapshotOf place (t .count)) && okIn (tableQuery t order probe reach) place (referenceAt references) (distOf (t .measure) (t .d) coordinates probe) k)) where
     abbrev Q : Query
     Q = tableQuery t order probe reach
@@ -169,27 +176,27 @@ module _ (t : Table) (order : Order) (reach : ℕ) (references : List ℕ) (coor
     abbrev Dist : ℕ → ℕ
     Dist = distOf (t .measure) (t .d) coordinates probe
 
-    following-numbers : following Q Cs place ≡ map (itemAt Ref Dist) (sortedOf (ranks order Dist) ok (t .count))
+    abbrev Seen : ℕ
+    Seen = snapshotOf place (t .count)
+
+    following-numbers : following Q Cs place ≡ map (itemAt Ref Dist) (sortedOf (ranks order Dist) ok Seen)
     unfolding following
     following-numbers =
-        let e : snapshotOf place (length Cs) ≡ snapshotOf place (t .count) = ap (snapshotOf place) (claims-length (t .d) (t .count) references coordinates) in
+        let e : snapshotOf place (length Cs) ≡ Seen = ap (snapshotOf place) (claims-length (t .d) (t .count) references coordinates) in
         rw e
-        (listed-rest Q Cs place Ref Dist (t .count) small item-is (snapshotOf place (t .count)) stored
-        ∙ ap (map (itemAt Ref Dist))
-        (sorted-front (ranks order Dist) (okIn Q place Ref Dist) ok (snapshotOf place (t .count)) (t .count) stored
-        (λ k h. sym (oks k ∙ rw (lt-ltb k (snapshotOf place (t .count)) h)))
-        (λ k h. oks k ∙ rw (le-ltb k (snapshotOf place (t .count)) h))))
+        (listed-rest Q Cs place Ref Dist (t .count) small item-is Seen stored
+        ∙ ap (map (itemAt Ref Dist)) (sorted-alike (ranks order Dist) (okIn Q place Ref Dist) ok Seen (λ k h. sym (oks k ∙ rw (lt-ltb k Seen h)))))
 
     module _ (size : ℕ) where
       abbrev First : List ℕ
-      First = firstSorted (ranks order Dist) ok (t .count) size
+      First = firstSorted (ranks order Dist) ok Seen size
 
       page-numbers : pageOf Q Cs place size ≡ map (itemAt Ref Dist) First
       unfolding pageOf firstSorted
       page-numbers = ap (take size) following-numbers ∙ take-items (itemAt Ref Dist) size _
 
       -- what the walk fills in is the page
-      pub filled-page : (o o' : List ℕ) (r : ℕ) → Filled order Ref Dist ok (t .count) size o o' r → Fills (pageOf Q Cs place size) o o' r
+      pub filled-page : (o o' : List ℕ) (r : ℕ) → Filled order Ref Dist ok Seen size o o' r → Fills (pageOf Q Cs place size) o o' r
       unfolding fronted
       filled-page o o' r h =
           let e = page-numbers in

@@ -9,23 +9,18 @@ use lib.IntN.{ℤ}
 use lib.ListN.{length, getD}
 use Rattle.paper.specs.declared.orders.Found as answers
 use Rattle.paper.specs.declared.orders.Nearest as Answers
-use Rattle.paper.specs.declared.orders.Order.{Order}
 use Rattle.paper.specs.declared.orders.Order.the-variants.{Near, Far}
-use Rattle.paper.specs.declared.orders.Place.{Place}
-use Rattle.paper.specs.declared.orders.Place.the-variants.{Start, After}
-use Rattle.paper.specs.declared.tables.Table.{Table}
 use Rattle.paper.specs.Points.{measureOf, greatestOf, Claim, zeroClaim}
 use Rattle.paper.specs.Orders.{Item, Query, itemOf, listed, nothing, foundIn, farQuery, farthestOf}
-use Rattle.paper.specs.Tree.{Store, fieldAt, sideClaim, claimsIn}
+use Rattle.paper.specs.Tree.{Store, sideClaim, claimsIn}
 use Rattle.paper.specs.Calls.{tableQuery, NothingJust}
 use Rattle.measure.proofs.Metric.{In32, distance-most}
 use Rattle.orders.proofs.Meaning.{listed-has}
 use Rattle.orders.proofs.Pages.{first-some, farthest-none}
 use Rattle.tree.specs.BuiltNodes.{Linked}
 use Rattle.tree.proofs.PointsInMemory.{claims-length}
-use Rattle.walk_keep.specs.declared.Asked.{Asked}
-use Rattle.walk.specs.Walking.{distOf, Bounded, RootBounded}
-use Rattle.walk.specs.Asking.{askedOf, Answerable}
+use Rattle.walk.specs.Walking.{distOf, RootBounded}
+use Rattle.walk.specs.Asking.{Answerable}
 use Rattle.walk.proofs.Bridge.{item-is}
 
 pub farthest-some : (q : Query) (cs : List Claim) → In32 (q .probe) → In32 (getD cs 0 zeroClaim .point) → 0 < length cs → farthestOf q cs ≡ nothing → ⊥
@@ -35,25 +30,6 @@ farthest-some q cs hp hc h e =
     (listed-has (farQuery q) cs (length cs) 0 h (distance-most (measureOf (q .measure)) (q .d) (getD cs 0 zeroClaim .point) (q .probe) hc hp)) e
 
 -- ---- at the call: that coordinates are of 32 bits shows where they are measured, and the walk measures the root's left claim
-
--- the left claim of node m, which was measured
-pub bounded-left : (measure d : ℕ) (coordinates probe : List ℤ) (nodes : List ℕ) (m f : ℕ) → f ≡ fieldAt nodes m 0
-    → Bounded measure d coordinates probe (f - 1) → Bounded measure d coordinates probe (sideClaim nodes m 0)
-bounded-left measure d coordinates probe nodes m f e h = subst (λ (x : ℕ). Bounded measure d coordinates probe (x - 1)) e h
-
--- a question to a table asks by the table's header
-pub root-asked : (t : Table) (order : Order) (reach : ℕ) (place : Place) (size : ℕ) (ask : Asked) (coordinates : List ℤ) (nodes : List ℕ) (probe : List ℤ)
-    → ask ≡ askedOf t order reach place size → RootBounded (ask .used) (ask .measure) (ask .d) coordinates nodes probe
-    → RootBounded (t .used) (t .measure) (t .d) coordinates nodes probe
-unfolding askedOf
-root-asked t order reach place size ask coordinates nodes probe e h =
-    go place (subst (λ (a : Asked). RootBounded (a .used) (a .measure) (a .d) coordinates nodes probe) e h)
-  where
-    go : (p : Place)
-        → RootBounded (askedOf t order reach p size .used) (askedOf t order reach p size .measure) (askedOf t order reach p size .d) coordinates nodes probe
-        → RootBounded (t .used) (t .measure) (t .d) coordinates nodes probe
-    go Start w = w
-    go (After n m) w = w
 
 -- [4.2] what the walk found: Nothing just where the table has no claim
 module _ (s : Store) (probe : List ℤ) (asks : Answerable s probe)

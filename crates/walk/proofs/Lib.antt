@@ -1,6 +1,9 @@
-pub mod Skipping
+pub mod Metrics
 pub mod Sides
 pub mod Nodes
+pub mod Visiting
+pub mod Giving
+pub mod Paging
 pub mod Bridge
-pub mod Farthest
 pub mod Answers
+pub mod Farthest

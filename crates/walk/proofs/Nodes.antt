@@ -1,56 +1,30 @@
--- What a node holds, walked: its two claims and what is below its two sides, and so the page of the root. In the words of what the code reads. Assumes nothing.
-use Prim.Native.Nat.{ℕ, zero, suc, _+_, _-_, _*_, _<_, _≤_, _^_}
-use mathlib.Core.Path.{_≡_, refl, sym, ap, _∙_}
+-- What a node holds, walked: its two claims and what is below its two sides. In the words of what the code reads. Assumes nothing.
+use Prim.Native.Nat.{ℕ, zero, suc, _+_, _-_, _*_, _<_, _≤_}
+use mathlib.Core.Path.{_≡_, refl, sym, ap, subst, _∙_}
 use mathlib.Core.Logic.{_⊎_, inl, inr, ⊎-elim}
-use mathlib.Core.Bool.{Bool, true, false}
-use mathlib.Core.List.{List, []}
+use mathlib.Core.List.{List}
 use native.Mathlib.Omega.{arith}
+use lib.Dec.{lit<}
 use lib.IntN.{ℤ}
-use lib.ListN.{length, take}
-use lib.Seq.{take-nil}
-use Rattle.paper.specs.Orders.{rank}
-use Rattle.paper.specs.Tree.{fieldAt, referenceAt}
-use Rattle.tree.proofs.PointsInMemory.{located-at}
+use lib.ListN.{length, getD}
+use Rattle.paper.specs.Limits.{mostClaims}
+use Rattle.paper.specs.Tree.{fieldAt, sideClaim}
 use Rattle.tree.specs.BuiltNodes.{Linked, Under, here, deeper, Holds, Searchable}
-use Rattle.walk_keep.specs.declared.Asked.{Asked}
-use Rattle.walk_keep.specs.Page.{items, sortedOf, firstSorted}
-use Rattle.walk_keep.specs.Kept.{none, PageRoomy, KeepIs}
-use Rattle.walk_keep.specs.Skips.{admitted}
-use Rattle.walk_keep.proofs.Keeping.{all-are-first}
-use Rattle.walk_keep.proofs.Walks.{walked-then, walked-fewer, step-taken, step-passed}
-use Rattle.walk.specs.Walking.{distBy, InSight, apartBy, okBy, rankBy, Metric, Below, InOrBelow, wayDown, AskWalked, Stepped, Readable, WayAsk, NodeAsk, SideAsk, PageAsk, AskFilled}
-use Rattle.walk.proofs.Skipping.{metric}
-use Rattle.walk.proofs.Sides.{way-leads, side-went}
-
--- ---- the step of a claim that was measured
-
-module _ (ask : Asked) (references : List ℕ) (k x : ℕ) (o : List ℕ) (count : ℕ) where
-  pub consider-kept : (t : Bool) (y : ℕ) (o' : List ℕ) (r : ℕ) → k < ask .claims → t ≡ admitted ask x k → t ≡ true → y ≡ referenceAt references k
-      → KeepIs (ask .order) (ask .size) o count k y x o' r → Stepped ask references k x o count o' r
-  consider-kept t y o' r hk is yes' py p =
-      record {
-        few = p .few;
-        walked = λ dist px.
-            step-taken (ask .order) (referenceAt references) dist (okBy ask dist) (ask .claims) (ask .size) k y x o count o' r hk
-            (ap (λ (z : ℕ). admitted ask z k) (sym px) ∙ sym is ∙ yes') py px p;
-      }
-
-  pub consider-left : (t : Bool) → count ≤ ask .size → t ≡ admitted ask x k → t ≡ false → Stepped ask references k x o count o count
-  consider-left t few is no' =
-      record {
-        few = few;
-        walked = λ dist px.
-            step-passed (ask .order) (referenceAt references) dist (okBy ask dist) (ask .claims) (ask .size) k o count few
-            (ap (λ (z : ℕ). admitted ask z k) (sym px) ∙ sym is ∙ no');
-      }
+use Rattle.walk_keep.specs.Asked.{Asked, Walkable, mostDistance, top, rankAt, numbersOf}
+use Rattle.walk_keep.specs.Kept.{Walked}
+use Rattle.walk_keep.specs.Skips.{halfAt}
+use Rattle.walk_keep.proofs.Walks.{walked-then, walked-fewer}
+use Rattle.walk.specs.Walking.{distBy, apartBy, On, Below, InOrBelow, wayDown, Ranked, Readable, NodeAsk, WayAsk, SideAsk}
+use Rattle.walk.proofs.Metrics.{metric}
+use Rattle.walk.proofs.Sides.{way-leads, Side, Least, least-any, least-half, side-went}
 
 -- ---- what a node holds
 
-module _ (nodes : List ℕ) (e : ℕ → ℕ → ℕ) where
-  parts : (m s k j : ℕ) → k ≡ fieldAt nodes m s - 1 → Under nodes e m s j → (j ≡ k) ⊎ Below nodes e m s k j
-  parts m s k j p (here q) = inl (omega arith)
-  parts m s k j p (deeper l x w z q near side closer later leads hz u) =
-      let y : l ≡ k = omega arith in
+module _ (nodes : List ℕ) (e : ℕ → ℕ → ℕ) (m : ℕ) where
+  parts : (s j : ℕ) → Under nodes e m s j → (fieldAt nodes m s ≡ j + 1) ⊎ Below nodes e m s (sideClaim nodes m s) j
+  parts s j (here q) = inl q
+  parts s j (deeper k x w z q near side closer later leads hz u) =
+      let y : k ≡ sideClaim nodes m s = omega arith in
       let v : x ≡ fieldAt nodes m (1 - s) - 1 = omega arith in
       inr
       (record {
@@ -63,144 +37,122 @@ module _ (nodes : List ℕ) (e : ℕ → ℕ → ℕ) where
         holds = record { side = z; which = hz; under = u };
       })
 
-  not-free : (m s j : ℕ) → Under nodes e m s j → fieldAt nodes m s ≡ 0 → ⊥
-  not-free m s j (here p) z = omega arith
-  not-free m s j (deeper k x w y p q f g t r h u) z = omega arith
+  not-free : (s j : ℕ) → Under nodes e m s j → fieldAt nodes m s ≡ 0 → ⊥
+  not-free s j (here p) z = omega arith
+  not-free s j (deeper k x w y p q f g t r h u) z = omega arith
 
-  two-sides-at : (m j s : ℕ) → s < 2 → Under nodes e m s j → Under nodes e m 0 j ⊎ Under nodes e m 1 j
-  two-sides-at m j zero h u = inl u
-  two-sides-at m j (suc zero) h u = inr u
-  two-sides-at m j (suc (suc s)) h u = absurd (omega arith)
+  -- on a side, or below one
+  sorted-at : (j s : ℕ) → s < 2 → Under nodes e m s j → On nodes m j ⊎ (Below nodes e m 0 (sideClaim nodes m 0) j ⊎ Below nodes e m 1 (sideClaim nodes m 1) j)
+  sorted-at j zero h u = ⊎-elim (λ q. inl (inl q)) (λ b. inr (inl b)) (parts 0 j u)
+  sorted-at j (suc zero) h u = ⊎-elim (λ q. inl (inr q)) (λ b. inr (inr b)) (parts 1 j u)
+  sorted-at j (suc (suc s)) h u = absurd (omega arith)
 
-  two-sides : (m j : ℕ) → Holds nodes e m j → Under nodes e m 0 j ⊎ Under nodes e m 1 j
-  two-sides m j h = two-sides-at m j (h .side) (h .which) (h .under)
+  -- a node with one claim has none below
+  alone-at : fieldAt nodes m 1 ≡ 0 → (j s : ℕ) → s < 2 → Under nodes e m s j → On nodes m j
+  alone-at z j zero h u = ⊎-elim (λ q. inl q) (λ b. absurd (b .beside z)) (parts 0 j u)
+  alone-at z j (suc zero) h u = absurd (not-free 1 j u z)
+  alone-at z j (suc (suc s)) h u = absurd (omega arith)
 
--- a room, after its left claim
-module _ (ask : Asked) (references nodes : List ℕ) (e : ℕ → ℕ → ℕ) (dist : ℕ → ℕ) (m : ℕ) (o : List ℕ) (count l : ℕ) (left : l ≡ fieldAt nodes m 0) (right : ℕ)
-    (read : right ≡ fieldAt nodes m 1) (x : ℕ) (measured : x ≡ dist (l - 1)) (o₁ : List ℕ) (c₁ : ℕ) (w₁ : Stepped ask references (l - 1) x o count o₁ c₁) where
-  abbrev All : List ℕ → ℕ → Type 0
-  All o' r = AskWalked ask references dist (Holds nodes e m) o count o' r
+-- ---- walked
 
-  pub node-one : right ≡ 0 → All o₁ c₁
-  node-one z =
-      walked-fewer _ _ _ _ _ _ _ _ o count o₁ c₁
-      (λ j h. ⊎-elim (λ u. ⊎-elim (λ q. q ∙ ap (λ (t : ℕ). t - 1) (sym left)) (λ q. absurd (q .beside (sym read ∙ z))) (parts nodes e m 0 _ j refl u))
-      (λ u. absurd (not-free nodes e m 1 j u (sym read ∙ z))) (two-sides nodes e m j h)) (w₁ .walked dist measured)
+module _ (ask : Asked) (coordinates probe : List ℤ) (nodes : List ℕ) (m : ℕ) where
+  abbrev Dist : ℕ → ℕ
+  Dist = distBy ask coordinates probe
 
-  module _ (x₂ : ℕ) (measured₂ : x₂ ≡ dist (right - 1)) (o₂ : List ℕ) (c₂ : ℕ) (w₂ : Stepped ask references (right - 1) x₂ o₁ c₁ o₂ c₂)
-      (o₃ : List ℕ) (c₃ : ℕ) (o₄ : List ℕ) (r : ℕ) where
-    abbrev Side : ℕ → ℕ → Type 0
-    Side s j = Below nodes e m s (fieldAt nodes m s - 1) j
+  abbrev E : ℕ → ℕ → ℕ
+  E = apartBy ask coordinates
 
-    node-two : (C C' : ℕ → Type 0) → ((j : ℕ) → Side 0 j ⊎ Side 1 j → C j ⊎ C' j) → AskWalked ask references dist C o₂ c₂ o₃ c₃ → AskWalked ask references dist C' o₃ c₃ o₄ r → All o₄ r
-    node-two C C' order w₃ w₄ =
-        walked-then _ _ _ _ _ _ _ (λ j. (j ≡ l - 1) ⊎ (j ≡ right - 1)) (λ j. Side 0 j ⊎ Side 1 j) o count o₂ c₂ o₄ r
-        (walked-then _ _ _ _ _ _ _ _ _ o count o₁ c₁ o₂ c₂ (w₁ .walked dist measured) (w₂ .walked dist measured₂) (λ j c. c))
-        (walked-then _ _ _ _ _ _ _ C C' o₂ c₂ o₃ c₃ o₄ r w₃ w₄ order)
-        (λ j h. ⊎-elim
-        (λ u. ⊎-elim (λ q. inl (inl (q ∙ ap (λ (t : ℕ). t - 1) (sym left)))) (λ q. inr (inl q)) (parts nodes e m 0 (fieldAt nodes m 0 - 1) j refl u))
-        (λ u. ⊎-elim (λ q. inl (inr (q ∙ ap (λ (t : ℕ). t - 1) (sym read)))) (λ q. inr (inr q)) (parts nodes e m 1 (fieldAt nodes m 1 - 1) j refl u))
-        (two-sides nodes e m j h))
+  abbrev Went : (ℕ → Type 0) → List ℕ → List ℕ → Type 0
+  Went C o o' = Walked ask Dist C o o'
 
-    module _ (metric : Metric e dist) (some : 0 < ask .size) (rl : ℕ) (ranked : rl ≡ rank (ask .order) x) (rr : ℕ) (ranked₂ : rr ≡ rank (ask .order) x₂) (way way₂ : ℕ) where
-      left-went : (o : List ℕ) (c : ℕ) → c ≤ ask .size → (way : ℕ) (o' : List ℕ) (c' : ℕ) → way ≡ wayDown nodes ask m 0 rl rr o c
-          → AskWalked ask references dist (InOrBelow nodes e way) o c o' c' → AskWalked ask references dist (Side 0) o c o' c'
-      left-went o c few way o' c' = side-went ask references nodes e dist metric some m 0 o c few l x rl right x₂ rr way o' c' left measured ranked read measured₂ ranked₂
+  module _ (o o₁ : List ℕ) (w : Went (On nodes m) o o₁) where
+    pub node-one : fieldAt nodes m 1 ≡ 0 → Went (Holds nodes E m) o o₁
+    node-one z = walked-fewer ask Dist (Holds nodes E m) (On nodes m) o o₁ (λ j h. alone-at nodes E m z j (h .side) (h .which) (h .under)) w
 
-      right-went : (o : List ℕ) (c : ℕ) → c ≤ ask .size → (way : ℕ) (o' : List ℕ) (c' : ℕ) → way ≡ wayDown nodes ask m 1 rr rl o c
-          → AskWalked ask references dist (InOrBelow nodes e way) o c o' c' → AskWalked ask references dist (Side 1) o c o' c'
-      right-went o c few way o' c' = side-went ask references nodes e dist metric some m 1 o c few right x₂ rr l x rl way o' c' read measured₂ ranked₂ left measured ranked
+    module _ (o₂ o₃ : List ℕ) where
+      node-two : (C C' : ℕ → Type 0) → ((j : ℕ) → Below nodes E m 0 (sideClaim nodes m 0) j ⊎ Below nodes E m 1 (sideClaim nodes m 1) j → C j ⊎ C' j)
+          → Went C o₁ o₂ → Went C' o₂ o₃ → Went (Holds nodes E m) o o₃
+      node-two C C' order w₁ w₂ =
+          walked-then ask Dist (Holds nodes E m) (On nodes m) (λ j. Below nodes E m 0 (sideClaim nodes m 0) j ⊎ Below nodes E m 1 (sideClaim nodes m 1) j) o o₁ o₃ w
+          (walked-then ask Dist _ C C' o₁ o₂ o₃ w₁ w₂ order) (λ j h. sorted-at nodes E m j (h .side) (h .which) (h .under))
 
-      pub node-left-first : way ≡ wayDown nodes ask m 0 rl rr o₂ c₂ → AskWalked ask references dist (InOrBelow nodes e way) o₂ c₂ o₃ c₃
-          → way₂ ≡ wayDown nodes ask m 1 rr rl o₃ c₃ → AskWalked ask references dist (InOrBelow nodes e way₂) o₃ c₃ o₄ r → All o₄ r
-      node-left-first is w₃ is₂ w₄ =
-          node-two (Side 0) (Side 1) (λ j c. c) (left-went o₂ c₂ (w₂ .few) way o₃ c₃ is w₃) (right-went o₃ c₃ (w₃ .few) way₂ o₄ r is₂ w₄)
+      module _ (fit : Walkable ask) (x y : ℕ) (left : Ranked ask coordinates probe nodes m 0 x) (right : Ranked ask coordinates probe nodes m 1 y) (way way₂ : ℕ) where
+        -- below side s
+        went : (s : ℕ) (x least : ℕ) → Ranked ask coordinates probe nodes m s x → Least ask fit nodes E Dist (metric ask coordinates probe) m s least → (o o' : List ℕ) (way : ℕ)
+            → way ≡ wayDown nodes (numbersOf ask) m s x least o → Went (InOrBelow nodes E way) o o' → Went (Below nodes E m s (sideClaim nodes m s)) o o'
+        went s x least r least-is o o' way = side-went ask fit nodes E Dist (metric ask coordinates probe) m s x least (r .near) (r .rank) least-is o way o'
 
-      pub node-right-first : way ≡ wayDown nodes ask m 1 rr rl o₂ c₂ → AskWalked ask references dist (InOrBelow nodes e way) o₂ c₂ o₃ c₃
-          → way₂ ≡ wayDown nodes ask m 0 rl rr o₃ c₃ → AskWalked ask references dist (InOrBelow nodes e way₂) o₃ c₃ o₄ r → All o₄ r
-      node-right-first is w₃ is₂ w₄ =
-          node-two (Side 1) (Side 0) (λ j c. ⊎-elim (λ q. inr q) (λ q. inl q) c) (right-went o₂ c₂ (w₂ .few) way o₃ c₃ is w₃) (left-went o₃ c₃ (w₃ .few) way₂ o₄ r is₂ w₄)
+        pub node-left-first : x ≤ y → way ≡ wayDown nodes (numbersOf ask) m 0 x 0 o₁ → Went (InOrBelow nodes E way) o₁ o₂
+            → way₂ ≡ wayDown nodes (numbersOf ask) m 1 y (halfAt (ask .order) (y - x) 1) o₂ → Went (InOrBelow nodes E way₂) o₂ o₃ → Went (Holds nodes E m) o o₃
+        node-left-first closer is w₁ is₂ w₂ =
+            node-two (Below nodes E m 0 (sideClaim nodes m 0)) (Below nodes E m 1 (sideClaim nodes m 1)) (λ j c. c)
+            (went 0 x 0 left (least-any ask fit nodes E Dist (metric ask coordinates probe) m 0) o₁ o₂ way is w₁)
+            (went 1 y _ right (least-half ask fit nodes E Dist (metric ask coordinates probe) m 1 y x (lit< tt) (right .near) (right .rank) (left .rank) closer) o₂ o₃ way₂ is₂ w₂)
+
+        pub node-right-first : y < x → way ≡ wayDown nodes (numbersOf ask) m 1 y 0 o₁ → Went (InOrBelow nodes E way) o₁ o₂
+            → way₂ ≡ wayDown nodes (numbersOf ask) m 0 x (halfAt (ask .order) (x - y) 0) o₂ → Went (InOrBelow nodes E way₂) o₂ o₃ → Went (Holds nodes E m) o o₃
+        node-right-first closer is w₁ is₂ w₂ =
+            node-two (Below nodes E m 1 (sideClaim nodes m 1)) (Below nodes E m 0 (sideClaim nodes m 0)) (λ j c. ⊎-elim (λ q. inr q) (λ q. inl q) c)
+            (went 1 y 0 right (least-any ask fit nodes E Dist (metric ask coordinates probe) m 1) o₁ o₂ way is w₁)
+            (went 0 x _ left (least-half ask fit nodes E Dist (metric ask coordinates probe) m 0 x y (lit< tt) (left .near) (left .rank) (right .rank) (omega arith)) o₂ o₃ way₂ is₂ w₂)
 
 -- ---- what the links give
 
-pub stored-here : (nodes : List ℕ) (used n m s x : ℕ) → Searchable nodes used n m → s < 2 → x ≡ fieldAt nodes m s → (x ≡ 0 → ⊥) → x - 1 < n
-unfolding Linked
-stored-here nodes used n m s x h hs read some = omega (arith, h .linked m (h .inUse) .stored s hs)
+module _ (nodes : List ℕ) (used n m : ℕ) (h : Searchable nodes used n m) where
+  pub stored-here : (s x : ℕ) → s < 2 → x ≡ fieldAt nodes m s → x ≤ n
+  unfolding Linked
+  stored-here s x hs read = omega (arith, h .linked m (h .inUse) .stored s hs)
 
-pub left-here : (nodes : List ℕ) (used n m x : ℕ) → Searchable nodes used n m → x ≡ fieldAt nodes m 0 → 0 < x
-unfolding Linked
-left-here nodes used n m x h read = omega (arith, h .linked m (h .inUse) .left)
+  pub left-here : (x : ℕ) → x ≡ fieldAt nodes m 0 → 0 < x
+  unfolding Linked
+  left-here x read = omega (arith, h .linked m (h .inUse) .left)
 
-pub rises-here : (nodes : List ℕ) (used n m s x : ℕ) → Searchable nodes used n m → s < 2 → x ≡ fieldAt nodes m (4 + s) → (x ≡ 0 → ⊥) → m < x - 1
-unfolding Linked
-rises-here nodes used n m s x h hs read some = omega (arith, h .linked m (h .inUse) .rises s hs (λ q. some (read ∙ q)))
+  rises-here : (s x : ℕ) → s < 2 → x ≡ fieldAt nodes m (4 + s) → (x ≡ 0 → ⊥) → m < x - 1
+  unfolding Linked
+  rises-here s x hs read some = omega (arith, h .linked m (h .inUse) .rises s hs (λ q. some (read ∙ q)))
 
-pub next-here : (nodes : List ℕ) (used n m s x : ℕ) → Searchable nodes used n m → s < 2 → x ≡ fieldAt nodes m (4 + s) → (x ≡ 0 → ⊥) → Searchable nodes used n (x - 1)
-unfolding Linked
-next-here nodes used n m s x h hs read some =
-    record { linked = h .linked; room = h .room; inUse = omega (arith, h .linked m (h .inUse) .leads s hs) }
+  next-here : (s x : ℕ) → s < 2 → x ≡ fieldAt nodes m (4 + s) → (x ≡ 0 → ⊥) → Searchable nodes used n (x - 1)
+  unfolding Linked
+  next-here s x hs read some = record { linked = h .linked; room = h .room; inUse = omega (arith, h .linked m (h .inUse) .leads s hs) }
 
-pub roomy-again : (size : ℕ) (o o' : List ℕ) (count r : ℕ) → PageRoomy size o count → length o' ≡ length o → r ≤ size → PageRoomy size o' r
-roomy-again size o o' count r h e few = record { some = h .some; few = few; long = omega (arith, h .long) }
-
--- the nodes left above the one that a side leads to, counted for the measure of the walk
+-- the nodes above the one that a side leads to, counted for the measure of the walk
 abbrev pub leftAbove : ℕ → ℕ → ℕ
-leftAbove used zero = 0
-leftAbove used (suc k) = (used - k) * 2 + 1
+leftAbove all zero = 0
+leftAbove all (suc k) = (all - k) * 2 + 1
 
-pub node-falls : (used way : ℕ) → (way ≡ 0 → ⊥) → (used - (way - 1)) * 2 < leftAbove used way
-node-falls used zero some = absurd (some refl)
-node-falls used (suc k) some = omega arith
-
--- claim k has its d coordinates in the lent memory
-pub in-sight : (ask : Asked) (references : List ℕ) (coordinates probe : List ℤ) (k : ℕ) → Readable ask references coordinates probe → k < ask .claims → InSight (ask .d) k coordinates probe
-in-sight ask references coordinates probe k h hk =
-    record { narrow = h .located .narrow; inside = located-at (ask .d) (ask .claims) k coordinates (h .located) hk; aimed = h .aimed }
+pub node-falls : (all way : ℕ) → (way ≡ 0 → ⊥) → (all - (way - 1)) * 2 < leftAbove all way
+node-falls all zero some = absurd (some refl)
+node-falls all (suc k) some = omega arith
 
 -- ---- what a side may ask
 
-module _ (references : List ℕ) (coordinates : List ℤ) (nodes : List ℕ) (probe : List ℤ) (ask : Asked) (m : ℕ) (o₀ : List ℕ) (c₀ : ℕ) (h : NodeAsk references coordinates nodes probe ask m o₀ c₀)
-    (s : ℕ) (hs : s < 2) (o : List ℕ) (count : ℕ) where
-  pub way-ready : length o ≡ length o₀ → count ≤ ask .size → WayAsk nodes ask m s o count
-  way-ready len few = record { which = hs; inside = omega (arith, h .walk .room, h .walk .inUse); roomy = roomy-again (ask .size) o₀ o c₀ count (h .roomy) len few }
+module _ (nodes : List ℕ) (coordinates probe : List ℤ) (numbers : List ℕ) (m : ℕ) (h : NodeAsk nodes coordinates probe numbers m) (s : ℕ) (hs : s < 2) where
+  pub way-ready : (x least : ℕ) → x ≤ top → least ≤ top → WayAsk nodes numbers m s x least
+  way-ready x least hx hl =
+      record {
+        ask = h .lent .ask;
+        is = h .lent .is;
+        fit = h .lent .fit;
+        which = hs;
+        inside = omega (arith, h .walk .room, h .walk .inUse);
+        stored = omega (arith, stored-here nodes (h .used) (h .claims) m (h .walk) 1 (fieldAt nodes m 1) (lit< tt) refl, h .lent .few);
+        rank = hx;
+        least' = hl;
+      }
 
-  module _ (x y way : ℕ) (is : way ≡ wayDown nodes ask m s x y o count) where
-    side-ready : length o ≡ length o₀ → count ≤ ask .size → SideAsk references coordinates nodes probe ask way o count
-    side-ready len few =
-        record {
-          walk = λ some. next-here nodes (ask .used) (ask .claims) m s way (h .walk) hs (way-leads ask nodes m s x y o count way is some) some;
-          lent = h .lent;
-          roomy = roomy-again (ask .size) o₀ o c₀ count (h .roomy) len few;
-        }
+  module _ (x least way : ℕ) (o : List ℕ) (is : way ≡ wayDown nodes numbers m s x least o) where
+    next : (way ≡ 0 → ⊥) → Searchable nodes (h .used) (h .claims) (way - 1)
+    next some = next-here nodes (h .used) (h .claims) m (h .walk) s way hs (way-leads nodes numbers m s x least o way is some) some
 
-    side-falls : leftAbove (ask .used) way < (ask .used - m) * 2
-    side-falls =
-        go way (λ some. rises-here nodes (ask .used) (ask .claims) m s way (h .walk) hs (way-leads ask nodes m s x y o count way is some) some)
+    side-falls : leftAbove (length nodes) way < (length nodes - m) * 2
+    side-falls = go way next (λ some. rises-here nodes (h .used) (h .claims) m (h .walk) s way hs (way-leads nodes numbers m s x least o way is some) some)
       where
-        go : (w : ℕ) → ((w ≡ 0 → ⊥) → m < w - 1) → leftAbove (ask .used) w < (ask .used - m) * 2
-        go zero f = omega (arith, h .walk .inUse)
-        go (suc k) f = let q : m < suc k - 1 = f (λ z. omega arith) in omega (arith, h .walk .inUse)
+        go : (w : ℕ) → ((w ≡ 0 → ⊥) → Searchable nodes (h .used) (h .claims) (w - 1)) → ((w ≡ 0 → ⊥) → m < w - 1) → leftAbove (length nodes) w < (length nodes - m) * 2
+        go zero f g = omega (arith, h .walk .inUse, h .walk .room)
+        go (suc k) f g =
+            let some : suc k ≡ 0 → ⊥ = λ z. omega arith in
+            omega (arith, g some, f some .inUse, h .walk .inUse, h .walk .room)
 
     -- what `node` owes a call of `side`, where its own measure is t
-    pub side-asked : (t : ℕ) → (ask .used - m) * 2 ≡ t → length o ≡ length o₀ → count ≤ ask .size
-        → (leftAbove (ask .used) way < t) × SideAsk references coordinates nodes probe ask way o count
-    side-asked t e len few = (omega (arith, side-falls), side-ready len few)
-
--- ---- the page
-
-module _ (references : List ℕ) (coordinates : List ℤ) (nodes : List ℕ) (probe : List ℤ) (ask : Asked) (o : List ℕ) (asks : PageAsk references coordinates nodes probe ask o) where
-  pub page-none : ask .used ≡ 0 → AskFilled ask references (distBy ask coordinates probe) o o 0
-  unfolding firstSorted sortedOf items
-  page-none z =
-      let none' : ask .claims ≡ 0 = asks .tree .empty z in
-      let e : take {A = ℕ} (ask .size) [] ≡ [] = take-nil (ask .size) in
-      record { room = rw (none', e); counts = rw (none', e) }
-
-  pub page-all : (o' : List ℕ) (r : ℕ) → AskWalked ask references (distBy ask coordinates probe) (Holds nodes (apartBy ask coordinates) 0) o 0 o' r
-      → AskFilled ask references (distBy ask coordinates probe) o o' r
-  unfolding items
-  page-all o' r w =
-      let small : ask .claims < 2 ^ 64 = omega (arith, asks .tree .few) in
-      let t = w .took o [] (record { front = refl; counts = refl; rising = none; long = asks .roomy .long; small = small }) in
-      let e = all-are-first (rankBy ask (distBy ask coordinates probe)) (okBy ask (distBy ask coordinates probe)) (ask .claims) (ask .size) (Holds nodes (apartBy ask coordinates) 0) (t .kept) small (asks .tree .all) (t .is) in
-      record { room = rw (← e) (t .holds .front); counts = rw (← e) (t .holds .counts) }
+    pub side-asked : (t : ℕ) → (length nodes - m) * 2 ≡ t → (leftAbove (length nodes) way < t) × SideAsk nodes coordinates probe numbers way
+    side-asked t e = (omega (arith, side-falls), record { used = h .used; claims = h .claims; walk = next; lent = h .lent })

@@ -1,5 +1,5 @@
 -- The three questions to a sound table, in the words of the rules. Definitions only.
-use Prim.Native.Nat.{ℕ, _*_, _<_, _≤_}
+use Prim.Native.Nat.{ℕ, _+_, _*_, _<_, _≤_}
 use mathlib.Core.Path.{_≡_}
 use mathlib.Core.Bool.{true, false}
 use mathlib.Core.List.{List}
@@ -10,11 +10,12 @@ use Rattle.paper.specs.declared.orders.Paged.{Paged}
 use Rattle.paper.specs.declared.orders.Place.{Place}
 use Rattle.paper.specs.declared.orders.Place.the-variants.{Start, After}
 use Rattle.paper.specs.declared.tables.Table.{Table}
-use Rattle.paper.specs.Points.{Claim}
+use Rattle.paper.specs.Limits.{mostPage}
+use Rattle.paper.specs.Points.{Claim, InRange}
 use Rattle.paper.specs.Orders.{Item, Query, startMark, snapshotOf, following, pageOf, lastOf, flat, fronted}
 use Rattle.paper.specs.Tree.{Store, apartIn}
 use Rattle.tree.specs.BuiltNodes.{Neartree, Located}
-use Rattle.walk_keep.specs.declared.Asked.{Asked}
+use Rattle.walk_keep.specs.Asked.{Asked}
 
 -- [4.4] [4.5] the question as the walk asks it: at the start its snapshot is the count, and it has no mark
 unfoldable pub askedOf : Table → Order → ℕ → Place → ℕ → Asked
@@ -23,8 +24,6 @@ askedOf t order reach Start size =
       order = order;
       measure = t .measure;
       d = t .d;
-      claims = t .count;
-      used = t .used;
       reach = reach;
       snapshot = t .count;
       after = false;
@@ -36,8 +35,6 @@ askedOf t order reach (After n m) size =
       order = order;
       measure = t .measure;
       d = t .d;
-      claims = t .count;
-      used = t .used;
       reach = reach;
       snapshot = n;
       after = true;
@@ -48,11 +45,12 @@ askedOf t order reach (After n m) size =
 -- the claims and the probe are there to be measured
 pub record Measurable (t : Table) (coordinates probe : List ℤ) : Type 0 where
   pub located : Located (t .d) (t .count) coordinates
-  pub aimed : t .d ≤ length probe
+  pub aimed : length probe ≡ t .d
 
 -- the table is sound, as far as a search needs it
 pub record Answerable (s : Store) (probe : List ℤ) : Type 0 where
   pub tree : Neartree (s .nodes) (apartIn s) (s .table .used) (s .table .count)
+  pub ranged : InRange (s .table .measure) (s .table .d)
   pub measurable : Measurable (s .table) (s .coordinates) probe
   pub named : s .table .count ≤ length (s .references)
 
@@ -60,6 +58,7 @@ pub record Answerable (s : Store) (probe : List ℤ) : Type 0 where
 pub record Pageable (t : Table) (place : Place) (size : ℕ) (room : List ℕ) : Type 0 where
   pub stored : snapshotOf place (t .count) ≤ t .count
   pub some : 0 < size
+  pub few : size ≤ mostPage + 1
   pub long : size * 3 ≤ length room
 
 -- a place's mark can be measured: the snapshot is not over the count

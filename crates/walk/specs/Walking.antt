@@ -1,18 +1,19 @@
 -- What the walk of a node and of a side ask and give. Definitions only.
-use Prim.Native.Nat.{ℕ, _+_, _-_, _*_, _<_, _≤_}
+use Prim.Native.Nat.{ℕ, zero, suc, _+_, _-_, _*_, _<_, _≤_}
 use mathlib.Core.Path.{_≡_}
-use mathlib.Core.Bool.{Bool, cond}
+use mathlib.Core.Logic.{_⊎_}
+use mathlib.Core.Bool.{cond}
 use mathlib.Core.List.{List}
 use lib.IntN.{ℤ}
 use lib.ListN.{length, drop}
 use Rattle.paper.specs.Points.{measureOf, distance, greatestOf}
 use Rattle.paper.specs.Tree.{fieldAt, sideClaim, apart, referenceAt}
 use Rattle.tree.specs.BuiltNodes.{Inside, Holds, Searchable, Neartree, Located}
-use Rattle.walk_keep.specs.declared.Asked.{Asked}
-use Rattle.walk_keep.specs.Page.{ranks, Filled}
-use Rattle.walk_keep.specs.Kept.{PageRoomy, Walked}
-use Rattle.walk_keep.specs.Skips.{admitted, boundOf, beyondOf, passedOf}
-use Rattle.paper.specs.Limits.{mostCoordinates}
+use Rattle.walk_keep.specs.Asked.{Asked, Walkable, mostDistance, top, rankAt, numbersOf}
+use Rattle.walk_keep.specs.Page.{Filled, filled}
+use Rattle.walk_keep.specs.Kept.{okBy, Holding, Walked}
+use Rattle.walk_keep.specs.Skips.{passedAt, beyondAt}
+use Rattle.paper.specs.Limits.{mostClaims, mostCoordinates}
 
 -- how far claim k is from the probe
 unfoldable pub distOf : ℕ → ℕ → List ℤ → List ℤ → ℕ → ℕ
@@ -27,6 +28,7 @@ Bounded measure d coordinates probe k = distOf measure d coordinates probe k ≤
 abbrev pub RootBounded : ℕ → ℕ → ℕ → List ℤ → List ℕ → List ℤ → Type 0
 RootBounded used measure d coordinates nodes probe = (used ≡ 0 → ⊥) → Bounded measure d coordinates probe (sideClaim nodes 0 0)
 
+-- by a question
 abbrev pub distBy : Asked → List ℤ → List ℤ → ℕ → ℕ
 distBy ask coordinates probe = distOf (ask .measure) (ask .d) coordinates probe
 
@@ -39,14 +41,6 @@ pub record InSight (d k : ℕ) (coordinates probe : List ℤ) : Type 0 where
 -- how far claims j and k are apart
 abbrev pub apartBy : Asked → List ℤ → ℕ → ℕ → ℕ
 apartBy ask coordinates = apart (ask .measure) (ask .d) coordinates
-
--- whether claim k is admitted, where it is `dist k` away
-abbrev pub okBy : Asked → (ℕ → ℕ) → ℕ → Bool
-okBy ask dist k = admitted ask (dist k) k
-
--- its rank
-abbrev pub rankBy : Asked → (ℕ → ℕ) → ℕ → ℕ
-rankBy ask dist = ranks (ask .order) dist
 
 -- all that the walk uses of the measure: claim k is `dist k` from the probe and `e k j` from claim j
 pub record Metric (e : ℕ → ℕ → ℕ) (dist : ℕ → ℕ) : Type 0 where
@@ -69,58 +63,96 @@ pub record InOrBelow (nodes : List ℕ) (e : ℕ → ℕ → ℕ) (way j : ℕ) 
   pub some : way ≡ 0 → ⊥
   pub holds : Holds nodes e (way - 1) j
 
--- [4.11] the node below side s of node m, plus one, or 0 where all below comes before the mark or is beyond what is still wanted: the
--- side's claim is at rank x, the other side's at rank y
-unfoldable pub wayDown : List ℕ → Asked → ℕ → ℕ → ℕ → ℕ → List ℕ → ℕ → ℕ
-wayDown nodes ask m s x y o count =
-    cond (passedOf ask x (fieldAt nodes m (2 + s))) 0
-    (cond (beyondOf (ask .order) (boundOf ask o count) x y s (fieldAt nodes m (2 + s))) 0 (fieldAt nodes m (4 + s)))
+-- [4.11] the node below side s of node m, plus one, or 0 where all below comes before the first rank wanted or is beyond the last key kept: the
+-- side's claim is at rank x, and no claim below is before rank `least`
+unfoldable pub wayDown : List ℕ → List ℕ → ℕ → ℕ → ℕ → ℕ → List ℕ → ℕ
+wayDown nodes numbers m s x least o =
+    cond (passedAt numbers x (fieldAt nodes m (2 + s))) 0
+    (cond (beyondAt numbers x (fieldAt nodes m (2 + s)) least (fieldAt nodes m 1) o) 0 (fieldAt nodes m (4 + s)))
 
--- what the question's walk over the claims of C does
-abbrev pub AskWalked : Asked → List ℕ → (ℕ → ℕ) → (ℕ → Type 0) → List ℕ → ℕ → List ℕ → ℕ → Type 0
-AskWalked ask references dist C o count o' r = Walked (ask .order) (referenceAt references) dist (okBy ask dist) (ask .claims) (ask .size) C o count o' r
+-- a, or b where a is 0
+unfoldable pub eitherOf : ℕ → ℕ → ℕ
+eitherOf zero b = b
+eitherOf (suc a) b = suc a
 
--- the step of claim k, at distance x
-pub record Stepped (ask : Asked) (references : List ℕ) (k x : ℕ) (o : List ℕ) (count : ℕ) (o' : List ℕ) (r : ℕ) : Type 0 where
-  pub few : r ≤ ask .size
-  pub walked : (dist : ℕ → ℕ) → x ≡ dist k → AskWalked ask references dist (λ j. j ≡ k) o count o' r
+-- claim j stands on a side of node m
+abbrev pub On : List ℕ → ℕ → ℕ → Type 0
+On nodes m j = (fieldAt nodes m 0 ≡ j + 1) ⊎ (fieldAt nodes m 1 ≡ j + 1)
 
--- the lent memory has what the question reads of it
-pub record Readable (ask : Asked) (references : List ℕ) (coordinates probe : List ℤ) : Type 0 where
-  pub located : Located (ask .d) (ask .claims) coordinates
-  pub named : ask .claims ≤ length references
-  pub aimed : ask .d ≤ length probe
+-- the claim of side s of node m was measured, and is at rank x
+pub record Ranked (ask : Asked) (coordinates probe : List ℤ) (nodes : List ℕ) (m s x : ℕ) : Type 0 where
+  pub rank : x ≡ rankAt (ask .order) (distBy ask coordinates probe (sideClaim nodes m s))
+  pub bounded : Bounded (ask .measure) (ask .d) coordinates probe (sideClaim nodes m s)
+  pub near : distBy ask coordinates probe (sideClaim nodes m s) ≤ mostDistance
 
--- what the step of claim k asks
-pub record StepAsk (ask : Asked) (references : List ℕ) (k : ℕ) (o : List ℕ) (count : ℕ) : Type 0 where
-  pub stored : k < ask .claims
-  pub named : ask .claims ≤ length references
-  pub roomy : PageRoomy (ask .size) o count
+-- the steps of the claims of node m
+pub record Visits (ask : Asked) (coordinates probe : List ℤ) (nodes : List ℕ) (m : ℕ) (o o' : List ℕ) (left right : ℕ) : Type 0 where
+  pub walked : Walked ask (distBy ask coordinates probe) (On nodes m) o o'
+  pub left-is : Ranked ask coordinates probe nodes m 0 left
+  pub right-is : (fieldAt nodes m 1 ≡ 0 → ⊥) → Ranked ask coordinates probe nodes m 1 right
+  pub right-small : right ≤ top
+
+-- the numbers are a question's, and the lent memory has what it reads of n claims
+pub record Readable (numbers : List ℕ) (coordinates probe : List ℤ) (n : ℕ) : Type 0 where
+  pub ask : Asked
+  pub is : numbers ≡ numbersOf ask
+  pub fit : Walkable ask
+  pub measure : ask .measure < 256
+  pub located : Located (ask .d) n coordinates
+  pub few : n ≤ mostClaims
 
 -- what the walk of node m asks
-pub record NodeAsk (references : List ℕ) (coordinates : List ℤ) (nodes : List ℕ) (probe : List ℤ) (ask : Asked) (m : ℕ) (o : List ℕ) (count : ℕ) : Type 0 where
-  pub walk : Searchable nodes (ask .used) (ask .claims) m
-  pub lent : Readable ask references coordinates probe
-  pub roomy : PageRoomy (ask .size) o count
+pub record NodeAsk (nodes : List ℕ) (coordinates probe : List ℤ) (numbers : List ℕ) (m : ℕ) : Type 0 where
+  pub used : ℕ
+  pub claims : ℕ
+  pub walk : Searchable nodes used claims m
+  pub lent : Readable numbers coordinates probe claims
 
 -- what the tests of side s of node m ask
-pub record WayAsk (nodes : List ℕ) (ask : Asked) (m s : ℕ) (o : List ℕ) (count : ℕ) : Type 0 where
+pub record WayAsk (nodes numbers : List ℕ) (m s x least : ℕ) : Type 0 where
+  pub ask : Asked
+  pub is : numbers ≡ numbersOf ask
+  pub fit : Walkable ask
   pub which : s < 2
   pub inside : Inside nodes m
-  pub roomy : PageRoomy (ask .size) o count
+  pub stored : fieldAt nodes m 1 ≤ mostClaims
+  pub rank : x ≤ top
+  pub least' : least ≤ top
 
 -- what the walk below a side asks
-pub record SideAsk (references : List ℕ) (coordinates : List ℤ) (nodes : List ℕ) (probe : List ℤ) (ask : Asked) (way : ℕ) (o : List ℕ) (count : ℕ) : Type 0 where
-  pub walk : (way ≡ 0 → ⊥) → Searchable nodes (ask .used) (ask .claims) (way - 1)
-  pub lent : Readable ask references coordinates probe
-  pub roomy : PageRoomy (ask .size) o count
+pub record SideAsk (nodes : List ℕ) (coordinates probe : List ℤ) (numbers : List ℕ) (way : ℕ) : Type 0 where
+  pub used : ℕ
+  pub claims : ℕ
+  pub walk : (way ≡ 0 → ⊥) → Searchable nodes used claims (way - 1)
+  pub lent : Readable numbers coordinates probe claims
 
--- what a page asks
-pub record PageAsk (references : List ℕ) (coordinates : List ℤ) (nodes : List ℕ) (probe : List ℤ) (ask : Asked) (o : List ℕ) : Type 0 where
-  pub tree : Neartree nodes (apartBy ask coordinates) (ask .used) (ask .claims)
-  pub lent : Readable ask references coordinates probe
-  pub roomy : PageRoomy (ask .size) o 0
+-- the room holds keys of claims that have references, and what they are given to has place for them
+pub record GiveAsk (numbers references kept room : List ℕ) : Type 0 where
+  pub ask : Asked
+  pub is : numbers ≡ numbersOf ask
+  pub fit : Walkable ask
+  pub dist : ℕ → ℕ
+  pub claims : List ℕ
+  pub holds : Holding ask dist kept claims
+  pub named : ask .snapshot ≤ length references
+  pub long : ask .size * 3 ≤ length room
+
+-- [4.8] the claims of l were put at the front of the room
+pub record Gives (ref dist : ℕ → ℕ) (l before after : List ℕ) (count : ℕ) : Type 0 where
+  pub room : after ≡ filled ref dist l before
+  pub counts : count ≡ length l
+
+-- what a page asks of a table that has a claim
+pub record PageAsk (references : List ℕ) (coordinates : List ℤ) (nodes : List ℕ) (probe : List ℤ) (numbers room : List ℕ) : Type 0 where
+  pub used : ℕ
+  pub claims : ℕ
+  pub some : 0 < used
+  pub lent : Readable numbers coordinates probe claims
+  pub tree : Neartree nodes (apartBy (lent .ask) coordinates) used claims
+  pub stored : lent .ask .snapshot ≤ claims
+  pub named : claims ≤ length references
+  pub long : lent .ask .size * 3 ≤ length room
 
 -- [4.6] [4.8] the first so many admitted claims stand at the front of the room
 abbrev pub AskFilled : Asked → List ℕ → (ℕ → ℕ) → List ℕ → List ℕ → ℕ → Type 0
-AskFilled ask references dist o o' r = Filled (ask .order) (referenceAt references) dist (okBy ask dist) (ask .claims) (ask .size) o o' r
+AskFilled ask references dist o o' r = Filled (ask .order) (referenceAt references) dist (okBy ask dist) (ask .snapshot) (ask .size) o o' r

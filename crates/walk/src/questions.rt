@@ -9,52 +9,65 @@ ghost use Rattle.paper.specs.Tree.{lent, claimsFrom, claimsIn};
 ghost use Rattle.paper.specs.declared.orders.Nearest.the-variants.{Answer};
 ghost use Rattle.paper.specs.Calls.{tableQuery, NothingJust};
 ghost use Rattle.paper.specs.Limits.{mostPage};
-ghost use Rattle.walk.specs.Walking.{RootBounded};
+ghost use Rattle.walk_keep.specs.Asked.{numbersOf};
+ghost use Rattle.walk.specs.Walking.{distOf, InSight, RootBounded};
 ghost use Rattle.walk.specs.Asking.{askedOf, Answerable, Pageable, Markable, Fills, PageFound, PageIs};
-use super::walking::from_probe;
-use super::walking::page;
+use crate::pages::page;
+use checks::padded;
+use paper::limits::MOST_NUMBER;
 use paper::limits::SCRATCH_ITEMS;
 use paper::orders::Found;
-use paper::orders::Mark;
 use paper::orders::Order;
 use paper::orders::Paged;
 use paper::orders::Place;
 use paper::points::Measure;
 use paper::tables::Table;
 use rows::join;
-use walk_keep::Asked;
-use walk_keep::counted;
+use walk_keep::keys::TOP;
+use walk_keep::keys::key;
+use walk_keep::keys::larger;
+use walk_keep::keys::lesser;
+use walk_keep::keys::rank;
+use walk_keep::numbers::NUMBERS;
+use walk_keep::numbers::behind;
+use walk_keep::numbers::far_number;
+use walk_keep::numbers::front;
+use walk_keep::pages::counted;
 
-// [4.4] [4.5] The question as the walk asks it.
-fn asked(t: Table, order: Order, reach: u64, place: Place, size: usize) -> Asked
-    ensures { λ r. ⌜ r ≡ askedOf t order reach place size ⌝ }
+// [4.4] [4.5] The question as the walk asks it, in numbers. A mark beyond what keys have place for is behind all claims in near order, and before
+// all in far order, as the greatest rank and number are.
+fn asked(t: Table, order: Order, reach: u64, place: Place, size: usize) -> [u64; NUMBERS]
+    ensures { λ r. ⌜ r ≡ numbersOf (askedOf t order reach place size) ⌝ }
 {
-    match place {
-        Place::Start => Asked {
-            order,
-            measure: t.measure,
-            d: t.d,
-            claims: t.count,
-            used: t.used,
-            reach,
-            snapshot: t.count as u64,
-            after: false,
-            mark: Mark::START,
-            size,
-        },
-        Place::After(snapshot, mark) => Asked {
-            order,
-            measure: t.measure,
-            d: t.d,
-            claims: t.count,
-            used: t.used,
-            reach,
-            snapshot,
-            after: true,
-            mark,
-            size,
-        },
-    }
+    let far = far_number(order);
+    let first = front(order, reach);
+    let low = key(first, 0);
+    let end = key(behind(order, reach), 0);
+    let measure = t.measure as u64;
+    let Place::After(snapshot, mark) = place else {
+        return [
+            far,
+            measure,
+            t.d as u64,
+            size as u64,
+            t.count as u64,
+            low,
+            first,
+            end,
+        ];
+    };
+    let r = rank(far, lesser(mark.distance, TOP));
+    let behind_mark = key(r, lesser(mark.number, MOST_NUMBER)) + 1;
+    [
+        far,
+        measure,
+        t.d as u64,
+        size as u64,
+        snapshot,
+        larger(low, behind_mark),
+        larger(first, r),
+        end,
+    ]
 }
 
 // [4.6] [4.8] The first `size` claims after the place, in order, at the front of the room, three numbers each: number, reference,
@@ -76,8 +89,13 @@ pub fn fill(
     ensures filled { λ r. ⌜ Fills (pageOf (tableQuery t order (now (probe .entry)) reach) (claimsIn (lent t (references .entry) (coordinates .entry) (nodes .entry))) place size) (now (room .entry)) (now (room .exit)) r ⌝ }
     ensures bounded { λ _. ⌜ RootBounded (t .used) (t .measure) (t .d) (now (coordinates .entry)) (now (nodes .entry)) (now (probe .entry)) ⌝ }
 {
+    let used = t.used;
+    if used == 0 {
+        return 0;
+    }
     let ask = asked(t, order, reach, place, size);
-    page(references, coordinates, nodes, probe, ask, room)
+    let slots = padded(probe);
+    page(references, coordinates, nodes, &slots, &ask, room)
 }
 
 // [4.6] [4.7] Looks for a page, and for one claim more: a walk skips branches without knowing whether they hold a claim, so only a claim
@@ -213,6 +231,14 @@ pub fn farthest(
     let far = Order::Far;
     let greatest = Measure::numbered(t.measure).greatest(t.d as u64);
     first(t, references, coordinates, nodes, far, probe, greatest)
+}
+
+// How far claim k is from the probe.
+fn from_probe(measure: u8, d: usize, coordinates: &[i32], probe: &[i32], k: u64) -> u64
+    requires { ⌜ InSight d k (now coordinates) (now probe) ⌝ }
+    ensures { λ r. ⌜ r ≡ distOf measure d (now (coordinates .entry)) (now (probe .entry)) k ⌝ }
+{
+    measure::distance(measure, d, coordinates, k as usize * d, probe, 0)
 }
 
 // [8.8] Whether a place's mark is a claim of its snapshot, at that claim's distance, within reach.

@@ -1,143 +1,153 @@
-// One walk for every order and every question. It keeps the first so many claims, in order, in the front of the caller's room.
+// One walk for every order and every question. It keeps the keys of the first so many claims, in order, in a room of its own.
 ghost use mathlib.Core.Path.{_≡_};
+ghost use Prim.Native.Nat.{_<_, _≤_};
+ghost use mathlib.Core.List.{List};
 ghost use Rattle.paper.specs.Tree.{sideClaim};
 ghost use Rattle.tree.specs.BuiltNodes.{Holds};
-ghost use Rattle.walk.specs.Walking.{distOf, Bounded, RootBounded, distBy, InSight, apartBy, wayDown, WayAsk, InOrBelow, AskWalked, Stepped, StepAsk, NodeAsk, SideAsk, PageAsk, AskFilled};
+ghost use Rattle.walk_keep.specs.Asked.{Asked, numbersOf};
+ghost use Rattle.walk_keep.specs.Kept.{Walked};
+ghost use Rattle.walk.specs.Walking.{Bounded, distBy, apartBy, eitherOf, Visits, wayDown, WayAsk, InOrBelow, NodeAsk, SideAsk};
+use crate::measuring::from_both;
+use paper::limits::MOST_COORDINATES;
 use tree::nodes::field;
-use tree::rows::reference;
-use walk_keep::Asked;
+use walk_keep::first_keys::KEYS;
+use walk_keep::first_keys::keep;
+use walk_keep::first_keys::wanted;
+use walk_keep::keys::half;
+use walk_keep::keys::key;
+use walk_keep::keys::larger;
+use walk_keep::keys::over;
+use walk_keep::keys::rank;
+use walk_keep::numbers::D;
+use walk_keep::numbers::FAR;
+use walk_keep::numbers::FIRST;
+use walk_keep::numbers::MEASURE;
+use walk_keep::numbers::NUMBERS;
 
-// [1.9] How far claim k is from the probe: no farther than the measure's greatest distance.
-pub fn from_probe(measure: u8, d: usize, coordinates: &[i32], probe: &[i32], k: u64) -> u64
-    requires { ⌜ InSight d k (now coordinates) (now probe) ⌝ }
-    ensures exact { λ r. ⌜ r ≡ distOf measure d (now (coordinates .entry)) (now (probe .entry)) k ⌝ }
-    ensures bounded { λ _. ⌜ Bounded measure d (now (coordinates .entry)) (now (probe .entry)) k ⌝ }
-{
-    measure::distance(measure, d, coordinates, k as usize * d, probe, 0)
+// The ranks of a node's two claims: of its one claim twice, where it has no other.
+pub struct Visited {
+    pub left: u64,
+    pub right: u64,
 }
 
-// The step of claim k, at distance x.
-fn consider(references: &[u32], ask: Asked, k: u64, x: u64, room: &mut [u64], count: usize) -> usize
-    requires { ⌜ StepAsk ask (now references) k (now room) count ⌝ }
-    ensures { λ r. ⌜ Stepped ask (now (references .entry)) k x (now (room .entry)) count (now (room .exit)) r ⌝ }
+// a, or b where a is 0.
+fn either(a: u64, b: u64) -> u64
+    ensures { λ r. ⌜ r ≡ eitherOf a b ⌝ }
 {
-    if walk_keep::admits(ask, x, k) {
-        let order = ask.order;
-        let y = reference(references, k as usize);
-        return walk_keep::keep(order, ask.size, room, count, k, y, x);
+    if a == 0 { b } else { a }
+}
+
+// The steps of the two claims of node m. Both are measured before either is kept: neither distance waits for what the other one does. A
+// claim that has no other beside it is kept twice, which changes nothing and saves a branch.
+fn visit(
+    nodes: &[u64],
+    coordinates: &[i32],
+    probe: &[i32; MOST_COORDINATES],
+    ask: &[u64; NUMBERS],
+    m: usize,
+    room: &mut [u64; KEYS],
+) -> Visited
+    requires { ⌜ NodeAsk (now nodes) (now coordinates) (now probe) (now ask) m ⌝ }
+    ensures { λ r. ⌜ ((q : Asked) → now (ask .entry) ≡ numbersOf q → Visits q (now (coordinates .entry)) (now (probe .entry)) (now (nodes .entry)) m (now (room .entry)) (now (room .exit)) (r .left) (r .right)) ⌝ }
+{
+    let left = field(nodes, m, 0);
+    let right = field(nodes, m, 1);
+    let k = left - 1;
+    let j = either(right, left) - 1;
+    let d = ask[D] as usize;
+    let x = from_both(
+        ask[MEASURE] as u8,
+        d,
+        coordinates,
+        k as usize * d,
+        j as usize * d,
+        probe,
+    );
+    let x_left = rank(ask[FAR], x.left);
+    let x_right = rank(ask[FAR], x.right);
+    keep(ask, room, k, key(x_left, k));
+    keep(ask, room, j, key(x_right, j));
+    Visited {
+        left: x_left,
+        right: x_right,
     }
-    count
 }
 
 // [4.11] The node to go to below side s of node m, plus one, or 0 where nothing below it can change the answer. The side's claim is at
-// rank x, the other side's at rank y.
+// rank x, no claim below is before rank `least`, and all are numbered above both claims of the node. One test of what is still wanted, so that
+// little is guessed wrong.
 fn way_down(
     nodes: &[u64],
-    ask: Asked,
+    ask: &[u64; NUMBERS],
     m: usize,
     s: usize,
     x: u64,
-    y: u64,
-    room: &[u64],
-    count: usize,
+    least: u64,
+    room: &[u64; KEYS],
 ) -> u64
-    requires { ⌜ WayAsk (now nodes) ask m s (now room) count ⌝ }
-    ensures { λ r. ⌜ r ≡ wayDown (now (nodes .entry)) ask m s x y (now (room .entry)) count ⌝ }
+    requires { ⌜ WayAsk (now nodes) (now ask) m s x least ⌝ }
+    ensures { λ r. ⌜ r ≡ wayDown (now (nodes .entry)) (now (ask .entry)) m s x least (now (room .entry)) ⌝ }
 {
-    let below = field(nodes, m, 4 + s);
-    if below == 0 {
-        return 0;
-    }
     let far = field(nodes, m, 2 + s);
-    if walk_keep::passed(ask, x, far) {
+    if x < over(ask[FIRST], far) {
         return 0;
     }
-    let order = ask.order;
-    let bound = walk_keep::wanted(ask, room, count);
-    if walk_keep::beyond(order, bound, x, y, s, far) {
+    let bound = larger(over(x, far), least);
+    if wanted(ask, room) <= key(bound, field(nodes, m, 1)) {
         return 0;
     }
-    below
+    field(nodes, m, 4 + s)
 }
 
-// [4.10] The claims on and below the two sides of node m, the side that ranks first before the other.
-fn node(
-    references: &[u32],
-    coordinates: &[i32],
+// [4.10] The claims on and below the two sides of node m, the side that ranks first before the other. A branch chooses the side: a choice by
+// arithmetic would wait for both distances.
+pub fn node(
     nodes: &[u64],
-    probe: &[i32],
-    ask: Asked,
+    coordinates: &[i32],
+    probe: &[i32; MOST_COORDINATES],
+    ask: &[u64; NUMBERS],
     m: usize,
-    room: &mut [u64],
-    count: usize,
-) -> usize
-    requires { ⌜ NodeAsk (now references) (now coordinates) (now nodes) (now probe) ask m (now room) count ⌝ }
-    ensures walked { λ r. ⌜ AskWalked ask (now (references .entry)) (distBy ask (now (coordinates .entry)) (now (probe .entry))) (Holds (now (nodes .entry)) (apartBy ask (now (coordinates .entry))) m) (now (room .entry)) count (now (room .exit)) r ⌝ }
-    ensures bounded { λ _. ⌜ Bounded (ask .measure) (ask .d) (now (coordinates .entry)) (now (probe .entry)) (sideClaim (now (nodes .entry)) m 0) ⌝ }
+    room: &mut [u64; KEYS],
+)
+    requires { ⌜ NodeAsk (now nodes) (now coordinates) (now probe) (now ask) m ⌝ }
+    ensures walked { λ _. ⌜ ((q : Asked) → now (ask .entry) ≡ numbersOf q → Walked q (distBy q (now (coordinates .entry)) (now (probe .entry))) (Holds (now (nodes .entry)) (apartBy q (now (coordinates .entry))) m) (now (room .entry)) (now (room .exit))) ⌝ }
+    ensures bounded { λ _. ⌜ ((q : Asked) → now (ask .entry) ≡ numbersOf q → Bounded (q .measure) (q .d) (now (coordinates .entry)) (now (probe .entry)) (sideClaim (now (nodes .entry)) m 0)) ⌝ }
 {
-    let order = ask.order;
-    let kl = field(nodes, m, 0) - 1;
-    let xl = from_probe(ask.measure, ask.d, coordinates, probe, kl);
-    let one = consider(references, ask, kl, xl, room, count);
-    let right = field(nodes, m, 1);
-    if right == 0 {
-        return one;
+    let v = visit(nodes, coordinates, probe, ask, m, room);
+    let x = v.left;
+    let y = v.right;
+    if field(nodes, m, 1) == 0 {
+        return;
     }
-    let kr = right - 1;
-    let xr = from_probe(ask.measure, ask.d, coordinates, probe, kr);
-    let two = consider(references, ask, kr, xr, room, one);
-    let rl = order.rank(xl);
-    let rr = order.rank(xr);
-    if rr < rl {
-        let way = way_down(nodes, ask, m, 1, rr, rl, room, two);
-        let three = side(references, coordinates, nodes, probe, ask, way, room, two);
-        let way = way_down(nodes, ask, m, 0, rl, rr, room, three);
-        return side(references, coordinates, nodes, probe, ask, way, room, three);
+    if y < x {
+        let way = way_down(nodes, ask, m, 1, y, 0, room);
+        side(nodes, coordinates, probe, ask, way, room);
+        let way = way_down(nodes, ask, m, 0, x, half(ask[FAR], x - y, 0), room);
+        side(nodes, coordinates, probe, ask, way, room);
+        return;
     }
-    let way = way_down(nodes, ask, m, 0, rl, rr, room, two);
-    let three = side(references, coordinates, nodes, probe, ask, way, room, two);
-    let way = way_down(nodes, ask, m, 1, rr, rl, room, three);
-    side(references, coordinates, nodes, probe, ask, way, room, three)
+    let way = way_down(nodes, ask, m, 0, x, 0, room);
+    side(nodes, coordinates, probe, ask, way, room);
+    let way = way_down(nodes, ask, m, 1, y, half(ask[FAR], y - x, 1), room);
+    side(nodes, coordinates, probe, ask, way, room);
 }
 
 // [4.10] The claims below a side, where `way` is the node below it plus one, or 0 where none of them can change the answer. The tests
 // are made before the call: so short a function is compiled into `node`, and a level of the tree takes the stack of one call, not of two.
 fn side(
-    references: &[u32],
-    coordinates: &[i32],
     nodes: &[u64],
-    probe: &[i32],
-    ask: Asked,
+    coordinates: &[i32],
+    probe: &[i32; MOST_COORDINATES],
+    ask: &[u64; NUMBERS],
     way: u64,
-    room: &mut [u64],
-    count: usize,
-) -> usize
-    requires { ⌜ SideAsk (now references) (now coordinates) (now nodes) (now probe) ask way (now room) count ⌝ }
-    ensures { λ r. ⌜ AskWalked ask (now (references .entry)) (distBy ask (now (coordinates .entry)) (now (probe .entry))) (InOrBelow (now (nodes .entry)) (apartBy ask (now (coordinates .entry))) way) (now (room .entry)) count (now (room .exit)) r ⌝ }
+    room: &mut [u64; KEYS],
+)
+    requires { ⌜ SideAsk (now nodes) (now coordinates) (now probe) (now ask) way ⌝ }
+    ensures { λ _. ⌜ ((q : Asked) → now (ask .entry) ≡ numbersOf q → Walked q (distBy q (now (coordinates .entry)) (now (probe .entry))) (InOrBelow (now (nodes .entry)) (apartBy q (now (coordinates .entry))) way) (now (room .entry)) (now (room .exit))) ⌝ }
 {
     if way == 0 {
-        return count;
+        return;
     }
     let m = (way - 1) as usize;
-    node(references, coordinates, nodes, probe, ask, m, room, count)
-}
-
-// [4.6] [4.8] Puts the first `size` admitted claims, in order, at the front of the room, three numbers each, and gives how many they are.
-pub fn page(
-    references: &[u32],
-    coordinates: &[i32],
-    nodes: &[u64],
-    probe: &[i32],
-    ask: Asked,
-    room: &mut [u64],
-) -> usize
-    requires { ⌜ PageAsk (now references) (now coordinates) (now nodes) (now probe) ask (now room) ⌝ }
-    ensures filled { λ r. ⌜ AskFilled ask (now (references .entry)) (distBy ask (now (coordinates .entry)) (now (probe .entry))) (now (room .entry)) (now (room .exit)) r ⌝ }
-    ensures bounded { λ _. ⌜ RootBounded (ask .used) (ask .measure) (ask .d) (now (coordinates .entry)) (now (nodes .entry)) (now (probe .entry)) ⌝ }
-{
-    let used = ask.used;
-    if used == 0 {
-        return 0;
-    }
-    node(references, coordinates, nodes, probe, ask, 0, room, 0)
+    node(nodes, coordinates, probe, ask, m, room);
 }

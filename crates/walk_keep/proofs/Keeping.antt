@@ -1,5 +1,5 @@
 -- Laws of what is kept: insertion, one walk after the other, and that what covers all claims is the page. Assumes nothing.
-use Prim.Native.Nat.{ℕ, zero, suc, _+_, _<_, _≤_, _^_}
+use Prim.Native.Nat.{ℕ, zero, suc, _+_, _<_, _≤_}
 use mathlib.Core.Path.{_≡_, refl, sym, _∙_}
 use mathlib.Core.Logic.{_⊎_, inl, inr, ⊎-elim}
 use mathlib.Core.List.{List, [], _∷_}
@@ -11,12 +11,13 @@ use native.Mathlib.Omega.{arith}
 use native.Mathlib.Nat.{le-refl, eq-or-lt-of-le}
 use borrow.Author.Tests.{ltb-true, ltb-false, eqb-true, eqb-false}
 use Rattle.paper.proofs.Tests.{no-way}
+use Rattle.paper.specs.Limits.{mostClaims}
 use Rattle.walk_keep.specs.Page.{ahead, sooner, insertBy, sortedOf, firstSorted}
 use Rattle.walk_keep.specs.Kept.{key, RisingClaims, none, more, Covered, full, there, past, Kept}
 
 -- ---- the order as a key
 
-pub sooner-true : (rank : ℕ → ℕ) (j k : ℕ) → j < 2 ^ 64 → k < 2 ^ 64 → sooner rank j k ≡ true → key rank j < key rank k
+pub sooner-true : (rank : ℕ → ℕ) (j k : ℕ) → j < mostClaims → k < mostClaims → sooner rank j k ≡ true → key rank j < key rank k
 unfolding ahead
 sooner-true rank j k hj hk = go (ltb (rank j) (rank k)) (eqb (rank j) (rank k)) refl refl
   where
@@ -25,7 +26,7 @@ sooner-true rank j k hj hk = go (ltb (rank j) (rank k)) (eqb (rank j) (rank k)) 
     go false true p q h = omega (arith, eqb-true (rank j) (rank k) q, ltb-true j k h)
     go false false p q h = absurd (no-way (sym h))
 
-pub sooner-false : (rank : ℕ → ℕ) (j k : ℕ) → j < 2 ^ 64 → k < 2 ^ 64 → sooner rank j k ≡ false → key rank k ≤ key rank j
+pub sooner-false : (rank : ℕ → ℕ) (j k : ℕ) → j < mostClaims → k < mostClaims → sooner rank j k ≡ false → key rank k ≤ key rank j
 unfolding ahead
 sooner-false rank j k hj hk = go (ltb (rank j) (rank k)) (eqb (rank j) (rank k)) refl refl
   where
@@ -34,14 +35,14 @@ sooner-false rank j k hj hk = go (ltb (rank j) (rank k)) (eqb (rank j) (rank k))
     go false true p q h = omega (arith, eqb-true (rank j) (rank k) q, ltb-false j k h)
     go false false p q h = omega (arith, ltb-false (rank j) (rank k) p, eqb-false (rank j) (rank k) q)
 
-pub key-sooner : (rank : ℕ → ℕ) (j k : ℕ) → j < 2 ^ 64 → k < 2 ^ 64 → key rank j < key rank k → sooner rank j k ≡ true
+pub key-sooner : (rank : ℕ → ℕ) (j k : ℕ) → j < mostClaims → k < mostClaims → key rank j < key rank k → sooner rank j k ≡ true
 key-sooner rank j k hj hk h = go (sooner rank j k) refl
   where
     go : (x : Bool) → sooner rank j k ≡ x → x ≡ true
     go true p = refl
     go false p = absurd (omega (arith, sooner-false rank j k hj hk p))
 
-pub key-differs : (rank : ℕ → ℕ) (j k : ℕ) → j < 2 ^ 64 → k < 2 ^ 64 → (j ≡ k → ⊥) → key rank j ≡ key rank k → ⊥
+pub key-differs : (rank : ℕ → ℕ) (j k : ℕ) → j < mostClaims → k < mostClaims → (j ≡ k → ⊥) → key rank j ≡ key rank k → ⊥
 key-differs rank j k hj hk ne e = ne (omega arith)
 
 -- ---- what a list covers
@@ -100,11 +101,23 @@ module _ (rank : ℕ → ℕ) (ok : ℕ → Bool) (n : ℕ) where
   rising-at (suc s) lo (k ∷ l) (suc i) (more a b c d) h =
       let p = rising-at s (key rank k + 1) l i d (omega arith) in (omega (arith, p .0), p .1)
 
-  -- s claims that all come before j
-  pub rising-past : (s lo j : ℕ) (l : List ℕ) → RisingClaims rank ok n s lo l → length l ≡ s → ((i : ℕ) → i < s → key rank (getD l i 0) < key rank j) → Covered rank j s l
-  rising-past zero lo j [] none h all = full
-  rising-past (suc s) lo j [] none h all = absurd (omega arith)
-  rising-past (suc s) lo j (k ∷ l) (more a b c d) h all = past (all 0 (omega arith)) (rising-past s (key rank k + 1) j l d (omega arith) (λ i hi. all (suc i) (omega arith)))
+  -- and it is admitted
+  pub rising-ok : (s lo : ℕ) (l : List ℕ) (i : ℕ) → RisingClaims rank ok n s lo l → i < length l → ok (getD l i 0) ≡ true
+  rising-ok s lo [] i none h = absurd (omega arith)
+  rising-ok (suc s) lo (k ∷ l) zero (more a b c d) h = c
+  rising-ok (suc s) lo (k ∷ l) (suc i) (more a b c d) h = rising-ok s (key rank k + 1) l i d (omega arith)
+
+  -- so many claims, the last of which does not come behind j
+  pub rising-covers : (s lo j : ℕ) (l : List ℕ) → n ≤ mostClaims → j < mostClaims → RisingClaims rank ok n (suc s) lo l → length l ≡ suc s
+      → key rank (getD l s 0) ≤ key rank j → Covered rank j (suc s) l
+  rising-covers s lo j [] hn hj none h last = absurd (omega arith)
+  rising-covers zero lo j (k ∷ []) hn hj (more a b c d) h last =
+      ⊎-elim (λ e. let z : j ≡ k = omega arith in rw z there) (λ f. past f full) (eq-or-lt-of-le last)
+  rising-covers zero lo j (k ∷ x ∷ l) hn hj r h last = absurd (omega arith)
+  rising-covers (suc s) lo j (k ∷ l) hn hj (more a b c d) h last =
+      let p = rising-at (suc s) (key rank k + 1) l s d (omega arith) in
+      let f : key rank k < key rank j = omega (arith, p .0, last) in
+      past f (rising-covers s (key rank k + 1) j l hn hj d (omega arith) last)
 
   -- the last is the greatest
   pub rising-last : (s lo : ℕ) (l : List ℕ) (i m : ℕ) → RisingClaims rank ok n s lo l → i ≤ m → m < length l → key rank (getD l i 0) ≤ key rank (getD l m 0)
@@ -116,7 +129,7 @@ module _ (rank : ℕ → ℕ) (ok : ℕ → Bool) (n : ℕ) where
 
   -- ---- insertion
 
-  module _ (k : ℕ) (hn : n < 2 ^ 64) (hk : k < n) where
+  module _ (k : ℕ) (hn : n ≤ mostClaims) (hk : k < n) where
     pub insert-rising : (t lo : ℕ) (l : List ℕ) → lo ≤ key rank k → ok k ≡ true → RisingClaims rank ok n t lo l → RisingClaims rank ok n (suc t) lo (insertBy rank k l)
     unfolding insertBy
     insert-rising t lo [] hlo hok none = more hlo hk hok none
@@ -163,7 +176,7 @@ module _ (rank : ℕ → ℕ) (ok : ℕ → Bool) (n : ℕ) where
   still size C l r h = record { rising = r; keeps = λ j c. c; all = h }
 
   -- the step of claim k
-  pub one : (size k : ℕ) (l : List ℕ) → n < 2 ^ 64 → k < n → ok k ≡ true → RisingClaims rank ok n size zero l → Kept rank ok n size (λ j. j ≡ k) l (take size (insertBy rank k l))
+  pub one : (size k : ℕ) (l : List ℕ) → n ≤ mostClaims → k < n → ok k ≡ true → RisingClaims rank ok n size zero l → Kept rank ok n size (λ j. j ≡ k) l (take size (insertBy rank k l))
   one size k l hn hk hok r =
       record {
         rising = rising-take size (suc size) zero (insertBy rank k l) (insert-rising k hn hk size zero l (omega arith) hok r);
@@ -202,7 +215,7 @@ module _ (rank : ℕ → ℕ) (ok : ℕ → Bool) (n : ℕ) where
       cc
 
   -- the plain scan
-  pub scan-rising : (m : ℕ) → m ≤ n → n < 2 ^ 64 → RisingClaims rank ok n m zero (sortedOf rank ok m)
+  pub scan-rising : (m : ℕ) → m ≤ n → n ≤ mostClaims → RisingClaims rank ok n m zero (sortedOf rank ok m)
   unfolding sortedOf
   scan-rising zero h hn = none
   scan-rising (suc m) h hn = go (ok m) refl (scan-rising m (omega arith) hn)
@@ -211,7 +224,7 @@ module _ (rank : ℕ → ℕ) (ok : ℕ → Bool) (n : ℕ) where
       go true p r = insert-rising m hn (omega arith) m zero _ (omega arith) p r
       go false p r = rising-more m zero _ r
 
-  pub scan-covers : (m size j : ℕ) → m ≤ n → n < 2 ^ 64 → j < m → ok j ≡ true → Covered rank j size (take size (sortedOf rank ok m))
+  pub scan-covers : (m size j : ℕ) → m ≤ n → n ≤ mostClaims → j < m → ok j ≡ true → Covered rank j size (take size (sortedOf rank ok m))
   unfolding sortedOf
   scan-covers zero size j h hn hj hok = absurd (omega arith)
   scan-covers (suc m) size j h hn hj hok = go (ok m) refl (eq-or-lt-of-le (omega arith)) (λ l. scan-covers m size j (omega arith) hn l hok)
@@ -224,7 +237,7 @@ module _ (rank : ℕ → ℕ) (ok : ℕ → Bool) (n : ℕ) where
       go false p (inr l) rec = rec l
 
   -- what a walk over all claims keeps from nothing is the page
-  pub all-are-first : (size : ℕ) (C : ℕ → Type 0) (r : List ℕ) → n < 2 ^ 64 → ((j : ℕ) → j < n → C j) → Kept rank ok n size C [] r → r ≡ firstSorted rank ok n size
+  pub all-are-first : (size : ℕ) (C : ℕ → Type 0) (r : List ℕ) → n ≤ mostClaims → ((j : ℕ) → j < n → C j) → Kept rank ok n size C [] r → r ≡ firstSorted rank ok n size
   unfolding firstSorted
   all-are-first size C r hn all k =
       same size zero r (take size (sortedOf rank ok n)) (k .rising) (rising-take size n zero _ (scan-rising n (le-refl n) hn))

@@ -1,6 +1,8 @@
 pub mod Keeping
-pub mod Moving
-pub mod ItemPosition
-pub mod Positions
+pub mod Insertion
+pub mod Places
+pub mod Ranks
+pub mod Admitting
 pub mod Walks
-pub mod Leaves
+pub mod Stepping
+pub mod SkipLaws

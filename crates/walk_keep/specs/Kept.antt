@@ -1,17 +1,17 @@
 -- What a walk keeps: the first so many, in order, of what it had and the claims that it went over. Definitions only.
-use Prim.Native.Nat.{ℕ, zero, suc, _+_, _-_, _*_, _<_, _≤_, _^_}
+use Prim.Native.Nat.{ℕ, zero, suc, _+_, _-_, _*_, _<_, _≤_}
 use mathlib.Core.Path.{_≡_}
-use mathlib.Core.Bool.{Bool, true, false, _&&_}
-use mathlib.Core.List.{List, [], _∷_, _++_}
-use lib.Dec.{ltb, eqb}
-use lib.ListN.{length, take, drop, getD}
-use Rattle.paper.specs.declared.orders.Order.{Order}
-use Rattle.paper.specs.Orders.{before}
-use Rattle.walk_keep.specs.Page.{ranks, insertBy, filled}
+use mathlib.Core.Bool.{Bool, true, false, cond, _&&_}
+use mathlib.Core.List.{List, [], _∷_}
+use lib.Dec.{ltb, leb}
+use lib.ListN.{length, getD}
+use Rattle.paper.specs.Limits.{mostClaims}
+use Rattle.walk_keep.specs.Asked.{Asked, admitted, mostDistance, rankAt, keyAt, endAt}
+use Rattle.walk_keep.specs.Page.{ranks}
 
--- an order as one number, for claims numbered below 2^64
+-- an order as one number
 abbrev pub key : (ℕ → ℕ) → ℕ → ℕ
-key rank k = rank k * 2 ^ 64 + k
+key rank k = rank k * mostClaims + k
 
 -- the claims of l rise from key lo on, are admitted, and are s at most
 pub data RisingClaims (rank : ℕ → ℕ) (ok : ℕ → Bool) (n : ℕ) : ℕ → ℕ → List ℕ → Type 0 where
@@ -30,47 +30,56 @@ pub record Kept (rank : ℕ → ℕ) (ok : ℕ → Bool) (n size : ℕ) (C : ℕ
   pub keeps : (j : ℕ) → Covered rank j size l → Covered rank j size r
   pub all : (j : ℕ) → C j → ok j ≡ true → Covered rank j size r
 
--- the first `count` items of the room are the claims of l, and behind them it is as `base`
-pub record Holding (order : Order) (ref dist : ℕ → ℕ) (ok : ℕ → Bool) (n size : ℕ) (base room : List ℕ) (count : ℕ) (l : List ℕ) : Type 0 where
-  pub front : room ≡ filled ref dist l base
-  pub counts : count ≡ length l
-  pub rising : RisingClaims (ranks order dist) ok n size zero l
-  pub long : size * 3 ≤ length base
-  pub small : n < 2 ^ 64
+-- ---- in the room of a walk: keys, rising, and the end behind them
 
--- the room has place for `size` items
-pub record PageRoomy (size : ℕ) (room : List ℕ) (count : ℕ) : Type 0 where
-  pub some : 0 < size
-  pub few : count ≤ size
-  pub long : size * 3 ≤ length room
+-- whether claim k is admitted, where it is `dist k` away
+abbrev pub okBy : Asked → (ℕ → ℕ) → ℕ → Bool
+okBy ask dist k = admitted ask (dist k) k
 
--- a walk over the claims of C that had kept l left `count` items in the room
-pub record WalkLeft (order : Order) (ref dist : ℕ → ℕ) (ok : ℕ → Bool) (n size : ℕ) (C : ℕ → Type 0) (base l room : List ℕ) (count : ℕ) : Type 0 where
+-- its key
+abbrev pub keyBy : Asked → (ℕ → ℕ) → ℕ → ℕ
+keyBy ask dist k = keyAt (rankAt (ask .order) (dist k)) k
+
+-- the room has the keys of the claims of l, which were measured, and no other before the end
+pub record Holding (ask : Asked) (dist : ℕ → ℕ) (room l : List ℕ) : Type 0 where
+  pub long : ask .size ≤ length room
+  pub keys : (i : ℕ) → i < length l → getD room i 0 ≡ keyBy ask dist (getD l i 0)
+  pub ends : (i : ℕ) → length l ≤ i → i < ask .size → getD room i 0 ≡ endAt ask
+  pub near : (i : ℕ) → i < length l → dist (getD l i 0) ≤ mostDistance
+  pub rising : RisingClaims (ranks (ask .order) dist) (okBy ask dist) (ask .snapshot) (ask .size) zero l
+
+-- a walk over the claims of C that had kept l left the room so
+pub record WalkLeft (ask : Asked) (dist : ℕ → ℕ) (C : ℕ → Type 0) (l room : List ℕ) : Type 0 where
   pub kept : List ℕ
-  pub holds : Holding order ref dist ok n size base room count kept
-  pub is : Kept (ranks order dist) ok n size C l kept
+  pub holds : Holding ask dist room kept
+  pub is : Kept (ranks (ask .order) dist) (okBy ask dist) (ask .snapshot) (ask .size) C l kept
 
--- a walk over the claims of C took the room from o, with `count` items, to o', with r
-pub record Walked (order : Order) (ref dist : ℕ → ℕ) (ok : ℕ → Bool) (n size : ℕ) (C : ℕ → Type 0) (o : List ℕ) (count : ℕ) (o' : List ℕ) (r : ℕ) : Type 0 where
-  pub few : r ≤ size
-  pub took : (base l : List ℕ) → Holding order ref dist ok n size base o count l → WalkLeft order ref dist ok n size C base l o' r
+-- a walk over the claims of C took the room from o to o'
+abbrev pub Walked : Asked → (ℕ → ℕ) → (ℕ → Type 0) → List ℕ → List ℕ → Type 0
+Walked ask dist C o o' = (l : List ℕ) → Holding ask dist o l → WalkLeft ask dist C l o'
 
--- the place of distance x and number k among the first `count` items: all from there on do not come before it, and the one in front does
-pub record PositionIs (order : Order) (room : List ℕ) (count x k r : ℕ) : Type 0 where
-  pub few : r ≤ count
-  pub front : 0 < r → before order (getD room (r * 3 - 1) 0) (getD room (r * 3 - 3) 0) x k ≡ true
-  pub behind : (i : ℕ) → r ≤ i → i < count → before order (getD room (i * 3 + 2) 0) (getD room (i * 3) 0) x k ≡ false
+-- ---- a key put in its place
 
--- the numbers from a to e moved up by three
-unfoldable pub shifted : ℕ → ℕ → List ℕ → List ℕ
-shifted a e room = take (a + 3) room ++ (take (e - a) (drop a room) ++ drop (e + 3) room)
+-- the place of key y among the first n: it is behind the key in front, and not behind the one there
+pub record PositionIs (room : List ℕ) (n y p : ℕ) : Type 0 where
+  pub few : p ≤ n
+  pub front : 0 < p → getD room (p - 1) 0 < y
+  pub behind : p < n → y ≤ getD room p 0
 
--- item p is there, and is claim k
-unfoldable pub heldAt : List ℕ → ℕ → ℕ → ℕ → Bool
-heldAt room p count k = ltb p count && eqb (getD room (p * 3) 0) k
+-- the first n keys of o from p on moved up by one; the last falls out
+pub record Shifted (p n : ℕ) (o o' : List ℕ) : Type 0 where
+  pub long : length o' ≡ length o
+  pub front : (i : ℕ) → i ≤ p → getD o' i 0 ≡ getD o i 0
+  pub behind : n ≤ length o → (i : ℕ) → p < i → i < n → getD o' i 0 ≡ getD o (i - 1) 0
 
--- claim k, with reference y and distance x, was put in its place
-pub record KeepIs (order : Order) (size : ℕ) (o : List ℕ) (count k y x : ℕ) (o' : List ℕ) (r : ℕ) : Type 0 where
-  pub few : r ≤ size
-  pub put : (ref dist : ℕ → ℕ) (ok : ℕ → Bool) (n : ℕ) (base l : List ℕ) → k < n → ok k ≡ true → y ≡ ref k → x ≡ dist k
-      → Holding order ref dist ok n size base o count l → Holding order ref dist ok n size base o' r (take size (insertBy (ranks order dist) k l))
+-- key y was put among the first n keys: in its place, or it is there already, or it is not before the last
+pub data Pushed (n y : ℕ) (o o' : List ℕ) : Type 0 where
+  put : (p : ℕ) → length o' ≡ length o → p < n → (0 < p → getD o (p - 1) 0 < y) → y < getD o p 0 → ((i : ℕ) → i < p → getD o' i 0 ≡ getD o i 0) → getD o' p 0 ≡ y
+      → ((i : ℕ) → p < i → i < n → getD o' i 0 ≡ getD o (i - 1) 0) → Pushed n y o o'
+  held : (p : ℕ) → p < n → getD o p 0 ≡ y → o' ≡ o → Pushed n y o o'
+  late : getD o (n - 1) 0 ≤ y → o' ≡ o → Pushed n y o o'
+
+-- the step of claim k, at key y, by a question's numbers: below the snapshot and not before the first key wanted it is put
+pub record KeepIs (numbers : List ℕ) (k y : ℕ) (o o' : List ℕ) : Type 0 where
+  pub put : (ltb k (getD numbers 4 0) && leb (getD numbers 5 0) y) ≡ true → getD numbers 3 0 ≤ length o → Pushed (getD numbers 3 0) y o o'
+  pub left : (ltb k (getD numbers 4 0) && leb (getD numbers 5 0) y) ≡ false → o' ≡ o

@@ -1,3 +1,4 @@
+pub mod Asked
 pub mod Page
 pub mod Kept
 pub mod Skips

@@ -151,6 +151,7 @@ module _ (order : Order) (s : Store) (probe : List ℤ) (reach : ℕ) (place : P
           record {
             stored = leb-true (snapshotOf place (s .table .count)) (s .table .count) (rw (claims-length (s .table .d) (s .table .count) (s .references) (s .coordinates)) at stored);
             some = leb-true 1 size (and-first (leb 1 size) (leb size mostPage) (k .size));
+            few = omega (arith, leb-true size mostPage (and-second (leb 1 size) (leb size mostPage) (k .size)));
             long = leb-true (size * 3) (length room) long;
           }
 

@@ -1,32 +1,40 @@
 -- `walk::questions::fill` meets its contract. Assumes nothing.
-use Rattle.walk.proofs.Answers.{fill-ready, fill-done}
-use Rattle.walk.proofs.Farthest.{root-asked}
+use Rattle.walk.proofs.Answers.{fill-none, fill-ready, fill-done, root-told}
 use Rattle.paper.specs.Tree.{store}
 use borrow.Author.Needs.{needs}
 use Rattle.walk.proofs.questions.fill.Statement.{statement}
 use Rattle.walk.proofs.questions.fill.Tie as tie
 
+returns : tie.Need-returns
+returns c =
+    let a = c .before .before .before .before .args in
+    let p = c .before .before .before .before .pre in
+    (fill-none (store (a .t) (a .references .now) (a .coordinates .now) (a .nodes .now)) (a .probe .now) (p .0) _ _ _ _ _ (c .if1 .taken) (p .1), λ some. absurd (some (c .if1 .taken)))
+
 asked-requires : tie.Need-asked-requires
 asked-requires c κs = search needs
 
+padded-requires : tie.Need-padded-requires
+padded-requires c κs = search needs
+
 page-requires : tie.Need-page-requires
 page-requires c κs =
-    let args = c .before .before .before .before .before .args in
-    let pre = c .before .before .before .before .before .pre in
-    let a = args in fill-ready (store (a .t) (a .references .now) (a .coordinates .now) (a .nodes .now)) (a .probe .now) (pre .0) _ _ _ _ _ (c .before .asked .ensures) _ (pre .1)
+    let a = c .before .before .before .before .before .before .before .before .before .args in
+    let p = c .before .before .before .before .before .before .before .before .before .pre in
+    fill-ready (store (a .t) (a .references .now) (a .coordinates .now) (a .nodes .now)) (a .probe .now) (p .0) _ _ (c .before .before .before .before .before .if1 .left) _ (c .before .before .before .padded .ensures) _ _ _ (c .before .before .before .before .asked .ensures) _ (p .1)
 
 same-length : tie.Need-same-length
 same-length c = search needs
 
-returns : tie.Need-returns
-returns c =
-    let args = c .before .before .before .before .before .before .before .before .args in
-    let pre = c .before .before .before .before .before .before .before .before .pre in
-    let a = args in
-    let is = c .before .before .before .before .asked .ensures in (
-      fill-done (store (a .t) (a .references .now) (a .coordinates .now) (a .nodes .now)) (a .probe .now) (pre .0) _ _ _ _ _ is _ (pre .1) _ _ (c .before .before .page .ensures .0),
-      root-asked (a .t) _ _ _ _ _ (a .coordinates .now) (a .nodes .now) (a .probe .now) is (c .before .before .page .ensures .1),
+returns-2 : tie.Need-returns-2
+returns-2 c =
+    let a = c .before .before .before .before .before .before .before .before .before .before .before .before .args in
+    let p = c .before .before .before .before .before .before .before .before .before .before .before .before .pre in
+    let s = store (a .t) (a .references .now) (a .coordinates .now) (a .nodes .now) in (
+      fill-done s (a .probe .now) (p .0) _ _ (c .before .before .before .before .before .before .before .before .if1 .left) _ (c .before .before .before .before .before .before .padded .ensures) _ _ _ (c .before .before .before .before .before .before .before .asked .ensures) _ (p .1) _ _ (c .before .before .page .ensures .0),
+      root-told s (a .probe .now) (p .0) _ _ (c .before .before .before .before .before .before .before .before .if1 .left) _ (c .before .before .before .before .before .before .padded .ensures) _ _ _ (c .before .before .before .before .before .before .before .asked .ensures) _ (p .1) (c .before .before .page .ensures .1),
     )
 
 pub fill-spec : {M : Type 1} → statement M
-fill-spec = tie.close (tie.spec asked-requires page-requires same-length returns)
+fill-spec =
+    tie.close (tie.spec returns asked-requires padded-requires page-requires same-length returns-2)

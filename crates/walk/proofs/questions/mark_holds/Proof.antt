@@ -23,13 +23,13 @@ returns-3 : tie.Need-returns-3
 returns-3 c =
     let args = c .before .before .before .before .before .before .args in
     let pre = c .before .before .before .before .before .before .pre in
-    let a = args in mark-off (a .t) (a .coordinates .now) (a .probe .now) (a .reach) (a .place) _ _ (c .before .before .before .before .place .given .1) pre _ (c .before .from-probe .ensures .0) (c .before .before .if1 .left) (c .if2 .taken)
+    let a = args in mark-off (a .t) (a .coordinates .now) (a .probe .now) (a .reach) (a .place) _ _ (c .before .before .before .before .place .given .1) pre _ (c .before .from-probe .ensures) (c .before .before .if1 .left) (c .if2 .taken)
 
 returns-4 : tie.Need-returns-4
 returns-4 c =
     let args = c .before .before .before .before .before .before .args in
     let pre = c .before .before .before .before .before .before .pre in
-    let a = args in mark-within (a .t) (a .coordinates .now) (a .probe .now) (a .reach) (a .place) _ _ (c .before .before .before .before .place .given .1) pre _ (c .before .from-probe .ensures .0) (c .before .before .if1 .left) (c .if2 .left)
+    let a = args in mark-within (a .t) (a .coordinates .now) (a .probe .now) (a .reach) (a .place) _ _ (c .before .before .before .before .place .given .1) pre _ (c .before .from-probe .ensures) (c .before .before .if1 .left) (c .if2 .left)
 
 pub mark-holds-spec : {M : Type 1} → statement M
 mark-holds-spec =

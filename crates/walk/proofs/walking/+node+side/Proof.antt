@@ -1,35 +1,35 @@
 -- The pair `node` and `side` meets its contracts: the two call each other, and each call leaves fewer nodes above the one that is
 -- looked at. The measure is twice as many, and one more for `side`. Assumes nothing.
 use Prim.Native.Nat.{ℕ, _-_, _*_, _<_}
-use mathlib.Core.Path.{_∙_}
+use mathlib.Core.Path.{_≡_, sym, _∙_}
 use native.Mathlib.Omega.{arith}
 use lib.Dec.{lit<}
+use lib.ListN.{length}
+use Rattle.paper.specs.Tree.{fieldAt}
+use Rattle.walk.specs.Walking.{distBy, apartBy}
+use Rattle.walk.proofs.Sides.{side-none, side-down}
+use Rattle.walk.proofs.Nodes.{node-one, node-left-first, node-right-first, way-ready, side-asked, leftAbove, node-falls}
+use Rattle.walk.proofs.Visiting.{far-told, fits-too, left-small, right-small, halves-small}
 use borrow.Fn.Kinds.{In}
 use borrow.Fn.PlainCycle.{Measures, is, falls, and}
-use Rattle.paper.proofs.orders.Order.rank.Reads as rank-reads
-use Rattle.tree.proofs.nodes.field.Reads as field-reads
-use Rattle.walk.specs.Walking.{distBy, apartBy}
-use Rattle.walk.proofs.Skipping.{metric}
-use Rattle.walk.proofs.Farthest.{bounded-left}
-use Rattle.walk.proofs.Sides.{side-none, side-down}
-use Rattle.walk.proofs.Nodes.{node-one, node-left-first, node-right-first, stored-here, left-here, in-sight, way-ready, side-asked, leftAbove, node-falls, roomy-again}
-use Rattle.walk.proofs.walking.consider.Reads as consider-reads
-use Rattle.walk.proofs.walking.from_probe.Reads as from-probe-reads
-use Rattle.walk.proofs.walking.way_down.Reads as way-down-reads
 use Rattle.walk.proofs.walking.node.Reads as node
 use Rattle.walk.proofs.walking.node.Kinds as node-kinds
+use Rattle.walk.proofs.walking.+node+side.Lts-node as node-lts
 use Rattle.walk.proofs.walking.side.Reads as side
 use Rattle.walk.proofs.walking.side.Kinds as side-kinds
-use Rattle.walk.proofs.walking.+node+side.Lts-node as node-lts
 use Rattle.walk.proofs.walking.+node+side.Lts-side as side-lts
+use Rattle.tree.proofs.nodes.field.Reads as field-reads
+use Rattle.walk.proofs.walking.visit.Reads as visit-reads
+use Rattle.walk.proofs.walking.way_down.Reads as way-down-reads
+use Rattle.walk_keep.proofs.keys.half.Reads as half-reads
 use Rattle.walk.proofs.walking.+node+side.{statement}
 use Rattle.walk.proofs.walking.+node+side.Tie.{close}
 
 abbrev μ-node : Measures 5 node-kinds.ps ℕ
-μ-node κs a = (a .1 .1 .1 .1 .0 .used - a .1 .1 .1 .1 .1 .0) * 2
+μ-node κs a = (length (a .0 .now) - a .1 .1 .1 .1 .0) * 2
 
 abbrev μ-side : Measures 5 side-kinds.ps ℕ
-μ-side κs a = leftAbove (a .1 .1 .1 .1 .0 .used) (a .1 .1 .1 .1 .1 .0)
+μ-side κs a = leftAbove (length (a .0 .now)) (a .1 .1 .1 .1 .0)
 
 abbrev node-at : ℕ → In 5 node-kinds.ps
 node-at t = and 5 node-kinds.ps (is 5 node-kinds.ps μ-node t) node.Pre
@@ -45,237 +45,148 @@ side-below t = and 5 side-kinds.ps (falls 5 side-kinds.ps _<_ μ-side t) side.Pr
 
 abbrev node-calls : ℕ → node-lts.Claims
 node-calls t = (
+  visit-reads.Asked,
+  visit-reads.Learnt,
   field-reads.Asked,
   field-reads.Learnt,
-  from-probe-reads.Asked,
-  from-probe-reads.Learnt,
-  consider-reads.Asked,
-  consider-reads.Learnt,
-  rank-reads.Asked,
-  rank-reads.Learnt,
   way-down-reads.Asked,
   way-down-reads.Learnt,
   side-below t,
   side.Post,
+  half-reads.Asked,
+  half-reads.Learnt,
 )
 
 abbrev side-calls : ℕ → side-lts.Claims
 side-calls t = (node-below t, node.Post)
 
+node-visit-requires : (t : ℕ) → node-lts.Need-visit-requires (node-calls t) (node-at t) node.Post
+node-visit-requires t c κs = c .before .before .pre .1
+
 node-field-requires : (t : ℕ) → node-lts.Need-field-requires (node-calls t) (node-at t) node.Post
 node-field-requires t c κs = let p = c .before .before .before .pre .1 .walk in omega arith
 
-node-sub-kl : (t : ℕ) → node-lts.Need-sub-kl (node-calls t) (node-at t) node.Post
-node-sub-kl t c = let h = left-here _ _ _ _ _ (c .before .before .before .before .pre .1 .walk) (c .field .ensures) in omega arith
-
-node-from-probe-requires : (t : ℕ) → node-lts.Need-from-probe-requires (node-calls t) (node-at t) node.Post
-node-from-probe-requires t c κs =
-    let p = c .before .before .before .before .pre .1 in
-    let h = left-here _ _ _ _ _ (p .walk) (c .field .ensures) in
-    in-sight _ _ _ _ _ (p .lent) (stored-here _ _ _ _ 0 _ (p .walk) (lit< tt) (c .field .ensures) (λ z. omega arith))
-
-node-consider-requires : (t : ℕ) → node-lts.Need-consider-requires (node-calls t) (node-at t) node.Post
-node-consider-requires t c κs =
-    let p = c .before .before .before .before .before .before .pre .1 in
-    let h = left-here _ _ _ _ _ (p .walk) (c .before .before .field .ensures) in
-    record { stored = stored-here _ _ _ _ 0 _ (p .walk) (lit< tt) (c .before .before .field .ensures) (λ z. omega arith); named = p .lent .named; roomy = p .roomy }
-
-node-field-requires-2 : (t : ℕ) → node-lts.Need-field-requires-2 (node-calls t) (node-at t) node.Post
-node-field-requires-2 t c κs = let p = c .before .before .before .before .before .before .before .before .before .pre .1 .walk in omega arith
-
-node-same-length : (t : ℕ) → node-lts.Need-same-length (node-calls t) (node-at t) node.Post
-node-same-length t c = c .before .before .before .before .consider .kept .1 .1 .1 .1 .0
-
 node-returns : (t : ℕ) → node-lts.Need-returns (node-calls t) (node-at t) node.Post
 node-returns t c =
-    let one = c .before .before .before .before in
-    let start = one .before .before .before .before .before .before .before in
-    let a = start .args in (
-      node-one (a .ask) (a .references .now) (a .nodes .now) (apartBy (a .ask) (a .coordinates .now))
-          (distBy (a .ask) (a .coordinates .now) (a .probe .now)) _ _ _ _ (one .before .before .before .field .ensures) _ (c .before .field2 .ensures) _
-          (one .before .before .from-probe .ensures .0) _ _ (one .consider .ensures) (c .if1 .taken),
-      bounded-left (a .ask .measure) (a .ask .d) (a .coordinates .now) (a .probe .now) (a .nodes .now) (a .m) _ (one .before .before .before .field .ensures) (one .before .before .from-probe .ensures .1),
+    let a = c .before .before .before .before .before .args in
+    let v = c .before .before .visit .ensures in (
+      (λ q is. node-one q (a .coordinates .now) (a .probe .now) (a .nodes .now) (a .m) _ _ (v q is .walked) (sym (c .before .field .ensures) ∙ c .if1 .taken)),
+      (λ q is. v q is .left-is .bounded),
     )
 
-node-sub-kr : (t : ℕ) → node-lts.Need-sub-kr (node-calls t) (node-at t) node.Post
-node-sub-kr t c = let h = c .if1 .left in omega arith
-
-node-from-probe-requires-2 : (t : ℕ) → node-lts.Need-from-probe-requires-2 (node-calls t) (node-at t) node.Post
-node-from-probe-requires-2 t c κs =
-    let p = c .before .before .before .before .before .before .before .before .before .before .before .pre .1 in
-    in-sight _ _ _ _ _ (p .lent) (stored-here _ _ _ _ 1 _ (p .walk) (lit< tt) (c .before .field2 .ensures) (c .if1 .left))
-
-node-consider-requires-2 : (t : ℕ) → node-lts.Need-consider-requires-2 (node-calls t) (node-at t) node.Post
-node-consider-requires-2 t c κs =
-    let one = c .before .before .before .before .before .before in
-    let start = one .before .before .before .before .before .before .before in
-    let p = start .pre .1 in
-    record {
-      stored = stored-here _ _ _ _ 1 _ (p .walk) (lit< tt) (c .before .before .before .field2 .ensures) (c .before .before .if1 .left);
-      named = p .lent .named;
-      roomy = roomy-again _ _ _ _ _ (p .roomy) (one .consider .kept .1 .1 .1 .1 .0) (one .consider .ensures .few);
-    }
-
-node-rank-requires : (t : ℕ) → node-lts.Need-rank-requires (node-calls t) (node-at t) node.Post
-node-rank-requires t c κs = tt
-
-node-rank-requires-2 : (t : ℕ) → node-lts.Need-rank-requires-2 (node-calls t) (node-at t) node.Post
-node-rank-requires-2 t c κs = tt
-
 node-way-down-requires : (t : ℕ) → node-lts.Need-way-down-requires (node-calls t) (node-at t) node.Post
-node-way-down-requires t c κs =
-    let two = c .before .before .before .before .before .before in
-    let one = two .before .before .before .before .before .before .before in
-    let start = one .before .before .before .before .before .before .before in
-    way-ready _ _ _ _ _ _ _ _ (start .pre .1) 1 (lit< tt) _ _ (two .consider2 .kept .1 .1 .1 .1 .0 ∙ one .consider .kept .1 .1 .1 .1 .0) (two .consider2 .ensures .few)
+node-way-down-requires t c κs = way-ready _ _ _ _ _ (c .before .before .before .before .before .before .before .pre .1) 1 (lit< tt) _ 0 (right-small _ _ _ _ _ (c .before .before .before .before .before .before .before .pre .1) _ _ _ _ (c .before .before .before .before .visit .ensures)) (omega arith)
 
 node-side-requires : (t : ℕ) → node-lts.Need-side-requires (node-calls t) (node-at t) node.Post
-node-side-requires t c κs =
-    let two = c .before .before .before .before .before .before .before .before in
-    let one = two .before .before .before .before .before .before .before in
-    let start = one .before .before .before .before .before .before .before in
-    side-asked _ _ _ _ _ _ _ _ (start .pre .1) 1 (lit< tt) _ _ _ _ _ (c .before .way-down .ensures) t (start .pre .0)
-    (two .consider2 .kept .1 .1 .1 .1 .0 ∙ one .consider .kept .1 .1 .1 .1 .0) (two .consider2 .ensures .few)
+node-side-requires t c κs = side-asked _ _ _ _ _ (c .before .before .before .before .before .before .before .before .before .pre .1) 1 (lit< tt) _ _ _ _ (c .before .way-down .ensures) t (c .before .before .before .before .before .before .before .before .before .pre .0)
+
+node-element-copy-out-half : (t : ℕ) → node-lts.Need-element-copy-out-half (node-calls t) (node-at t) node.Post
+node-element-copy-out-half t c = omega arith
+
+node-sub-half : (t : ℕ) → node-lts.Need-sub-half (node-calls t) (node-at t) node.Post
+node-sub-half t c = omega (arith, c .before .before .before .before .before .if2 .taken)
+
+node-half-requires : (t : ℕ) → node-lts.Need-half-requires (node-calls t) (node-at t) node.Post
+node-half-requires t c κs = (omega (arith, left-small _ _ _ _ _ (c .before .before .before .before .before .before .before .before .before .before .before .pre .1) _ _ _ _ (c .before .before .before .before .before .before .before .before .visit .ensures)), lit< tt)
 
 node-way-down-requires-2 : (t : ℕ) → node-lts.Need-way-down-requires-2 (node-calls t) (node-at t) node.Post
 node-way-down-requires-2 t c κs =
-    let three = c .before .before .before in
-    let two = three .before .before .before .before .before .before .before .before .before in
-    let one = two .before .before .before .before .before .before .before in
-    let start = one .before .before .before .before .before .before .before in
-    way-ready _ _ _ _ _ _ _ _ (start .pre .1) 0 (lit< tt) _ _
-    (three .side .kept .1 .1 .1 .1 .1 .1 .0 ∙ two .consider2 .kept .1 .1 .1 .1 .0 ∙ one .consider .kept .1 .1 .1 .1 .0) (three .side .ensures .few)
+    let x = left-small _ _ _ _ _ (c .before .before .before .before .before .before .before .before .before .before .before .before .before .pre .1) _ _ _ _ (c .before .before .before .before .before .before .before .before .before .before .visit .ensures) in
+    way-ready _ _ _ _ _ (c .before .before .before .before .before .before .before .before .before .before .before .before .before .pre .1) 0 (lit< tt) _ _ x (halves-small _ _ _ _ _ (c .before .before .before .before .before .before .before .before .before .before .before .before .before .pre .1) _ _ _ _ (c .before .before .before .before .before .before .before .before .before .before .visit .ensures) _ 0 _ (omega arith) (lit< tt) (c .before .half .ensures))
 
 node-side-requires-2 : (t : ℕ) → node-lts.Need-side-requires-2 (node-calls t) (node-at t) node.Post
-node-side-requires-2 t c κs =
-    let three = c .before .before .before .before .before in
-    let two = three .before .before .before .before .before .before .before .before .before in
-    let one = two .before .before .before .before .before .before .before in
-    let start = one .before .before .before .before .before .before .before in
-    side-asked _ _ _ _ _ _ _ _ (start .pre .1) 0 (lit< tt) _ _ _ _ _ (c .before .way-down2 .ensures) t (start .pre .0)
-    (three .side .kept .1 .1 .1 .1 .1 .1 .0 ∙ two .consider2 .kept .1 .1 .1 .1 .0 ∙ one .consider .kept .1 .1 .1 .1 .0) (three .side .ensures .few)
-
-node-same-length-2 : (t : ℕ) → node-lts.Need-same-length-2 (node-calls t) (node-at t) node.Post
-node-same-length-2 t c =
-    let three = c .before .before .before .before .before .before .before .before in
-    let two = three .before .before .before .before .before .before .before .before .before in
-    let one = two .before .before .before .before .before .before .before in
-    c .before .before .side2 .kept .1 .1 .1 .1 .1 .1 .0 ∙ three .side .kept .1 .1 .1 .1 .1 .1 .0 ∙ two .consider2 .kept .1 .1 .1 .1 .0
-    ∙ one .consider .kept .1 .1 .1 .1 .0
+node-side-requires-2 t c κs = side-asked _ _ _ _ _ (c .before .before .before .before .before .before .before .before .before .before .before .before .before .before .before .pre .1) 0 (lit< tt) _ _ _ _ (c .before .way-down2 .ensures) t (c .before .before .before .before .before .before .before .before .before .before .before .before .before .before .before .pre .0)
 
 node-returns-2 : (t : ℕ) → node-lts.Need-returns-2 (node-calls t) (node-at t) node.Post
 node-returns-2 t c =
-    let three = c .before .before .before .before .before .before .before .before in
-    let two = three .before .before .before .before .before .before .before .before .before in
-    let one = two .before .before .before .before .before .before .before in
-    let start = one .before .before .before .before .before .before .before in
-    let a = start .args in
-    let p = start .pre .1 in (
-      node-right-first (a .ask) (a .references .now) (a .nodes .now) (apartBy (a .ask) (a .coordinates .now))
-          (distBy (a .ask) (a .coordinates .now) (a .probe .now)) _ _ _ _ (one .before .before .before .field .ensures) _
-          (two .before .before .before .before .field2 .ensures) _ (one .before .before .from-probe .ensures .0) _ _ (one .consider .ensures) _
-          (two .before .before .from-probe2 .ensures .0) _ _ (two .consider2 .ensures) _ _ _ _ (metric (a .ask) (a .coordinates .now) (a .probe .now))
-          (p .roomy .some) _ (three .before .before .before .before .before .before .rank .ensures) _
-          (three .before .before .before .before .before .rank2 .ensures) _ _ (three .before .before .way-down .ensures) (three .side .ensures)
-          (c .before .before .before .before .way-down2 .ensures) (c .before .before .side2 .ensures),
-      bounded-left (a .ask .measure) (a .ask .d) (a .coordinates .now) (a .probe .now) (a .nodes .now) (a .m) _ (one .before .before .before .field .ensures) (one .before .before .from-probe .ensures .1),
+    let a = c .before .before .before .before .before .before .before .before .before .before .before .before .before .before .before .before .args in
+    let p = c .before .before .before .before .before .before .before .before .before .before .before .before .before .before .before .before .pre .1 in
+    let v = c .before .before .before .before .before .before .before .before .before .before .before .before .before .visit .ensures in (
+      (λ q is.
+          let some : fieldAt (a .nodes .now) (a .m) 1 ≡ 0 → ⊥ = λ z. c .before .before .before .before .before .before .before .before .before .before .before .if1 .left (c .before .before .before .before .before .before .before .before .before .before .before .before .field .ensures ∙ z) in
+          node-right-first q (a .coordinates .now) (a .probe .now) (a .nodes .now) (a .m) _ _ (v q is .walked) _ _ (fits-too _ _ q (p .lent .is) is (p .lent .fit)) _ _ (v q is .left-is)
+          (v q is .right-is some) _ _ (c .before .before .before .before .before .before .before .before .before .before .if2 .taken) (rw is at (c .before .before .before .before .before .before .before .before .way-down .ensures)) (c .before .before .before .before .before .before .side .ensures q is)
+          (rw (is, c .before .before .before .before .half .ensures (q .order) (far-told _ q is)) at (c .before .before .way-down2 .ensures)) (c .side2 .ensures q is)),
+      (λ q is. v q is .left-is .bounded),
     )
 
 node-way-down-requires-3 : (t : ℕ) → node-lts.Need-way-down-requires-3 (node-calls t) (node-at t) node.Post
-node-way-down-requires-3 t c κs =
-    let two = c .before .before .before .before .before .before in
-    let one = two .before .before .before .before .before .before .before in
-    let start = one .before .before .before .before .before .before .before in
-    way-ready _ _ _ _ _ _ _ _ (start .pre .1) 0 (lit< tt) _ _ (two .consider2 .kept .1 .1 .1 .1 .0 ∙ one .consider .kept .1 .1 .1 .1 .0) (two .consider2 .ensures .few)
+node-way-down-requires-3 t c κs = way-ready _ _ _ _ _ (c .before .before .before .before .before .before .before .pre .1) 0 (lit< tt) _ 0 (left-small _ _ _ _ _ (c .before .before .before .before .before .before .before .pre .1) _ _ _ _ (c .before .before .before .before .visit .ensures)) (omega arith)
 
 node-side-requires-3 : (t : ℕ) → node-lts.Need-side-requires-3 (node-calls t) (node-at t) node.Post
-node-side-requires-3 t c κs =
-    let two = c .before .before .before .before .before .before .before .before in
-    let one = two .before .before .before .before .before .before .before in
-    let start = one .before .before .before .before .before .before .before in
-    side-asked _ _ _ _ _ _ _ _ (start .pre .1) 0 (lit< tt) _ _ _ _ _ (c .before .way-down3 .ensures) t (start .pre .0)
-    (two .consider2 .kept .1 .1 .1 .1 .0 ∙ one .consider .kept .1 .1 .1 .1 .0) (two .consider2 .ensures .few)
+node-side-requires-3 t c κs = side-asked _ _ _ _ _ (c .before .before .before .before .before .before .before .before .before .pre .1) 0 (lit< tt) _ _ _ _ (c .before .way-down3 .ensures) t (c .before .before .before .before .before .before .before .before .before .pre .0)
+
+node-element-copy-out-half-2 : (t : ℕ) → node-lts.Need-element-copy-out-half-2 (node-calls t) (node-at t) node.Post
+node-element-copy-out-half-2 t c = omega arith
+
+node-half-requires-2 : (t : ℕ) → node-lts.Need-half-requires-2 (node-calls t) (node-at t) node.Post
+node-half-requires-2 t c κs = (omega (arith, right-small _ _ _ _ _ (c .before .before .before .before .before .before .before .before .before .before .before .pre .1) _ _ _ _ (c .before .before .before .before .before .before .before .before .visit .ensures)), lit< tt)
 
 node-way-down-requires-4 : (t : ℕ) → node-lts.Need-way-down-requires-4 (node-calls t) (node-at t) node.Post
 node-way-down-requires-4 t c κs =
-    let three = c .before .before .before in
-    let two = three .before .before .before .before .before .before .before .before .before in
-    let one = two .before .before .before .before .before .before .before in
-    let start = one .before .before .before .before .before .before .before in
-    way-ready _ _ _ _ _ _ _ _ (start .pre .1) 1 (lit< tt) _ _
-    (three .side3 .kept .1 .1 .1 .1 .1 .1 .0 ∙ two .consider2 .kept .1 .1 .1 .1 .0 ∙ one .consider .kept .1 .1 .1 .1 .0) (three .side3 .ensures .few)
+    let y = right-small _ _ _ _ _ (c .before .before .before .before .before .before .before .before .before .before .before .before .before .pre .1) _ _ _ _ (c .before .before .before .before .before .before .before .before .before .before .visit .ensures) in
+    way-ready _ _ _ _ _ (c .before .before .before .before .before .before .before .before .before .before .before .before .before .pre .1) 1 (lit< tt) _ _ y (halves-small _ _ _ _ _ (c .before .before .before .before .before .before .before .before .before .before .before .before .before .pre .1) _ _ _ _ (c .before .before .before .before .before .before .before .before .before .before .visit .ensures) _ 1 _ (omega arith) (lit< tt) (c .before .half2 .ensures))
 
 node-side-requires-4 : (t : ℕ) → node-lts.Need-side-requires-4 (node-calls t) (node-at t) node.Post
-node-side-requires-4 t c κs =
-    let three = c .before .before .before .before .before in
-    let two = three .before .before .before .before .before .before .before .before .before in
-    let one = two .before .before .before .before .before .before .before in
-    let start = one .before .before .before .before .before .before .before in
-    side-asked _ _ _ _ _ _ _ _ (start .pre .1) 1 (lit< tt) _ _ _ _ _ (c .before .way-down4 .ensures) t (start .pre .0)
-    (three .side3 .kept .1 .1 .1 .1 .1 .1 .0 ∙ two .consider2 .kept .1 .1 .1 .1 .0 ∙ one .consider .kept .1 .1 .1 .1 .0) (three .side3 .ensures .few)
-
-node-same-length-3 : (t : ℕ) → node-lts.Need-same-length-3 (node-calls t) (node-at t) node.Post
-node-same-length-3 t c =
-    let three = c .before .before .before .before .before .before .before .before in
-    let two = three .before .before .before .before .before .before .before .before .before in
-    let one = two .before .before .before .before .before .before .before in
-    c .before .before .side4 .kept .1 .1 .1 .1 .1 .1 .0 ∙ three .side3 .kept .1 .1 .1 .1 .1 .1 .0 ∙ two .consider2 .kept .1 .1 .1 .1 .0
-    ∙ one .consider .kept .1 .1 .1 .1 .0
+node-side-requires-4 t c κs = side-asked _ _ _ _ _ (c .before .before .before .before .before .before .before .before .before .before .before .before .before .before .before .pre .1) 1 (lit< tt) _ _ _ _ (c .before .way-down4 .ensures) t (c .before .before .before .before .before .before .before .before .before .before .before .before .before .before .before .pre .0)
 
 node-returns-3 : (t : ℕ) → node-lts.Need-returns-3 (node-calls t) (node-at t) node.Post
 node-returns-3 t c =
-    let three = c .before .before .before .before .before .before .before .before in
-    let two = three .before .before .before .before .before .before .before .before .before in
-    let one = two .before .before .before .before .before .before .before in
-    let start = one .before .before .before .before .before .before .before in
-    let a = start .args in
-    let p = start .pre .1 in (
-      node-left-first (a .ask) (a .references .now) (a .nodes .now) (apartBy (a .ask) (a .coordinates .now))
-          (distBy (a .ask) (a .coordinates .now) (a .probe .now)) _ _ _ _ (one .before .before .before .field .ensures) _
-          (two .before .before .before .before .field2 .ensures) _ (one .before .before .from-probe .ensures .0) _ _ (one .consider .ensures) _
-          (two .before .before .from-probe2 .ensures .0) _ _ (two .consider2 .ensures) _ _ _ _ (metric (a .ask) (a .coordinates .now) (a .probe .now))
-          (p .roomy .some) _ (three .before .before .before .before .before .before .rank .ensures) _
-          (three .before .before .before .before .before .rank2 .ensures) _ _ (three .before .before .way-down3 .ensures) (three .side3 .ensures)
-          (c .before .before .before .before .way-down4 .ensures) (c .before .before .side4 .ensures),
-      bounded-left (a .ask .measure) (a .ask .d) (a .coordinates .now) (a .probe .now) (a .nodes .now) (a .m) _ (one .before .before .before .field .ensures) (one .before .before .from-probe .ensures .1),
+    let a = c .before .before .before .before .before .before .before .before .before .before .before .before .before .before .before .before .args in
+    let p = c .before .before .before .before .before .before .before .before .before .before .before .before .before .before .before .before .pre .1 in
+    let v = c .before .before .before .before .before .before .before .before .before .before .before .before .before .visit .ensures in (
+      (λ q is.
+          let some : fieldAt (a .nodes .now) (a .m) 1 ≡ 0 → ⊥ = λ z. c .before .before .before .before .before .before .before .before .before .before .before .if1 .left (c .before .before .before .before .before .before .before .before .before .before .before .before .field .ensures ∙ z) in
+          node-left-first q (a .coordinates .now) (a .probe .now) (a .nodes .now) (a .m) _ _ (v q is .walked) _ _ (fits-too _ _ q (p .lent .is) is (p .lent .fit)) _ _ (v q is .left-is)
+          (v q is .right-is some) _ _ (c .before .before .before .before .before .before .before .before .before .before .if2 .left) (rw is at (c .before .before .before .before .before .before .before .before .way-down3 .ensures)) (c .before .before .before .before .before .before .side3 .ensures q is)
+          (rw (is, c .before .before .before .before .half2 .ensures (q .order) (far-told _ q is)) at (c .before .before .way-down4 .ensures)) (c .side4 .ensures q is)),
+      (λ q is. v q is .left-is .bounded),
     )
 
 side-returns : (t : ℕ) → side-lts.Need-returns (side-calls t) (side-at t) side.Post
-side-returns t c =
-    let a = c .before .before .before .before .args in
-    side-none (a .ask) (a .references .now) (a .nodes .now) (apartBy (a .ask) (a .coordinates .now))
-    (distBy (a .ask) (a .coordinates .now) (a .probe .now)) _ _ _ (c .before .before .before .before .pre .1 .roomy .few) (c .if1 .taken)
+side-returns t c = λ q is. let a = c .before .before .args in side-none q (a .nodes .now) (apartBy q (a .coordinates .now)) (distBy q (a .coordinates .now) (a .probe .now)) _ _ (c .if1 .taken)
 
 side-sub-m : (t : ℕ) → side-lts.Need-sub-m (side-calls t) (side-at t) side.Post
-side-sub-m t c = let h = c .if1 .left in omega arith
+side-sub-m t c = omega (arith, c .if1 .left)
 
-side-node-requires : (t : ℕ) → side-lts.Need-node-requires (side-calls t) (side-at t) side.Post
+side-node-requires :
+    (t : ℕ) → side-lts.Need-node-requires (side-calls t) (side-at t) side.Post
 side-node-requires t c κs =
-    let start = c .before .before .before .before .before in
-    let a = start .args in
+    let start = c .before .before .before in
+    let some = c .before .if1 .left in
     let p = start .pre .1 in
-    let h = start .pre .0 in
-    let q = node-falls (a .ask .used) (a .way) (c .before .if1 .left) in
-    (omega (arith, h, q), record { walk = p .walk (c .before .if1 .left); lent = p .lent; roomy = p .roomy })
-
-side-same-length : (t : ℕ) → side-lts.Need-same-length (side-calls t) (side-at t) side.Post
-side-same-length t c = c .before .before .node .kept .1 .1 .1 .1 .1 .1 .0
+    (omega (arith, start .pre .0, node-falls (length (start .args .nodes .now)) (start .args .way) some), record { used = p .used; claims = p .claims; walk = p .walk some; lent = p .lent })
 
 side-returns-2 : (t : ℕ) → side-lts.Need-returns-2 (side-calls t) (side-at t) side.Post
-side-returns-2 t c =
-    let start = c .before .before .before .before .before .before .before .before in
-    let a = start .args in
-    side-down (a .ask) (a .references .now) (a .nodes .now) (apartBy (a .ask) (a .coordinates .now))
-    (distBy (a .ask) (a .coordinates .now) (a .probe .now)) _ _ _ _ _ (c .before .before .node .ensures .0)
+side-returns-2 t c = λ q is. let a = c .before .before .before .before .args in side-down q (a .nodes .now) (apartBy q (a .coordinates .now)) (distBy q (a .coordinates .now) (a .probe .now)) _ _ _ (c .node .ensures .0 q is)
 
 pub +node+side-spec : {M : Type 1} → statement M
-+node+side-spec =
-    close μ-node μ-side
-    (λ t. node-lts.spec (node-calls t) (node-at t) node.Post
-    (node-field-requires t) (node-sub-kl t) (node-from-probe-requires t) (node-consider-requires t) (node-field-requires-2 t) (node-same-length t)
-    (node-returns t) (node-sub-kr t) (node-from-probe-requires-2 t) (node-consider-requires-2 t) (node-rank-requires t) (node-rank-requires-2 t)
-    (node-way-down-requires t) (node-side-requires t) (node-way-down-requires-2 t) (node-side-requires-2 t) (node-same-length-2 t) (node-returns-2 t)
-    (node-way-down-requires-3 t) (node-side-requires-3 t) (node-way-down-requires-4 t) (node-side-requires-4 t) (node-same-length-3 t)
++node+side-spec = close μ-node μ-side (λ t. node-lts.spec (node-calls t)
+    (node-at t)
+    node.Post
+    (node-visit-requires t)
+    (node-field-requires t)
+    (node-returns t)
+    (node-way-down-requires t)
+    (node-side-requires t)
+    (node-element-copy-out-half t)
+    (node-sub-half t)
+    (node-half-requires t)
+    (node-way-down-requires-2 t)
+    (node-side-requires-2 t)
+    (node-returns-2 t)
+    (node-way-down-requires-3 t)
+    (node-side-requires-3 t)
+    (node-element-copy-out-half-2 t)
+    (node-half-requires-2 t)
+    (node-way-down-requires-4 t)
+    (node-side-requires-4 t)
     (node-returns-3 t))
-    (λ t. side-lts.spec (side-calls t) (side-at t) side.Post
-    (side-returns t) (side-sub-m t) (side-node-requires t) (side-same-length t) (side-returns-2 t))
+    λ t. side-lts.spec
+    (side-calls t)
+    (side-at t)
+    side.Post
+    (side-returns t)
+    (side-sub-m t)
+    (side-node-requires t)
+    (side-returns-2 t)

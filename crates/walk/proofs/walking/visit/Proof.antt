@@ -1,0 +1,94 @@
+-- `walk::walking::visit` meets its contract. Assumes nothing.
+use native.Mathlib.Omega.{arith}
+use Rattle.walk.proofs.Nodes.{left-here}
+use Rattle.walk.proofs.Visiting.{measure-told, size-fits, some-both, left-numbered, both-numbered, left-at, both-at, narrow, x-near, y-near, x-small, y-small, visited}
+use borrow.Author.Needs.{needs}
+use Rattle.walk.proofs.walking.visit.Statement.{statement}
+use Rattle.walk.proofs.walking.visit.Tie as tie
+
+field-requires : tie.Need-field-requires
+field-requires c κs = search needs
+
+field-requires-2 : tie.Need-field-requires-2
+field-requires-2 c κs = search needs
+
+sub-k : tie.Need-sub-k
+sub-k c = left-here _ _ _ _ (c .before .before .before .pre .walk) _ (c .before .field .ensures)
+
+either-requires : tie.Need-either-requires
+either-requires c κs = search needs
+
+sub-j : tie.Need-sub-j
+sub-j c = some-both _ _ _ _ _ (c .before .before .before .before .pre) _ _ _ (c .before .before .field .ensures) (c .before .field2 .ensures) (c .either .ensures)
+
+element-copy-out-d : tie.Need-element-copy-out-d
+element-copy-out-d c = search needs
+
+element-copy-out-from-both : tie.Need-element-copy-out-from-both
+element-copy-out-from-both c = search needs
+
+cast-from-both : tie.Need-cast-from-both
+cast-from-both c = let p = c .before .before .before .before .before .before .pre .lent in record { fits = omega (arith, measure-told _ _ (p .is), p .measure) }
+
+mul-from-both : tie.Need-mul-from-both
+mul-from-both c = record { fits = omega (arith, left-at _ _ _ _ _ (c .before .before .before .before .before .before .pre) _ _ _ (c .before .before .before .before .field .ensures) (c .before .before .before .field2 .ensures) (c .before .before .either .ensures)) }
+
+mul-from-both-2 : tie.Need-mul-from-both-2
+mul-from-both-2 c = record { fits = omega (arith, both-at _ _ _ _ _ (c .before .before .before .before .before .before .pre) _ _ _ (c .before .before .before .before .field .ensures) (c .before .before .before .field2 .ensures) (c .before .before .either .ensures)) }
+
+from-both-requires : tie.Need-from-both-requires
+from-both-requires c κs = (narrow _ _ _ _ _ (c .before .before .before .before .before .before .pre) _ _ _ (c .before .before .before .before .field .ensures) (c .before .before .before .field2 .ensures) (c .before .before .either .ensures), record { left-at = left-at _ _ _ _ _ (c .before .before .before .before .before .before .pre) _ _ _ (c .before .before .before .before .field .ensures) (c .before .before .before .field2 .ensures) (c .before .before .either .ensures); right-at = both-at _ _ _ _ _ (c .before .before .before .before .before .before .pre) _ _ _ (c .before .before .before .before .field .ensures) (c .before .before .before .field2 .ensures) (c .before .before .either .ensures) })
+
+element-copy-out-rank : tie.Need-element-copy-out-rank
+element-copy-out-rank c = search needs
+
+rank-requires : tie.Need-rank-requires
+rank-requires c κs = omega (arith, x-near _ _ _ _ _ (c .before .before .before .before .before .before .before .before .pre) _ _ _ (c .before .before .before .before .before .before .field .ensures) (c .before .before .before .before .before .field2 .ensures) (c .before .before .before .before .either .ensures) _ _ (c .before .from-both .ensures))
+
+element-copy-out-rank-2 : tie.Need-element-copy-out-rank-2
+element-copy-out-rank-2 c = search needs
+
+rank-requires-2 : tie.Need-rank-requires-2
+rank-requires-2 c κs = omega (arith, y-near _ _ _ _ _ (c .before .before .before .before .before .before .before .before .before .before .pre) _ _ _ (c .before .before .before .before .before .before .before .before .field .ensures) (c .before .before .before .before .before .before .before .field2 .ensures) (c .before .before .before .before .before .before .either .ensures) _ _ (c .before .before .before .from-both .ensures))
+
+key-requires : tie.Need-key-requires
+key-requires c κs = (omega (arith, x-small _ _ _ _ _ (c .before .before .before .before .before .before .before .before .before .before .before .before .pre) _ _ _ (c .before .before .before .before .before .before .before .before .before .before .field .ensures) (c .before .before .before .before .before .before .before .before .before .field2 .ensures) (c .before .before .before .before .before .before .before .before .either .ensures) _ _ (c .before .before .before .before .before .from-both .ensures) _ _ (c .before .before .before .rank .ensures) (c .before .rank2 .ensures)), omega (arith, left-numbered _ _ _ _ _ (c .before .before .before .before .before .before .before .before .before .before .before .before .pre) _ _ _ (c .before .before .before .before .before .before .before .before .before .before .field .ensures) (c .before .before .before .before .before .before .before .before .before .field2 .ensures) (c .before .before .before .before .before .before .before .before .either .ensures)))
+
+keep-requires : tie.Need-keep-requires
+keep-requires c κs = size-fits _ _ (c .before .before .before .before .before .before .before .before .before .before .before .before .before .pre .lent .is) (c .before .before .before .before .before .before .before .before .before .before .before .before .before .pre .lent .fit)
+
+key-requires-2 : tie.Need-key-requires-2
+key-requires-2 c κs = (omega (arith, y-small _ _ _ _ _ (c .before .before .before .before .before .before .before .before .before .before .before .before .before .before .before .pre) _ _ _ (c .before .before .before .before .before .before .before .before .before .before .before .before .before .field .ensures) (c .before .before .before .before .before .before .before .before .before .before .before .before .field2 .ensures) (c .before .before .before .before .before .before .before .before .before .before .before .either .ensures) _ _ (c .before .before .before .before .before .before .before .before .from-both .ensures) _ _ (c .before .before .before .before .before .before .rank .ensures) (c .before .before .before .before .rank2 .ensures)), omega (arith, both-numbered _ _ _ _ _ (c .before .before .before .before .before .before .before .before .before .before .before .before .before .before .before .pre) _ _ _ (c .before .before .before .before .before .before .before .before .before .before .before .before .before .field .ensures) (c .before .before .before .before .before .before .before .before .before .before .before .before .field2 .ensures) (c .before .before .before .before .before .before .before .before .before .before .before .either .ensures)))
+
+keep-requires-2 : tie.Need-keep-requires-2
+keep-requires-2 c κs = size-fits _ _ (c .before .before .before .before .before .before .before .before .before .before .before .before .before .before .before .before .pre .lent .is) (c .before .before .before .before .before .before .before .before .before .before .before .before .before .before .before .before .pre .lent .fit)
+
+returns : tie.Need-returns
+returns c q is =
+    visited _ _ _ _ _ (c .before .before .before .before .before .before .before .before .before .before .before .before .before .before .before .before .before .pre) _ _ _ (c .before .before .before .before .before .before .before .before .before .before .before .before .before .before .before .field .ensures) (c .before .before .before .before .before .before .before .before .before .before .before .before .before .before .field2 .ensures) (c .before .before .before .before .before .before .before .before .before .before .before .before .before .either .ensures) _ _ (c .before .before .before .before .before .before .before .before .before .before .from-both .ensures) _ _ (c .before .before .before .before .before .before .before .before .rank .ensures) (c .before .before .before .before .before .before .rank2 .ensures) q is
+    _ _ _ _ _ (c .before .before .before .before .key .ensures) (c .before .key2 .ensures) (c .before .before .before .keep .ensures) (c .keep2 .ensures)
+
+pub visit-spec : {M : Type 1} → statement M
+visit-spec =
+    tie.close
+    (tie.spec
+    field-requires
+    field-requires-2
+    sub-k
+    either-requires
+    sub-j
+    element-copy-out-d
+    element-copy-out-from-both
+    cast-from-both
+    mul-from-both
+    mul-from-both-2
+    from-both-requires
+    element-copy-out-rank
+    rank-requires
+    element-copy-out-rank-2
+    rank-requires-2
+    key-requires
+    keep-requires
+    key-requires-2
+    keep-requires-2
+    returns)
