@@ -44,7 +44,7 @@ element-copy-out-if4 : tie.Need-element-copy-out-if4
 element-copy-out-if4 c = search needs
 
 returns-4 : tie.Need-returns-4
-returns-4 c = keep-pushed _ _ _ _ (c .before .before .before .before .before .before .if1 .left) _ _ (c .before .before .before .before .if2 .left) refl (λ long. late (c .if4 .taken) refl)
+returns-4 c = keep-pushed _ _ _ _ (c .before .before .before .before .before .before .if1 .left) _ _ (c .before .before .before .before .if2 .left) refl (λ long. late (omega (arith, c .if4 .taken)) refl)
 
 push-requires : tie.Need-push-requires
 push-requires c κs = search needs
