@@ -1,6 +1,7 @@
-/* The least stack on which each call survives: 4,096 claims that are all alike, which make the deepest tree, and lines. A call runs in a
- * child process on a stack of so many bytes with nothing below it; a child that dies had too little. */
+/* The least stack on which each call survives: 4,096 claims in a line, which make the deepest tree, asked from the end that a walk goes
+ * down to, and lines. A call runs in a child process on a stack of so many bytes with nothing below it; a child that dies had too little. */
 #include "line_calls.h"
+#include "office.h"
 #include "ours.h"
 
 #include <stdio.h>
@@ -18,6 +19,16 @@ enum { MOST_STACK = 4 << 20, GUARD = 16 << 20, TABLE_STEP = 256, LINE_STEP = 16 
 static struct cell cell;
 static struct our_table *table;
 static struct answers given;
+
+/* Two questions from a point of the line, and their ask lines. */
+static void aim(int32_t x)
+{
+    for (size_t i = 0; i < 2; i++) {
+        cell.probes[i * 2] = x;
+        cell.probes[i * 2 + 1] = 0;
+        cell.ask_length = write_ask(&cell, i, &cell.places[FIRST_PAGE][i * NEARBY_PLACE], &cell.asks[i * cell.ask_length]);
+    }
+}
 
 /* ---- The calls ---- */
 
@@ -38,8 +49,10 @@ static void nearest(void)
         _exit(2);
 }
 
+/* The farthest claim from the beginning of the line is the deepest. */
 static void farthest(void)
 {
+    aim(0);
     if (nearby_farthest(OUR_TABLE(table), cell.probes, cell.d).found != 1)
         _exit(2);
 }
@@ -59,7 +72,13 @@ static void answer(void)
 }
 
 static void many_nearest(void) { ours.ask(table, &cell, NEAREST, 2, &given); }
-static void many_farthest(void) { ours.ask(table, &cell, FARTHEST, 2, &given); }
+
+static void many_farthest(void)
+{
+    aim(0);
+    ours.ask(table, &cell, FARTHEST, 2, &given);
+}
+
 static void many_pages(void) { ours.ask(table, &cell, FIRST_PAGE, 2, &given); }
 static void many_answers(void) { ours.ask(table, &cell, OFFICE, 2, &given); }
 
@@ -133,30 +152,34 @@ static size_t least_stack(void (*call)(void), size_t step)
     return lives;
 }
 
-/* Claims that are all alike make a chain, two claims to a level. */
-static void enter_alike(size_t n)
+/* Claims in a line make a chain, two claims to a level: each is nearer to the one before it than to all others. */
+static void enter_line(size_t n)
 {
     make_cell(&cell, n, 2, NEARBY_CITY_BLOCK, UNIFORM);
-    for (size_t k = 0; k < n; k++)
-        memcpy(&cell.coordinates[k * 2], cell.coordinates, 2 * sizeof *cell.coordinates);
+    for (size_t k = 0; k < n; k++) {
+        cell.coordinates[k * 2] = (int32_t)k;
+        cell.coordinates[k * 2 + 1] = 0;
+    }
+    aim((int32_t)n);
     table = our_table(&cell);
 }
 
+/* What a level costs is told by two depths, at both of which the walk needs more than the soundness test. */
 static void measure_tables(void)
 {
     enum { CALLS = sizeof calls / sizeof *calls, LEVELS = NEARBY_MOST_CLAIMS / 2 };
-    size_t half[CALLS], whole[CALLS];
-    enter_alike(NEARBY_MOST_CLAIMS / 2);
+    size_t less[CALLS], whole[CALLS];
+    enter_line(NEARBY_MOST_CLAIMS / 4 * 3);
     for (size_t i = 0; i < CALLS; i++)
-        half[i] = least_stack(calls[i].call, TABLE_STEP);
-    enter_alike(NEARBY_MOST_CLAIMS);
+        less[i] = least_stack(calls[i].call, TABLE_STEP);
+    enter_line(NEARBY_MOST_CLAIMS);
     for (size_t i = 0; i < CALLS; i++)
         whole[i] = least_stack(calls[i].call, TABLE_STEP);
-    printf("%d claims that are all alike, %d levels\n", NEARBY_MOST_CLAIMS, LEVELS);
+    printf("%d claims in a line, %d levels\n", NEARBY_MOST_CLAIMS, LEVELS);
     printf("%-22s %10s %22s\n", "call", "stack KiB", "bytes for each level");
     for (size_t i = 0; i < CALLS; i++)
         printf("%-22s %10.1f %22.1f\n", calls[i].name, (double)whole[i] / 1024,
-               ((double)whole[i] - (double)half[i]) / (LEVELS / 2));
+               ((double)whole[i] - (double)less[i]) / (LEVELS / 4));
 }
 
 /* The caller's own room for what a call gives is in these. */
