@@ -17,7 +17,7 @@
  * lent memory (nearby_enter, nearby_take, output rooms) needs that memory alone.
  *
  * Stack [9.22]. A call on a table has some 200 KiB of its own on the stack. A question also walks the tree, which is at most 2,048
- * nodes deep (claims that are all alike): NEARBY_STACK bytes are enough for every call.
+ * nodes deep (claims in a line): NEARBY_STACK bytes are enough for every call.
  */
 #ifndef NEARBY_H
 #define NEARBY_H

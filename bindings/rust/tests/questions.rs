@@ -290,10 +290,11 @@ fn answer_into_a_room() {
 fn threads_share_a_table() {
     let from = &mut Seeded(22);
     // The deepest tree that there is, on threads with the stack that std gives them.
-    let (table, claims) = filled(from, Measure::CityBlock, 1, 4096, 4096, Style::Alike);
+    let (table, claims) = filled(from, Measure::CityBlock, 1, 4096, 4096, Style::InALine);
     let shared = Arc::new((table, claims));
     let threads: Vec<_> = (0..4)
-        .map(|probe: i32| {
+        .map(|third: i32| {
+            let probe = third * 1365;
             let shared = Arc::clone(&shared);
             thread::spawn(move || {
                 let (table, claims) = &*shared;

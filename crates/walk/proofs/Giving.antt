@@ -1,6 +1,6 @@
 -- From the keys that a walk kept to the items of a page. Assumes nothing.
 use Prim.Native.Nat.{ℕ, zero, suc, _+_, _-_, _*_, _/_, _%_, _<_, _≤_}
-use mathlib.Core.Path.{_≡_, refl, sym, ap, subst, _∙_}
+use mathlib.Core.Path.{_≡_, refl, sym, ap, _∙_}
 use mathlib.Core.Bool.{Bool, true, false}
 use mathlib.Core.List.{List, [], _∷_, _++_, append-assoc}
 use native.Mathlib.Omega.{arith}
@@ -14,7 +14,7 @@ use Rattle.paper.specs.Limits.{mostClaims}
 use Rattle.paper.specs.Tree.{referenceAt}
 use Rattle.walk_keep.specs.Asked.{Asked, Walkable, mostDistance, top, rankAt, keyAt, farAt, endAt, numbersOf}
 use Rattle.walk_keep.specs.Page.{ranks, items, filled}
-use Rattle.walk_keep.specs.Kept.{okBy, keyBy, Holding}
+use Rattle.walk_keep.specs.Kept.{okBy, Holding}
 use Rattle.walk_keep.proofs.Keeping.{rising-at, rising-few, rising-ok}
 use Rattle.walk_keep.proofs.Admitting.{admitted-is, in-keys}
 use Rattle.walk_keep.proofs.Ranks.{rank-small}

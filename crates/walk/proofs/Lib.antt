@@ -5,5 +5,6 @@ pub mod Visiting
 pub mod Giving
 pub mod Paging
 pub mod Bridge
+pub mod Filling
 pub mod Answers
 pub mod Farthest

@@ -1,6 +1,5 @@
 -- The measures are metric, in what the walk uses: the triangle inequality of a symmetric measure. Assumes nothing.
 use Prim.Native.Nat.{ℕ, _+_, _≤_}
-use mathlib.Core.Path.{_≡_}
 use mathlib.Core.List.{List}
 use lib.IntN.{ℤ}
 use Rattle.paper.specs.declared.points.Measure.{Measure}

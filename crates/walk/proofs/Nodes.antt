@@ -1,22 +1,21 @@
 -- What a node holds, walked: its two claims and what is below its two sides. In the words of what the code reads. Assumes nothing.
 use Prim.Native.Nat.{ℕ, zero, suc, _+_, _-_, _*_, _<_, _≤_}
-use mathlib.Core.Path.{_≡_, refl, sym, ap, subst, _∙_}
+use mathlib.Core.Path.{_≡_, refl, _∙_}
 use mathlib.Core.Logic.{_⊎_, inl, inr, ⊎-elim}
 use mathlib.Core.List.{List}
 use native.Mathlib.Omega.{arith}
 use lib.Dec.{lit<}
 use lib.IntN.{ℤ}
-use lib.ListN.{length, getD}
-use Rattle.paper.specs.Limits.{mostClaims}
+use lib.ListN.{length}
 use Rattle.paper.specs.Tree.{fieldAt, sideClaim}
 use Rattle.tree.specs.BuiltNodes.{Linked, Under, here, deeper, Holds, Searchable}
-use Rattle.walk_keep.specs.Asked.{Asked, Walkable, mostDistance, top, rankAt, numbersOf}
+use Rattle.walk_keep.specs.Asked.{Asked, Walkable, top, numbersOf}
 use Rattle.walk_keep.specs.Kept.{Walked}
 use Rattle.walk_keep.specs.Skips.{halfAt}
 use Rattle.walk_keep.proofs.Walks.{walked-then, walked-fewer}
-use Rattle.walk.specs.Walking.{distBy, apartBy, On, Below, InOrBelow, wayDown, Ranked, Readable, NodeAsk, WayAsk, SideAsk}
+use Rattle.walk.specs.Walking.{distBy, apartBy, On, Below, InOrBelow, wayDown, Ranked, NodeAsk, WayAsk, SideAsk}
 use Rattle.walk.proofs.Metrics.{metric}
-use Rattle.walk.proofs.Sides.{way-leads, Side, Least, least-any, least-half, side-went}
+use Rattle.walk.proofs.Sides.{way-leads, Least, least-any, least-half, side-went}
 
 -- ---- what a node holds
 
@@ -137,7 +136,7 @@ module _ (nodes : List ℕ) (coordinates probe : List ℤ) (numbers : List ℕ) 
         inside = omega (arith, h .walk .room, h .walk .inUse);
         stored = omega (arith, stored-here nodes (h .used) (h .claims) m (h .walk) 1 (fieldAt nodes m 1) (lit< tt) refl, h .lent .few);
         rank = hx;
-        least' = hl;
+        small = hl;
       }
 
   module _ (x least way : ℕ) (o : List ℕ) (is : way ≡ wayDown nodes numbers m s x least o) where

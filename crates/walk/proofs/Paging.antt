@@ -1,15 +1,15 @@
 -- The page of the root: what a walk from an empty room keeps, and gives. Assumes nothing.
-use Prim.Native.Nat.{ℕ, zero, suc, _+_, _*_, _<_, _≤_}
-use mathlib.Core.Path.{_≡_, refl, sym, ap, subst, _∙_}
+use Prim.Native.Nat.{ℕ, zero, suc, _+_, _<_, _≤_}
+use mathlib.Core.Path.{_≡_, refl, sym, ap, _∙_}
 use mathlib.Core.List.{List, []}
 use native.Mathlib.Omega.{arith}
 use lib.IntN.{ℤ}
-use lib.ListN.{length, getD, replicate, length-replicate}
+use lib.ListN.{getD, replicate, length-replicate}
 use Rattle.paper.specs.Limits.{mostPage}
 use Rattle.paper.specs.Tree.{referenceAt}
 use Rattle.tree.specs.BuiltNodes.{Holds, Neartree}
-use Rattle.walk_keep.specs.Asked.{Asked, Walkable, endAt, numbersOf}
-use Rattle.walk_keep.specs.Page.{firstSorted, ranks, filled}
+use Rattle.walk_keep.specs.Asked.{Asked, Walkable, numbersOf}
+use Rattle.walk_keep.specs.Page.{firstSorted, ranks}
 use Rattle.walk_keep.specs.Kept.{none, okBy, Holding, Walked, WalkLeft}
 use Rattle.walk_keep.proofs.Keeping.{all-are-first}
 use Rattle.walk.specs.Walking.{distBy, apartBy, NodeAsk, GiveAsk, Gives, PageAsk, AskFilled}

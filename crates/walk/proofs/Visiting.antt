@@ -1,6 +1,6 @@
 -- What a question's numbers tell, and the steps of a node's two claims. Assumes nothing.
 use Prim.Native.Nat.{ℕ, zero, suc, _+_, _-_, _*_, _<_, _≤_}
-use mathlib.Core.Path.{_≡_, refl, sym, ap, subst, _∙_}
+use mathlib.Core.Path.{_≡_, refl, sym, ap, _∙_}
 use mathlib.Core.Logic.{_⊎_, inl, inr, ⊎-elim}
 use mathlib.Core.List.{List}
 use native.Mathlib.Omega.{arith}
@@ -22,7 +22,7 @@ use Rattle.walk_keep.specs.Skips.{halfAt}
 use Rattle.walk_keep.proofs.Ranks.{rank-small, half-small}
 use Rattle.walk_keep.proofs.Stepping.{claim-step}
 use Rattle.walk_keep.proofs.Walks.{walked-then}
-use Rattle.walk.specs.Walking.{distOf, distBy, Bounded, eitherOf, On, Ranked, Visits, Readable, NodeAsk}
+use Rattle.walk.specs.Walking.{distOf, distBy, eitherOf, On, Ranked, Visits, NodeAsk}
 use Rattle.walk.proofs.Nodes.{stored-here, left-here}
 
 -- [1.9] no measure's greatest distance is over the greatest of all

@@ -117,7 +117,7 @@ pub record WayAsk (nodes numbers : List ℕ) (m s x least : ℕ) : Type 0 where
   pub inside : Inside nodes m
   pub stored : fieldAt nodes m 1 ≤ mostClaims
   pub rank : x ≤ top
-  pub least' : least ≤ top
+  pub small : least ≤ top
 
 -- what the walk below a side asks
 pub record SideAsk (nodes : List ℕ) (coordinates probe : List ℤ) (numbers : List ℕ) (way : ℕ) : Type 0 where

@@ -1,7 +1,6 @@
 // One walk for every order and every question. It keeps the keys of the first so many claims, in order, in a room of its own.
 ghost use mathlib.Core.Path.{_≡_};
-ghost use Prim.Native.Nat.{_<_, _≤_};
-ghost use mathlib.Core.List.{List};
+ghost use Prim.Native.Nat.{_<_};
 ghost use Rattle.paper.specs.Tree.{sideClaim};
 ghost use Rattle.tree.specs.BuiltNodes.{Holds};
 ghost use Rattle.walk_keep.specs.Asked.{Asked, numbersOf};

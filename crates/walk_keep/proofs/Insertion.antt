@@ -1,10 +1,11 @@
 -- Insertion of a claim at its place, or where it is already. Assumes nothing.
-use Prim.Native.Nat.{ℕ, zero, suc, _+_, _<_, _≤_}
-use mathlib.Core.Path.{_≡_, refl, ap}
+use Prim.Native.Nat.{ℕ, zero, suc, _+_, _-_, _<_, _≤_, min}
+use mathlib.Core.Path.{_≡_, refl, ap, subst, _∙_}
 use mathlib.Core.List.{List, [], _∷_, _++_}
 use mathlib.Core.Bool.{Bool, true, false}
 use native.Mathlib.Omega.{arith}
-use lib.ListN.{length, take, drop, getD}
+use lib.ListN.{length, take, drop, getD, length-take, length-append, length-drop, List·getD-append}
+use lib.Seq.{getD-take, getD-drop, getD-at, getD-append-add}
 use borrow.Author.Tests.{eq-eqb, ne-eqb}
 use Rattle.paper.specs.Limits.{mostClaims}
 use Rattle.walk_keep.specs.Page.{sooner, insertBy}
@@ -55,3 +56,31 @@ module _ (rank : ℕ → ℕ) (ok : ℕ → Bool) (n k : ℕ) (hn : n ≤ mostCl
       let y = rising-at rank ok n s (key rank x + 1) l p d (omega arith) in
       let z : key rank x + 1 ≤ key rank k = rw e at (y .0) in
       rw (key-sooner rank x k (omega arith) (omega arith) (omega arith)) (ap (λ (t : List ℕ). x ∷ t) (insert-same s (key rank x + 1) l p d (omega arith) e))
+
+-- ---- the list with claim k at place p
+
+module _ (l : List ℕ) (k p n : ℕ) (few : p ≤ length l) where
+  abbrev pub With : List ℕ
+  With = take n (take p l ++ (k ∷ drop p l))
+
+  front-length : length (take p l) ≡ p
+  front-length = length-take p l ∙ omega arith
+
+  pub with-length : length With ≡ min n (length l + 1)
+  with-length = length-take n (take p l ++ (k ∷ drop p l)) ∙ ap (min n) (length-append (take p l) (k ∷ drop p l) ∙ simp length-drop (omega (arith, front-length)))
+
+  pub with-front : (i : ℕ) → i < p → i < n → getD With i 0 ≡ getD l i 0
+  with-front i h hn =
+      getD-take n (take p l ++ (k ∷ drop p l)) i 0 hn ∙ List·getD-append (take p l) (k ∷ drop p l) 0 i (omega (arith, front-length)) ∙ getD-take p l i 0 h
+
+  pub with-here : p < n → getD With p 0 ≡ k
+  with-here h = getD-take n (take p l ++ (k ∷ drop p l)) p 0 h ∙ getD-at (take p l) k (drop p l) 0 p front-length
+
+  pub with-behind : (i : ℕ) → p < i → i < n → getD With i 0 ≡ getD l (i - 1) 0
+  with-behind i h hn =
+      let m : ℕ = i - 1 - p in
+      let e : length (take p l) + suc m ≡ i = omega (arith, front-length) in
+      let f : p + m ≡ i - 1 = omega arith in
+      getD-take n (take p l ++ (k ∷ drop p l)) i 0 hn
+      ∙ subst (λ (u : ℕ). getD (take p l ++ (k ∷ drop p l)) u 0 ≡ getD (drop p l) m 0) e (getD-append-add (take p l) (k ∷ drop p l) (suc m) 0)
+      ∙ getD-drop p l m 0 ∙ ap (λ (u : ℕ). getD l u 0) f

@@ -1,8 +1,8 @@
 -- Why a side may be skipped, by the numbers of a question: from distances that obey the triangle inequality both ways round, whatever they
 -- are. Claim k is measured, claim j is not. Assumes nothing.
 use Prim.Native.Nat.{ℕ, zero, suc, _+_, _-_, _<_, _≤_, min, max}
-use mathlib.Core.Path.{_≡_, refl, sym, ap, subst, _∙_}
-use mathlib.Core.Logic.{_⊎_, inl, inr, ⊎-elim}
+use mathlib.Core.Path.{_≡_, refl, sym, ap}
+use mathlib.Core.Logic.{_⊎_, ⊎-elim}
 use mathlib.Core.Bool.{Bool, true, false, cond}
 use mathlib.Core.List.{List}
 use native.Mathlib.Omega.{arith}
@@ -56,13 +56,13 @@ module _ (dk dj e far : ℕ) (near : dk ≤ mostDistance) (there : dk ≤ e + dj
           way true q = mark p (ltb-true x (markAt ask - far) q) i
           way false q = front (omega (arith, ltb-false x (markAt ask - far) q)) i
 
-  -- what is at rank `half` or behind in near order, and numbered from f on
-  module _ (half f j : ℕ) (small : half ≤ mostDistance) (later : f ≤ j) (stored : j < mostClaims) where
+  -- what is at rank `least` or behind in near order, and numbered from f on
+  module _ (least f j : ℕ) (small : least ≤ mostDistance) (later : f ≤ j) (stored : j < mostClaims) where
     abbrev Bound : Order → ℕ
-    Bound o = keyAt (max (rankAt o dk - far) half) f
+    Bound o = keyAt (max (rankAt o dk - far) least) f
 
     abbrev Halfway : Order → Type 0
-    Halfway o = (o ≡ Near → half ≤ dj) × (o ≡ Far → half ≡ 0)
+    Halfway o = (o ≡ Near → least ≤ dj) × (o ≡ Far → least ≡ 0)
 
     not-end : (o : Order) (reach : ℕ) → Halfway o → dj ≤ reach → keyAt (behindAt o reach) 0 ≤ Bound o → ⊥
     unfolding rankAt behindAt
@@ -101,22 +101,22 @@ module _ (ask : Asked) (fit : Walkable ask) (dist : ℕ → ℕ) (o l : List ℕ
       rising-covers R (okBy ask dist) (ask .snapshot) n zero j l (fit .stored) stored rising len (rw w at last)
 
   -- [4.13] [4.14] nothing below the side comes before the last key kept
-  pub beyond-covered : (dk e far half f x : ℕ) → dk ≤ mostDistance → dk ≤ e + dist j → dist j ≤ e + dk → e ≤ far → half ≤ mostDistance
-      → (ask .order ≡ Near → half ≤ dist j) × (ask .order ≡ Far → half ≡ 0) → f ≤ j → x ≡ rankAt (ask .order) dk → beyondAt (numbersOf ask) x far half f o ≡ true → Covered R j (ask .size) l
+  pub beyond-covered : (dk e far least f x : ℕ) → dk ≤ mostDistance → dk ≤ e + dist j → dist j ≤ e + dk → e ≤ far → least ≤ mostDistance
+      → (ask .order ≡ Near → least ≤ dist j) × (ask .order ≡ Far → least ≡ 0) → f ≤ j → x ≡ rankAt (ask .order) dk → beyondAt (numbersOf ask) x far least f o ≡ true → Covered R j (ask .size) l
   unfolding beyondAt numbersOf endAt
-  beyond-covered dk e far half f x near there back within small halfway later is test = go (ltb (length l) (ask .size)) refl
+  beyond-covered dk e far least f x near there back within small halfway later is test = go (ltb (length l) (ask .size)) refl
     where
-      last : getD o (ask .size - 1) 0 ≤ Bound dk (dist j) e far near there back within half f j small later stored (ask .order)
+      last : getD o (ask .size - 1) 0 ≤ Bound dk (dist j) e far near there back within least f j small later stored (ask .order)
       last = rw is at (leb-true (getD o (ask .size - 1) 0) _ test)
 
       go : (u : Bool) → ltb (length l) (ask .size) ≡ u → Covered R j (ask .size) l
       go true q =
           let end = h .ends (ask .size - 1) (omega (arith, ltb-true (length l) (ask .size) q)) (omega (arith, fit .some)) in
-          absurd (not-end dk (dist j) e far near there back within half f j small later stored (ask .order) (ask .reach) halfway (admitted-is ask (dist j) j ok .within) (rw end at last))
+          absurd (not-end dk (dist j) e far near there back within least f j small later stored (ask .order) (ask .reach) halfway (admitted-is ask (dist j) j ok .within) (rw end at last))
       go false q =
           let len : length l ≡ ask .size = omega (arith, ltb-false (length l) (ask .size) q, rising-few R (okBy ask dist) (ask .snapshot) (ask .size) zero l (h .rising)) in
           let hi : ask .size - 1 < length l = omega (arith, fit .some) in
           let b = rising-at R (okBy ask dist) (ask .snapshot) (ask .size) zero l (ask .size - 1) (h .rising) hi in
           covered-last (ask .size) (fit .some) (h .rising) len
-          (not-before dk (dist j) e far near there back within half f j small later stored (ask .order) (dist (getD l (ask .size - 1) 0)) (getD l (ask .size - 1) 0)
+          (not-before dk (dist j) e far near there back within least f j small later stored (ask .order) (dist (getD l (ask .size - 1) 0)) (getD l (ask .size - 1) 0)
           (h .near (ask .size - 1) hi) (omega (arith, b .1, fit .stored)) halfway (rw (h .keys (ask .size - 1) hi) at last))

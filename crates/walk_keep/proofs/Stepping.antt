@@ -1,25 +1,25 @@
 -- The step of one claim: what putting its key in a room that holds claims makes of it. Assumes nothing.
 use Prim.Native.Nat.{ℕ, zero, suc, _+_, _-_, _*_, _<_, _≤_, _^_, min}
-use mathlib.Core.Path.{_≡_, refl, sym, ap, subst, _∙_}
-use mathlib.Core.Logic.{_⊎_, inl, inr, ⊎-elim}
-use mathlib.Core.Bool.{Bool, true, false, _&&_}
-use mathlib.Core.List.{List, [], _∷_, _++_}
+use mathlib.Core.Path.{_≡_, refl, sym, ap, _∙_}
+use mathlib.Core.Logic.{_⊎_, ⊎-elim}
+use mathlib.Core.Bool.{Bool, true, false}
+use mathlib.Core.List.{List, _∷_, _++_}
 use native.Mathlib.Omega.{arith}
 use native.Mathlib.Nat.{le-refl, eq-or-lt-of-le}
 use lib.Dec.{ltb, leb, eqb}
-use lib.ListN.{length, take, drop, getD, length-take, length-append, length-drop, List·getD-append}
-use lib.Seq.{take-all, take-at, take-length, getD-take, getD-drop, getD-at, getD-append-add}
+use lib.ListN.{length, take, drop, getD}
+use lib.Seq.{take-all, take-at, take-length}
 use borrow.Author.Tests.{ltb-true, ltb-false, leb-true, eqb-true, eqb-false, lt-ltb, le-leb}
 use Rattle.paper.specs.declared.orders.Order.{Order}
 use Rattle.paper.specs.declared.orders.Order.the-variants.{Near, Far}
 use Rattle.paper.specs.Limits.{mostClaims}
 use Rattle.paper.specs.Orders.{rank}
 use Rattle.paper.proofs.Tests.{no-way}
-use Rattle.walk_keep.specs.Asked.{Asked, Walkable, admitted, mostDistance, top, rankAt, keyAt, lowAt, endAt, numbersOf}
+use Rattle.walk_keep.specs.Asked.{Asked, Walkable, mostDistance, rankAt, keyAt, lowAt, endAt, numbersOf}
 use Rattle.walk_keep.specs.Page.{ranks, sooner, insertBy}
 use Rattle.walk_keep.specs.Kept.{key, RisingClaims, okBy, keyBy, Holding, WalkLeft, Walked, Pushed, put, held, late, KeepIs}
 use Rattle.walk_keep.proofs.Keeping.{sooner-true, key-sooner, rising-at, rising-ok, rising-few, rising-take, insert-rising, one}
-use Rattle.walk_keep.proofs.Insertion.{PositionIn, insert-at, insert-same}
+use Rattle.walk_keep.proofs.Insertion.{PositionIn, insert-at, insert-same, With, with-length, with-front, with-here, with-behind}
 use Rattle.walk_keep.proofs.Admitting.{Is, admitted-is, is-admitted, in-keys, keys-in}
 use Rattle.walk_keep.proofs.Walks.{walked-still}
 
@@ -36,34 +36,6 @@ key-is ask dist k h = go (ask .order)
     go : (o : Order) → key (ranks o dist) k ≡ keyAt (rankAt o (dist k)) k + above o
     go Near = omega arith
     go Far = omega arith
-
--- ---- the list with claim k at place p
-
-module _ (l : List ℕ) (k p n : ℕ) (few : p ≤ length l) where
-  abbrev With : List ℕ
-  With = take n (take p l ++ (k ∷ drop p l))
-
-  front-length : length (take p l) ≡ p
-  front-length = length-take p l ∙ omega arith
-
-  with-length : length With ≡ min n (length l + 1)
-  with-length = length-take n (take p l ++ (k ∷ drop p l)) ∙ ap (min n) (length-append (take p l) (k ∷ drop p l) ∙ simp length-drop (omega (arith, front-length)))
-
-  with-front : (i : ℕ) → i < p → i < n → getD With i 0 ≡ getD l i 0
-  with-front i h hn =
-      getD-take n (take p l ++ (k ∷ drop p l)) i 0 hn ∙ List·getD-append (take p l) (k ∷ drop p l) 0 i (omega (arith, front-length)) ∙ getD-take p l i 0 h
-
-  with-here : p < n → getD With p 0 ≡ k
-  with-here h = getD-take n (take p l ++ (k ∷ drop p l)) p 0 h ∙ getD-at (take p l) k (drop p l) 0 p front-length
-
-  with-behind : (i : ℕ) → p < i → i < n → getD With i 0 ≡ getD l (i - 1) 0
-  with-behind i h hn =
-      let m : ℕ = i - 1 - p in
-      let e : length (take p l) + suc m ≡ i = omega (arith, front-length) in
-      let f : p + m ≡ i - 1 = omega arith in
-      getD-take n (take p l ++ (k ∷ drop p l)) i 0 hn
-      ∙ subst (λ (u : ℕ). getD (take p l ++ (k ∷ drop p l)) u 0 ≡ getD (drop p l) m 0) e (getD-append-add (take p l) (k ∷ drop p l) (suc m) 0)
-      ∙ getD-drop p l m 0 ∙ ap (λ (u : ℕ). getD l u 0) f
 
 -- ---- a key put in a room that holds claims
 

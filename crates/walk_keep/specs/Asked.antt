@@ -4,6 +4,7 @@ use Prim.Native.Nat.{ℕ, _+_, _-_, _*_, _<_, _≤_, _^_, min, max}
 use mathlib.Core.Bool.{Bool, true, cond, _&&_}
 use mathlib.Core.List.{List, [], _∷_}
 use lib.Dec.{ltb, leb}
+use lib.ListN.{getD}
 use Rattle.paper.specs.declared.orders.Mark.{Mark}
 use Rattle.paper.specs.declared.orders.Order.{Order}
 use Rattle.paper.specs.declared.orders.Order.the-variants.{Near, Far}
@@ -90,3 +91,16 @@ endAt ask = keyAt (behindAt (ask .order) (ask .reach)) 0
 
 unfoldable pub numbersOf : Asked → List ℕ
 numbersOf ask = farAt (ask .order) ∷ ask .measure ∷ ask .d ∷ ask .size ∷ ask .snapshot ∷ lowAt ask ∷ firstAt ask ∷ endAt ask ∷ []
+
+-- the places of those that the definitions read
+abbrev pub sizeIn : List ℕ → ℕ
+sizeIn numbers = getD numbers 3 0
+
+abbrev pub snapshotIn : List ℕ → ℕ
+snapshotIn numbers = getD numbers 4 0
+
+abbrev pub lowIn : List ℕ → ℕ
+lowIn numbers = getD numbers 5 0
+
+abbrev pub firstIn : List ℕ → ℕ
+firstIn numbers = getD numbers 6 0

@@ -1,12 +1,12 @@
 -- What a walk keeps: the first so many, in order, of what it had and the claims that it went over. Definitions only.
 use Prim.Native.Nat.{ℕ, zero, suc, _+_, _-_, _*_, _<_, _≤_}
 use mathlib.Core.Path.{_≡_}
-use mathlib.Core.Bool.{Bool, true, false, cond, _&&_}
+use mathlib.Core.Bool.{Bool, true, false, _&&_}
 use mathlib.Core.List.{List, [], _∷_}
 use lib.Dec.{ltb, leb}
 use lib.ListN.{length, getD}
 use Rattle.paper.specs.Limits.{mostClaims}
-use Rattle.walk_keep.specs.Asked.{Asked, admitted, mostDistance, rankAt, keyAt, endAt}
+use Rattle.walk_keep.specs.Asked.{Asked, admitted, mostDistance, rankAt, keyAt, endAt, sizeIn, snapshotIn, lowIn}
 use Rattle.walk_keep.specs.Page.{ranks}
 
 -- an order as one number
@@ -81,5 +81,5 @@ pub data Pushed (n y : ℕ) (o o' : List ℕ) : Type 0 where
 
 -- the step of claim k, at key y, by a question's numbers: below the snapshot and not before the first key wanted it is put
 pub record KeepIs (numbers : List ℕ) (k y : ℕ) (o o' : List ℕ) : Type 0 where
-  pub put : (ltb k (getD numbers 4 0) && leb (getD numbers 5 0) y) ≡ true → getD numbers 3 0 ≤ length o → Pushed (getD numbers 3 0) y o o'
-  pub left : (ltb k (getD numbers 4 0) && leb (getD numbers 5 0) y) ≡ false → o' ≡ o
+  pub put : (ltb k (snapshotIn numbers) && leb (lowIn numbers) y) ≡ true → sizeIn numbers ≤ length o → Pushed (sizeIn numbers) y o o'
+  pub left : (ltb k (snapshotIn numbers) && leb (lowIn numbers) y) ≡ false → o' ≡ o

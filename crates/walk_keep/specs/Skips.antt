@@ -6,7 +6,7 @@ use lib.Dec.{ltb, leb}
 use lib.ListN.{getD}
 use Rattle.paper.specs.declared.orders.Order.{Order}
 use Rattle.paper.specs.declared.orders.Order.the-variants.{Near, Far}
-use Rattle.walk_keep.specs.Asked.{keyAt}
+use Rattle.walk_keep.specs.Asked.{keyAt, sizeIn, firstIn}
 
 -- [4.14] the least rank of a claim below side s whose own claim is farther by `apart` than the other side's: it is on the side's half; near
 -- order only
@@ -16,8 +16,8 @@ halfAt Far apart s = 0
 
 -- [4.15] every claim within `far` of one at rank x comes before the first rank wanted
 unfoldable pub passedAt : List ℕ → ℕ → ℕ → Bool
-passedAt numbers x far = ltb x (getD numbers 6 0 - far)
+passedAt numbers x far = ltb x (firstIn numbers - far)
 
--- [4.13] [4.14] no claim below a side whose claim is at rank x, numbered from f on and at rank `half` or behind, comes before the last key kept
+-- [4.13] [4.14] no claim below a side whose claim is at rank x, numbered from f on and at rank `least` or behind, comes before the last key kept
 unfoldable pub beyondAt : List ℕ → ℕ → ℕ → ℕ → ℕ → List ℕ → Bool
-beyondAt numbers x far half f o = leb (getD o (getD numbers 3 0 - 1) 0) (keyAt (max (x - far) half) f)
+beyondAt numbers x far least f o = leb (getD o (sizeIn numbers - 1) 0) (keyAt (max (x - far) least) f)

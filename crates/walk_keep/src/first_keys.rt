@@ -3,6 +3,7 @@ ghost use mathlib.Core.Path.{_≡_};
 ghost use Prim.Native.Nat.{_+_, _-_, _<_, _≤_};
 ghost use lib.ListN.{length, getD};
 ghost use Rattle.paper.specs.Limits.{mostPage};
+ghost use Rattle.walk_keep.specs.Asked.{sizeIn};
 ghost use Rattle.walk_keep.specs.Kept.{PositionIs, Shifted, Pushed, KeepIs};
 use crate::keys::lesser;
 use crate::numbers::LOW;
@@ -56,7 +57,7 @@ fn push(room: &mut [u64; KEYS], n: usize, y: u64)
 
 // [2.5] [2.7] The step of claim k, at key y. In a room of one key there is no branch on y.
 pub fn keep(ask: &[u64; NUMBERS], room: &mut [u64; KEYS], k: u64, y: u64)
-    requires { ⌜ (0 < getD (now ask) 3 0) × (getD (now ask) 3 0 ≤ mostPage + 1) ⌝ }
+    requires { ⌜ (0 < sizeIn (now ask)) × (sizeIn (now ask) ≤ mostPage + 1) ⌝ }
     ensures { λ _. ⌜ KeepIs (now (ask .entry)) k y (now (room .entry)) (now (room .exit)) ⌝ }
 {
     if ask[SNAPSHOT] <= k {
@@ -78,8 +79,8 @@ pub fn keep(ask: &[u64; NUMBERS], room: &mut [u64; KEYS], k: u64, y: u64)
 
 // [4.12] The last key: what is still wanted comes before it.
 pub fn wanted(ask: &[u64; NUMBERS], room: &[u64; KEYS]) -> u64
-    requires { ⌜ (0 < getD (now ask) 3 0) × (getD (now ask) 3 0 ≤ mostPage + 1) ⌝ }
-    ensures { λ y. ⌜ y ≡ getD (now (room .entry)) (getD (now (ask .entry)) 3 0 - 1) 0 ⌝ }
+    requires { ⌜ (0 < sizeIn (now ask)) × (sizeIn (now ask) ≤ mostPage + 1) ⌝ }
+    ensures { λ y. ⌜ y ≡ getD (now (room .entry)) (sizeIn (now (ask .entry)) - 1) 0 ⌝ }
 {
     room[ask[SIZE] as usize - 1]
 }

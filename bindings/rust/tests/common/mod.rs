@@ -39,17 +39,20 @@ pub enum Style {
     Anywhere,
     Alike,
     AtTheEnds,
+    /// The deepest tree, where a run has one coordinate a claim: each claim is nearer to the one before it than to all others.
+    InALine,
 }
 
 pub const STYLES: [Style; 4] = [Style::Tied, Style::Anywhere, Style::Alike, Style::AtTheEnds];
 
 pub fn drawn(from: &mut Seeded, style: Style, n: usize) -> Vec<i32> {
     (0..n)
-        .map(|_| match style {
+        .map(|i| match style {
             Style::Tied => from.below(5) as i32 - 2,
             Style::Anywhere => from.next() as i32,
             Style::Alike => 4,
             Style::AtTheEnds => from.pick(&[i32::MIN, i32::MIN + 1, i32::MAX - 1, i32::MAX]),
+            Style::InALine => i as i32,
         })
         .collect()
 }

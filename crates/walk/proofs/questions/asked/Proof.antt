@@ -1,7 +1,7 @@
 -- `walk::questions::asked` meets its contract. Assumes nothing.
 use native.Mathlib.Omega.{arith}
 use Rattle.walk_keep.proofs.Ranks.{rank-small, front-small, behind-small}
-use Rattle.walk.proofs.Answers.{asked-start, asked-after}
+use Rattle.walk.proofs.Filling.{asked-start, asked-after}
 use borrow.Author.Needs.{needs}
 use Rattle.walk.proofs.questions.asked.Statement.{statement}
 use Rattle.walk.proofs.questions.asked.Tie as tie

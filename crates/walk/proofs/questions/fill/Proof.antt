@@ -1,5 +1,5 @@
 -- `walk::questions::fill` meets its contract. Assumes nothing.
-use Rattle.walk.proofs.Answers.{fill-none, fill-ready, fill-done, root-told}
+use Rattle.walk.proofs.Filling.{fill-none, fill-ready, fill-done, root-told}
 use Rattle.paper.specs.Tree.{store}
 use borrow.Author.Needs.{needs}
 use Rattle.walk.proofs.questions.fill.Statement.{statement}
