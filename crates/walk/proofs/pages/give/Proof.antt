@@ -37,16 +37,29 @@ element-copy-out-give-one : tie.Need-element-copy-out-give-one Inv-loop μ-loop
 element-copy-out-give-one c = omega arith
 
 give-one-requires : tie.Need-give-one-requires Inv-loop μ-loop
-give-one-requires c κs = give-ready _ _ _ _ (c .before .before .before .before .before .before .before .before .before .before .pre) _ _ (c .before .before .before .before .before .before .loop .inv) (c .before .before .before .before .before .loop-test .taken) (c .before .before .if1 .left)
+give-one-requires c κs =
+    let start = c .before .before .before .before .before .before .before .before .before .before in
+    let loop = c .before .before .before .before .before .before .loop in
+    let loop-test = c .before .before .before .before .before .loop-test in
+    let if1 = c .before .before .if1 in
+    give-ready _ _ _ _ (start .pre) _ _ (loop .inv) (loop-test .taken) (if1 .left)
 
 add-i : tie.Need-add-i Inv-loop μ-loop
-add-i c = omega (arith, size-fits _ _ (c .before .before .before .before .before .before .before .before .before .before .before .before .before .pre .is) (c .before .before .before .before .before .before .before .before .before .before .before .before .before .pre .fit) .1)
+add-i c =
+    let start = c .before .before .before .before .before .before .before .before .before .before .before .before .before in
+    omega (arith, size-fits _ _ (start .pre .is) (start .pre .fit) .1)
 
 loop-less : tie.Need-loop-less Inv-loop μ-loop
 loop-less c = omega arith
 
 loop-again : tie.Need-loop-again Inv-loop μ-loop
-loop-again c = giving-turn _ _ _ _ (c .before .before .before .before .before .before .before .before .before .before .before .before .before .pre) _ _ (c .before .before .before .before .before .before .before .before .before .loop .inv) _ (c .before .before .before .before .before .before .before .before .loop-test .taken) (c .before .before .before .before .before .if1 .left) (c .before .before .give-one .ensures)
+loop-again c =
+    let start = c .before .before .before .before .before .before .before .before .before .before .before .before .before in
+    let loop = c .before .before .before .before .before .before .before .before .before .loop in
+    let loop-test = c .before .before .before .before .before .before .before .before .loop-test in
+    let if1 = c .before .before .before .before .before .if1 in
+    let give-one = c .before .before .give-one in
+    giving-turn _ _ _ _ (start .pre) _ _ (loop .inv) _ (loop-test .taken) (if1 .left) (give-one .ensures)
 
 same-length-2 : tie.Need-same-length-2 Inv-loop μ-loop
 same-length-2 c = c .before .loop .inv .long

@@ -17,7 +17,11 @@ same-length : tie.Need-same-length
 same-length c = search needs
 
 returns : tie.Need-returns
-returns c = ((λ q is. page-filled _ _ _ _ _ _ (c .before .before .before .before .before .before .before .before .before .before .before .pre) _ (c .before .before .before .before .before .node .ensures .0) q is _ _ (c .before .before .give .ensures q is)), c .before .before .before .before .before .node .ensures .1)
+returns c =
+    let start = c .before .before .before .before .before .before .before .before .before .before .before in
+    let node = c .before .before .before .before .before .node in
+    let give = c .before .before .give in
+    ((λ q is. page-filled _ _ _ _ _ _ (start .pre) _ (node .ensures .0) q is _ _ (give .ensures q is)), node .ensures .1)
 
 pub page-spec : {M : Type 1} → statement M
 page-spec =

@@ -31,7 +31,13 @@ enum-told : tie.Need-enum-told
 enum-told c = search needs
 
 returns : tie.Need-returns
-returns c = asked-start _ _ _ _ _ _ _ _ _ _ (c .before .before .before .before .before .before .before .far-number .ensures) (c .before .before .before .before .before .before .front .ensures) (c .before .before .before .before .before .key .ensures) (c .before .before .before .before .behind .ensures) (c .before .before .before .key2 .ensures) (c .enum-told .given .1)
+returns c =
+    let far-number = c .before .before .before .before .before .before .before .far-number in
+    let front = c .before .before .before .before .before .before .front in
+    let key = c .before .before .before .before .before .key in
+    let behind = c .before .before .before .before .behind in
+    let key2 = c .before .before .before .key2 in
+    asked-start _ _ _ _ _ _ _ _ _ _ (far-number .ensures) (front .ensures) (key .ensures) (behind .ensures) (key2 .ensures) (c .enum-told .given .1)
 
 lesser-requires : tie.Need-lesser-requires
 lesser-requires c κs = search needs
@@ -43,10 +49,19 @@ lesser-requires-2 : tie.Need-lesser-requires-2
 lesser-requires-2 c κs = search needs
 
 key-requires-3 : tie.Need-key-requires-3
-key-requires-3 c κs = (omega (arith, rank-small (c .before .before .before .before .before .before .before .before .before .before .before .before .args .order) (c .before .before .lesser .result) _ (omega (arith, c .before .before .lesser .ensures)) (c .before .rank .ensures _ (c .before .before .before .before .before .before .before .before .before .before .before .far-number .ensures))), omega (arith, c .lesser2 .ensures))
+key-requires-3 c κs =
+    let start = c .before .before .before .before .before .before .before .before .before .before .before .before in
+    let far-number = c .before .before .before .before .before .before .before .before .before .before .before .far-number in
+    let lesser = c .before .before .lesser in
+    (omega (arith, rank-small (start .args .order) (lesser .result) _ (omega (arith, lesser .ensures)) (c .before .rank .ensures _ (far-number .ensures))), omega (arith, c .lesser2 .ensures))
 
 add-behind-mark : tie.Need-add-behind-mark
-add-behind-mark c = record { fits = omega (arith, c .key3 .ensures, rank-small (c .before .before .before .before .before .before .before .before .before .before .before .before .before .args .order) (c .before .before .before .lesser .result) _ (omega (arith, c .before .before .before .lesser .ensures)) (c .before .before .rank .ensures _ (c .before .before .before .before .before .before .before .before .before .before .before .before .far-number .ensures)), c .before .lesser2 .ensures) }
+add-behind-mark c =
+    let start = c .before .before .before .before .before .before .before .before .before .before .before .before .before in
+    let far-number = c .before .before .before .before .before .before .before .before .before .before .before .before .far-number in
+    let lesser = c .before .before .before .lesser in
+    let rank = c .before .before .rank in
+    record { fits = omega (arith, c .key3 .ensures, rank-small (start .args .order) (lesser .result) _ (omega (arith, lesser .ensures)) (rank .ensures _ (far-number .ensures)), c .before .lesser2 .ensures) }
 
 larger-requires : tie.Need-larger-requires
 larger-requires c κs = search needs
@@ -56,8 +71,18 @@ larger-requires-2 c κs = search needs
 
 returns-2 : tie.Need-returns-2
 returns-2 c =
-    asked-after _ _ _ _ _ _ _ _ _ _ (c .before .before .before .before .before .before .before .before .before .before .before .before .before .before .far-number .ensures) (c .before .before .before .before .before .before .before .before .before .before .before .before .before .front .ensures) (c .before .before .before .before .before .before .before .before .before .before .before .before .key .ensures) (c .before .before .before .before .before .before .before .before .before .before .before .behind .ensures) (c .before .before .before .before .before .before .before .before .before .before .key2 .ensures) _ _ _ _ _ _ _ _
-    (c .before .before .before .before .before .before .before .place .given .1) (c .before .before .before .before .before .lesser .ensures) (c .before .before .before .before .rank .ensures) (c .before .before .before .lesser2 .ensures) (c .before .before .key3 .ensures) (c .before .larger .ensures) (c .larger2 .ensures)
+    let far-number = c .before .before .before .before .before .before .before .before .before .before .before .before .before .before .far-number in
+    let front = c .before .before .before .before .before .before .before .before .before .before .before .before .before .front in
+    let key = c .before .before .before .before .before .before .before .before .before .before .before .before .key in
+    let behind = c .before .before .before .before .before .before .before .before .before .before .before .behind in
+    let key2 = c .before .before .before .before .before .before .before .before .before .before .key2 in
+    let place = c .before .before .before .before .before .before .before .place in
+    let lesser = c .before .before .before .before .before .lesser in
+    let rank = c .before .before .before .before .rank in
+    let lesser2 = c .before .before .before .lesser2 in
+    let key3 = c .before .before .key3 in
+    asked-after _ _ _ _ _ _ _ _ _ _ (far-number .ensures) (front .ensures) (key .ensures) (behind .ensures) (key2 .ensures) _ _ _ _ _ _ _ _
+    (place .given .1) (lesser .ensures) (rank .ensures) (lesser2 .ensures) (key3 .ensures) (c .before .larger .ensures) (c .larger2 .ensures)
 
 pub asked-spec : {M : Type 1} → statement M
 asked-spec =

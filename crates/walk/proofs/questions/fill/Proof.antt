@@ -19,20 +19,29 @@ padded-requires c κs = search needs
 
 page-requires : tie.Need-page-requires
 page-requires c κs =
-    let a = c .before .before .before .before .before .before .before .before .before .args in
-    let p = c .before .before .before .before .before .before .before .before .before .pre in
-    fill-ready (store (a .t) (a .references .now) (a .coordinates .now) (a .nodes .now)) (a .probe .now) (p .0) _ _ (c .before .before .before .before .before .if1 .left) _ (c .before .before .before .padded .ensures) _ _ _ (c .before .before .before .before .asked .ensures) _ (p .1)
+    let start = c .before .before .before .before .before .before .before .before .before in
+    let if1 = c .before .before .before .before .before .if1 in
+    let asked = c .before .before .before .before .asked in
+    let padded = c .before .before .before .padded in
+    let a = start .args in
+    let p = start .pre in
+    fill-ready (store (a .t) (a .references .now) (a .coordinates .now) (a .nodes .now)) (a .probe .now) (p .0) _ _ (if1 .left) _ (padded .ensures) _ _ _ (asked .ensures) _ (p .1)
 
 same-length : tie.Need-same-length
 same-length c = search needs
 
 returns-2 : tie.Need-returns-2
 returns-2 c =
-    let a = c .before .before .before .before .before .before .before .before .before .before .before .before .args in
-    let p = c .before .before .before .before .before .before .before .before .before .before .before .before .pre in
+    let start = c .before .before .before .before .before .before .before .before .before .before .before .before in
+    let if1 = c .before .before .before .before .before .before .before .before .if1 in
+    let asked = c .before .before .before .before .before .before .before .asked in
+    let padded = c .before .before .before .before .before .before .padded in
+    let page = c .before .before .page in
+    let a = start .args in
+    let p = start .pre in
     let s = store (a .t) (a .references .now) (a .coordinates .now) (a .nodes .now) in (
-      fill-done s (a .probe .now) (p .0) _ _ (c .before .before .before .before .before .before .before .before .if1 .left) _ (c .before .before .before .before .before .before .padded .ensures) _ _ _ (c .before .before .before .before .before .before .before .asked .ensures) _ (p .1) _ _ (c .before .before .page .ensures .0),
-      root-told s (a .probe .now) (p .0) _ _ (c .before .before .before .before .before .before .before .before .if1 .left) _ (c .before .before .before .before .before .before .padded .ensures) _ _ _ (c .before .before .before .before .before .before .before .asked .ensures) _ (p .1) (c .before .before .page .ensures .1),
+      fill-done s (a .probe .now) (p .0) _ _ (if1 .left) _ (padded .ensures) _ _ _ (asked .ensures) _ (p .1) _ _ (page .ensures .0),
+      root-told s (a .probe .now) (p .0) _ _ (if1 .left) _ (padded .ensures) _ _ _ (asked .ensures) _ (p .1) (page .ensures .1),
     )
 
 pub fill-spec : {M : Type 1} → statement M

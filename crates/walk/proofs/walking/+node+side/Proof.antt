@@ -75,10 +75,15 @@ node-returns t c =
     )
 
 node-way-down-requires : (t : ℕ) → node-lts.Need-way-down-requires (node-calls t) (node-at t) node.Post
-node-way-down-requires t c κs = way-ready _ _ _ _ _ (c .before .before .before .before .before .before .before .pre .1) 1 (lit< tt) _ 0 (right-small _ _ _ _ _ (c .before .before .before .before .before .before .before .pre .1) _ _ _ _ (c .before .before .before .before .visit .ensures)) (omega arith)
+node-way-down-requires t c κs =
+    let start = c .before .before .before .before .before .before .before in
+    let visit = c .before .before .before .before .visit in
+    way-ready _ _ _ _ _ (start .pre .1) 1 (lit< tt) _ 0 (right-small _ _ _ _ _ (start .pre .1) _ _ _ _ (visit .ensures)) (omega arith)
 
 node-side-requires : (t : ℕ) → node-lts.Need-side-requires (node-calls t) (node-at t) node.Post
-node-side-requires t c κs = side-asked _ _ _ _ _ (c .before .before .before .before .before .before .before .before .before .pre .1) 1 (lit< tt) _ _ _ _ (c .before .way-down .ensures) t (c .before .before .before .before .before .before .before .before .before .pre .0)
+node-side-requires t c κs =
+    let start = c .before .before .before .before .before .before .before .before .before in
+    side-asked _ _ _ _ _ (start .pre .1) 1 (lit< tt) _ _ _ _ (c .before .way-down .ensures) t (start .pre .0)
 
 node-element-copy-out-half : (t : ℕ) → node-lts.Need-element-copy-out-half (node-calls t) (node-at t) node.Post
 node-element-copy-out-half t c = omega arith
@@ -87,59 +92,96 @@ node-sub-half : (t : ℕ) → node-lts.Need-sub-half (node-calls t) (node-at t) 
 node-sub-half t c = omega (arith, c .before .before .before .before .before .if2 .taken)
 
 node-half-requires : (t : ℕ) → node-lts.Need-half-requires (node-calls t) (node-at t) node.Post
-node-half-requires t c κs = (omega (arith, left-small _ _ _ _ _ (c .before .before .before .before .before .before .before .before .before .before .before .pre .1) _ _ _ _ (c .before .before .before .before .before .before .before .before .visit .ensures)), lit< tt)
+node-half-requires t c κs =
+    let start = c .before .before .before .before .before .before .before .before .before .before .before in
+    let visit = c .before .before .before .before .before .before .before .before .visit in
+    (omega (arith, left-small _ _ _ _ _ (start .pre .1) _ _ _ _ (visit .ensures)), lit< tt)
 
 node-way-down-requires-2 : (t : ℕ) → node-lts.Need-way-down-requires-2 (node-calls t) (node-at t) node.Post
 node-way-down-requires-2 t c κs =
-    let x = left-small _ _ _ _ _ (c .before .before .before .before .before .before .before .before .before .before .before .before .before .pre .1) _ _ _ _ (c .before .before .before .before .before .before .before .before .before .before .visit .ensures) in
-    way-ready _ _ _ _ _ (c .before .before .before .before .before .before .before .before .before .before .before .before .before .pre .1) 0 (lit< tt) _ _ x (halves-small _ _ _ _ _ (c .before .before .before .before .before .before .before .before .before .before .before .before .before .pre .1) _ _ _ _ (c .before .before .before .before .before .before .before .before .before .before .visit .ensures) _ 0 _ (omega arith) (lit< tt) (c .before .half .ensures))
+    let start = c .before .before .before .before .before .before .before .before .before .before .before .before .before in
+    let visit = c .before .before .before .before .before .before .before .before .before .before .visit in
+    let x = left-small _ _ _ _ _ (start .pre .1) _ _ _ _ (visit .ensures) in
+    way-ready _ _ _ _ _ (start .pre .1) 0 (lit< tt) _ _ x (halves-small _ _ _ _ _ (start .pre .1) _ _ _ _ (visit .ensures) _ 0 _ (omega arith) (lit< tt) (c .before .half .ensures))
 
 node-side-requires-2 : (t : ℕ) → node-lts.Need-side-requires-2 (node-calls t) (node-at t) node.Post
-node-side-requires-2 t c κs = side-asked _ _ _ _ _ (c .before .before .before .before .before .before .before .before .before .before .before .before .before .before .before .pre .1) 0 (lit< tt) _ _ _ _ (c .before .way-down2 .ensures) t (c .before .before .before .before .before .before .before .before .before .before .before .before .before .before .before .pre .0)
+node-side-requires-2 t c κs =
+    let start = c .before .before .before .before .before .before .before .before .before .before .before .before .before .before .before in
+    side-asked _ _ _ _ _ (start .pre .1) 0 (lit< tt) _ _ _ _ (c .before .way-down2 .ensures) t (start .pre .0)
 
 node-returns-2 : (t : ℕ) → node-lts.Need-returns-2 (node-calls t) (node-at t) node.Post
 node-returns-2 t c =
-    let a = c .before .before .before .before .before .before .before .before .before .before .before .before .before .before .before .before .args in
-    let p = c .before .before .before .before .before .before .before .before .before .before .before .before .before .before .before .before .pre .1 in
-    let v = c .before .before .before .before .before .before .before .before .before .before .before .before .before .visit .ensures in (
+    let start = c .before .before .before .before .before .before .before .before .before .before .before .before .before .before .before .before in
+    let visit = c .before .before .before .before .before .before .before .before .before .before .before .before .before .visit in
+    let field = c .before .before .before .before .before .before .before .before .before .before .before .before .field in
+    let if1 = c .before .before .before .before .before .before .before .before .before .before .before .if1 in
+    let if2 = c .before .before .before .before .before .before .before .before .before .before .if2 in
+    let way-down = c .before .before .before .before .before .before .before .before .way-down in
+    let side' = c .before .before .before .before .before .before .side in
+    let half = c .before .before .before .before .half in
+    let way-down2 = c .before .before .way-down2 in
+    let a = start .args in
+    let p = start .pre .1 in
+    let v = visit .ensures in (
       (λ q is.
-          let some : fieldAt (a .nodes .now) (a .m) 1 ≡ 0 → ⊥ = λ z. c .before .before .before .before .before .before .before .before .before .before .before .if1 .left (c .before .before .before .before .before .before .before .before .before .before .before .before .field .ensures ∙ z) in
+          let some : fieldAt (a .nodes .now) (a .m) 1 ≡ 0 → ⊥ = λ z. if1 .left (field .ensures ∙ z) in
           node-right-first q (a .coordinates .now) (a .probe .now) (a .nodes .now) (a .m) _ _ (v q is .walked) _ _ (fits-too _ _ q (p .lent .is) is (p .lent .fit)) _ _ (v q is .left-is)
-          (v q is .right-is some) _ _ (c .before .before .before .before .before .before .before .before .before .before .if2 .taken) (rw is at (c .before .before .before .before .before .before .before .before .way-down .ensures)) (c .before .before .before .before .before .before .side .ensures q is)
-          (rw (is, c .before .before .before .before .half .ensures (q .order) (far-told _ q is)) at (c .before .before .way-down2 .ensures)) (c .side2 .ensures q is)),
+          (v q is .right-is some) _ _ (if2 .taken) (rw is at (way-down .ensures)) (side' .ensures q is)
+          (rw (is, half .ensures (q .order) (far-told _ q is)) at (way-down2 .ensures)) (c .side2 .ensures q is)),
       (λ q is. v q is .left-is .bounded),
     )
 
 node-way-down-requires-3 : (t : ℕ) → node-lts.Need-way-down-requires-3 (node-calls t) (node-at t) node.Post
-node-way-down-requires-3 t c κs = way-ready _ _ _ _ _ (c .before .before .before .before .before .before .before .pre .1) 0 (lit< tt) _ 0 (left-small _ _ _ _ _ (c .before .before .before .before .before .before .before .pre .1) _ _ _ _ (c .before .before .before .before .visit .ensures)) (omega arith)
+node-way-down-requires-3 t c κs =
+    let start = c .before .before .before .before .before .before .before in
+    let visit = c .before .before .before .before .visit in
+    way-ready _ _ _ _ _ (start .pre .1) 0 (lit< tt) _ 0 (left-small _ _ _ _ _ (start .pre .1) _ _ _ _ (visit .ensures)) (omega arith)
 
 node-side-requires-3 : (t : ℕ) → node-lts.Need-side-requires-3 (node-calls t) (node-at t) node.Post
-node-side-requires-3 t c κs = side-asked _ _ _ _ _ (c .before .before .before .before .before .before .before .before .before .pre .1) 0 (lit< tt) _ _ _ _ (c .before .way-down3 .ensures) t (c .before .before .before .before .before .before .before .before .before .pre .0)
+node-side-requires-3 t c κs =
+    let start = c .before .before .before .before .before .before .before .before .before in
+    side-asked _ _ _ _ _ (start .pre .1) 0 (lit< tt) _ _ _ _ (c .before .way-down3 .ensures) t (start .pre .0)
 
 node-element-copy-out-half-2 : (t : ℕ) → node-lts.Need-element-copy-out-half-2 (node-calls t) (node-at t) node.Post
 node-element-copy-out-half-2 t c = omega arith
 
 node-half-requires-2 : (t : ℕ) → node-lts.Need-half-requires-2 (node-calls t) (node-at t) node.Post
-node-half-requires-2 t c κs = (omega (arith, right-small _ _ _ _ _ (c .before .before .before .before .before .before .before .before .before .before .before .pre .1) _ _ _ _ (c .before .before .before .before .before .before .before .before .visit .ensures)), lit< tt)
+node-half-requires-2 t c κs =
+    let start = c .before .before .before .before .before .before .before .before .before .before .before in
+    let visit = c .before .before .before .before .before .before .before .before .visit in
+    (omega (arith, right-small _ _ _ _ _ (start .pre .1) _ _ _ _ (visit .ensures)), lit< tt)
 
 node-way-down-requires-4 : (t : ℕ) → node-lts.Need-way-down-requires-4 (node-calls t) (node-at t) node.Post
 node-way-down-requires-4 t c κs =
-    let y = right-small _ _ _ _ _ (c .before .before .before .before .before .before .before .before .before .before .before .before .before .pre .1) _ _ _ _ (c .before .before .before .before .before .before .before .before .before .before .visit .ensures) in
-    way-ready _ _ _ _ _ (c .before .before .before .before .before .before .before .before .before .before .before .before .before .pre .1) 1 (lit< tt) _ _ y (halves-small _ _ _ _ _ (c .before .before .before .before .before .before .before .before .before .before .before .before .before .pre .1) _ _ _ _ (c .before .before .before .before .before .before .before .before .before .before .visit .ensures) _ 1 _ (omega arith) (lit< tt) (c .before .half2 .ensures))
+    let start = c .before .before .before .before .before .before .before .before .before .before .before .before .before in
+    let visit = c .before .before .before .before .before .before .before .before .before .before .visit in
+    let y = right-small _ _ _ _ _ (start .pre .1) _ _ _ _ (visit .ensures) in
+    way-ready _ _ _ _ _ (start .pre .1) 1 (lit< tt) _ _ y (halves-small _ _ _ _ _ (start .pre .1) _ _ _ _ (visit .ensures) _ 1 _ (omega arith) (lit< tt) (c .before .half2 .ensures))
 
 node-side-requires-4 : (t : ℕ) → node-lts.Need-side-requires-4 (node-calls t) (node-at t) node.Post
-node-side-requires-4 t c κs = side-asked _ _ _ _ _ (c .before .before .before .before .before .before .before .before .before .before .before .before .before .before .before .pre .1) 1 (lit< tt) _ _ _ _ (c .before .way-down4 .ensures) t (c .before .before .before .before .before .before .before .before .before .before .before .before .before .before .before .pre .0)
+node-side-requires-4 t c κs =
+    let start = c .before .before .before .before .before .before .before .before .before .before .before .before .before .before .before in
+    side-asked _ _ _ _ _ (start .pre .1) 1 (lit< tt) _ _ _ _ (c .before .way-down4 .ensures) t (start .pre .0)
 
 node-returns-3 : (t : ℕ) → node-lts.Need-returns-3 (node-calls t) (node-at t) node.Post
 node-returns-3 t c =
-    let a = c .before .before .before .before .before .before .before .before .before .before .before .before .before .before .before .before .args in
-    let p = c .before .before .before .before .before .before .before .before .before .before .before .before .before .before .before .before .pre .1 in
-    let v = c .before .before .before .before .before .before .before .before .before .before .before .before .before .visit .ensures in (
+    let start = c .before .before .before .before .before .before .before .before .before .before .before .before .before .before .before .before in
+    let visit = c .before .before .before .before .before .before .before .before .before .before .before .before .before .visit in
+    let field = c .before .before .before .before .before .before .before .before .before .before .before .before .field in
+    let if1 = c .before .before .before .before .before .before .before .before .before .before .before .if1 in
+    let if2 = c .before .before .before .before .before .before .before .before .before .before .if2 in
+    let way-down3 = c .before .before .before .before .before .before .before .before .way-down3 in
+    let side3 = c .before .before .before .before .before .before .side3 in
+    let half2 = c .before .before .before .before .half2 in
+    let way-down4 = c .before .before .way-down4 in
+    let a = start .args in
+    let p = start .pre .1 in
+    let v = visit .ensures in (
       (λ q is.
-          let some : fieldAt (a .nodes .now) (a .m) 1 ≡ 0 → ⊥ = λ z. c .before .before .before .before .before .before .before .before .before .before .before .if1 .left (c .before .before .before .before .before .before .before .before .before .before .before .before .field .ensures ∙ z) in
+          let some : fieldAt (a .nodes .now) (a .m) 1 ≡ 0 → ⊥ = λ z. if1 .left (field .ensures ∙ z) in
           node-left-first q (a .coordinates .now) (a .probe .now) (a .nodes .now) (a .m) _ _ (v q is .walked) _ _ (fits-too _ _ q (p .lent .is) is (p .lent .fit)) _ _ (v q is .left-is)
-          (v q is .right-is some) _ _ (c .before .before .before .before .before .before .before .before .before .before .if2 .left) (rw is at (c .before .before .before .before .before .before .before .before .way-down3 .ensures)) (c .before .before .before .before .before .before .side3 .ensures q is)
-          (rw (is, c .before .before .before .before .half2 .ensures (q .order) (far-told _ q is)) at (c .before .before .way-down4 .ensures)) (c .side4 .ensures q is)),
+          (v q is .right-is some) _ _ (if2 .left) (rw is at (way-down3 .ensures)) (side3 .ensures q is)
+          (rw (is, half2 .ensures (q .order) (far-told _ q is)) at (way-down4 .ensures)) (c .side4 .ensures q is)),
       (λ q is. v q is .left-is .bounded),
     )
 
@@ -158,7 +200,9 @@ side-node-requires t c κs =
     (omega (arith, start .pre .0, node-falls (length (start .args .nodes .now)) (start .args .way) some), record { used = p .used; claims = p .claims; walk = p .walk some; lent = p .lent })
 
 side-returns-2 : (t : ℕ) → side-lts.Need-returns-2 (side-calls t) (side-at t) side.Post
-side-returns-2 t c = λ q is. let a = c .before .before .before .before .args in side-down q (a .nodes .now) (apartBy q (a .coordinates .now)) (distBy q (a .coordinates .now) (a .probe .now)) _ _ _ (c .node .ensures .0 q is)
+side-returns-2 t c =
+    let start = c .before .before .before .before in
+    λ q is. let a = start .args in side-down q (a .nodes .now) (apartBy q (a .coordinates .now)) (distBy q (a .coordinates .now) (a .probe .now)) _ _ _ (c .node .ensures .0 q is)
 
 pub +node+side-spec : {M : Type 1} → statement M
 +node+side-spec = close μ-node μ-side (λ t. node-lts.spec (node-calls t)

@@ -31,42 +31,98 @@ cast-from-both : tie.Need-cast-from-both
 cast-from-both c = let p = c .before .before .before .before .before .before .pre .lent in record { fits = omega (arith, measure-told _ _ (p .is), p .measure) }
 
 mul-from-both : tie.Need-mul-from-both
-mul-from-both c = record { fits = omega (arith, left-at _ _ _ _ _ (c .before .before .before .before .before .before .pre) _ _ _ (c .before .before .before .before .field .ensures) (c .before .before .before .field2 .ensures) (c .before .before .either .ensures)) }
+mul-from-both c =
+    let start = c .before .before .before .before .before .before in
+    let field = c .before .before .before .before .field in
+    let field2 = c .before .before .before .field2 in
+    let either = c .before .before .either in
+    record { fits = omega (arith, left-at _ _ _ _ _ (start .pre) _ _ _ (field .ensures) (field2 .ensures) (either .ensures)) }
 
 mul-from-both-2 : tie.Need-mul-from-both-2
-mul-from-both-2 c = record { fits = omega (arith, both-at _ _ _ _ _ (c .before .before .before .before .before .before .pre) _ _ _ (c .before .before .before .before .field .ensures) (c .before .before .before .field2 .ensures) (c .before .before .either .ensures)) }
+mul-from-both-2 c =
+    let start = c .before .before .before .before .before .before in
+    let field = c .before .before .before .before .field in
+    let field2 = c .before .before .before .field2 in
+    let either = c .before .before .either in
+    record { fits = omega (arith, both-at _ _ _ _ _ (start .pre) _ _ _ (field .ensures) (field2 .ensures) (either .ensures)) }
 
 from-both-requires : tie.Need-from-both-requires
-from-both-requires c κs = (narrow _ _ _ _ _ (c .before .before .before .before .before .before .pre) _ _ _ (c .before .before .before .before .field .ensures) (c .before .before .before .field2 .ensures) (c .before .before .either .ensures), record { left-at = left-at _ _ _ _ _ (c .before .before .before .before .before .before .pre) _ _ _ (c .before .before .before .before .field .ensures) (c .before .before .before .field2 .ensures) (c .before .before .either .ensures); right-at = both-at _ _ _ _ _ (c .before .before .before .before .before .before .pre) _ _ _ (c .before .before .before .before .field .ensures) (c .before .before .before .field2 .ensures) (c .before .before .either .ensures) })
+from-both-requires c κs =
+    let start = c .before .before .before .before .before .before in
+    let field = c .before .before .before .before .field in
+    let field2 = c .before .before .before .field2 in
+    let either = c .before .before .either in
+    let left = left-at _ _ _ _ _ (start .pre) _ _ _ (field .ensures) (field2 .ensures) (either .ensures) in
+    let right = both-at _ _ _ _ _ (start .pre) _ _ _ (field .ensures) (field2 .ensures) (either .ensures) in
+    (narrow _ _ _ _ _ (start .pre) _ _ _ (field .ensures) (field2 .ensures) (either .ensures), record { left-at = left; right-at = right })
 
 element-copy-out-rank : tie.Need-element-copy-out-rank
 element-copy-out-rank c = search needs
 
 rank-requires : tie.Need-rank-requires
-rank-requires c κs = omega (arith, x-near _ _ _ _ _ (c .before .before .before .before .before .before .before .before .pre) _ _ _ (c .before .before .before .before .before .before .field .ensures) (c .before .before .before .before .before .field2 .ensures) (c .before .before .before .before .either .ensures) _ _ (c .before .from-both .ensures))
+rank-requires c κs =
+    let start = c .before .before .before .before .before .before .before .before in
+    let field = c .before .before .before .before .before .before .field in
+    let field2 = c .before .before .before .before .before .field2 in
+    let either = c .before .before .before .before .either in
+    omega (arith, x-near _ _ _ _ _ (start .pre) _ _ _ (field .ensures) (field2 .ensures) (either .ensures) _ _ (c .before .from-both .ensures))
 
 element-copy-out-rank-2 : tie.Need-element-copy-out-rank-2
 element-copy-out-rank-2 c = search needs
 
 rank-requires-2 : tie.Need-rank-requires-2
-rank-requires-2 c κs = omega (arith, y-near _ _ _ _ _ (c .before .before .before .before .before .before .before .before .before .before .pre) _ _ _ (c .before .before .before .before .before .before .before .before .field .ensures) (c .before .before .before .before .before .before .before .field2 .ensures) (c .before .before .before .before .before .before .either .ensures) _ _ (c .before .before .before .from-both .ensures))
+rank-requires-2 c κs =
+    let start = c .before .before .before .before .before .before .before .before .before .before in
+    let field = c .before .before .before .before .before .before .before .before .field in
+    let field2 = c .before .before .before .before .before .before .before .field2 in
+    let either = c .before .before .before .before .before .before .either in
+    let from-both = c .before .before .before .from-both in
+    omega (arith, y-near _ _ _ _ _ (start .pre) _ _ _ (field .ensures) (field2 .ensures) (either .ensures) _ _ (from-both .ensures))
 
 key-requires : tie.Need-key-requires
-key-requires c κs = (omega (arith, x-small _ _ _ _ _ (c .before .before .before .before .before .before .before .before .before .before .before .before .pre) _ _ _ (c .before .before .before .before .before .before .before .before .before .before .field .ensures) (c .before .before .before .before .before .before .before .before .before .field2 .ensures) (c .before .before .before .before .before .before .before .before .either .ensures) _ _ (c .before .before .before .before .before .from-both .ensures) _ _ (c .before .before .before .rank .ensures) (c .before .rank2 .ensures)), omega (arith, left-numbered _ _ _ _ _ (c .before .before .before .before .before .before .before .before .before .before .before .before .pre) _ _ _ (c .before .before .before .before .before .before .before .before .before .before .field .ensures) (c .before .before .before .before .before .before .before .before .before .field2 .ensures) (c .before .before .before .before .before .before .before .before .either .ensures)))
+key-requires c κs =
+    let start = c .before .before .before .before .before .before .before .before .before .before .before .before in
+    let field = c .before .before .before .before .before .before .before .before .before .before .field in
+    let field2 = c .before .before .before .before .before .before .before .before .before .field2 in
+    let either = c .before .before .before .before .before .before .before .before .either in
+    let from-both = c .before .before .before .before .before .from-both in
+    let rank = c .before .before .before .rank in
+    (omega (arith, x-small _ _ _ _ _ (start .pre) _ _ _ (field .ensures) (field2 .ensures) (either .ensures) _ _ (from-both .ensures) _ _ (rank .ensures) (c .before .rank2 .ensures)), omega (arith, left-numbered _ _ _ _ _ (start .pre) _ _ _ (field .ensures) (field2 .ensures) (either .ensures)))
 
 keep-requires : tie.Need-keep-requires
-keep-requires c κs = size-fits _ _ (c .before .before .before .before .before .before .before .before .before .before .before .before .before .pre .lent .is) (c .before .before .before .before .before .before .before .before .before .before .before .before .before .pre .lent .fit)
+keep-requires c κs =
+    let start = c .before .before .before .before .before .before .before .before .before .before .before .before .before in
+    size-fits _ _ (start .pre .lent .is) (start .pre .lent .fit)
 
 key-requires-2 : tie.Need-key-requires-2
-key-requires-2 c κs = (omega (arith, y-small _ _ _ _ _ (c .before .before .before .before .before .before .before .before .before .before .before .before .before .before .before .pre) _ _ _ (c .before .before .before .before .before .before .before .before .before .before .before .before .before .field .ensures) (c .before .before .before .before .before .before .before .before .before .before .before .before .field2 .ensures) (c .before .before .before .before .before .before .before .before .before .before .before .either .ensures) _ _ (c .before .before .before .before .before .before .before .before .from-both .ensures) _ _ (c .before .before .before .before .before .before .rank .ensures) (c .before .before .before .before .rank2 .ensures)), omega (arith, both-numbered _ _ _ _ _ (c .before .before .before .before .before .before .before .before .before .before .before .before .before .before .before .pre) _ _ _ (c .before .before .before .before .before .before .before .before .before .before .before .before .before .field .ensures) (c .before .before .before .before .before .before .before .before .before .before .before .before .field2 .ensures) (c .before .before .before .before .before .before .before .before .before .before .before .either .ensures)))
+key-requires-2 c κs =
+    let start = c .before .before .before .before .before .before .before .before .before .before .before .before .before .before .before in
+    let field = c .before .before .before .before .before .before .before .before .before .before .before .before .before .field in
+    let field2 = c .before .before .before .before .before .before .before .before .before .before .before .before .field2 in
+    let either = c .before .before .before .before .before .before .before .before .before .before .before .either in
+    let from-both = c .before .before .before .before .before .before .before .before .from-both in
+    let rank = c .before .before .before .before .before .before .rank in
+    let rank2 = c .before .before .before .before .rank2 in
+    (omega (arith, y-small _ _ _ _ _ (start .pre) _ _ _ (field .ensures) (field2 .ensures) (either .ensures) _ _ (from-both .ensures) _ _ (rank .ensures) (rank2 .ensures)), omega (arith, both-numbered _ _ _ _ _ (start .pre) _ _ _ (field .ensures) (field2 .ensures) (either .ensures)))
 
 keep-requires-2 : tie.Need-keep-requires-2
-keep-requires-2 c κs = size-fits _ _ (c .before .before .before .before .before .before .before .before .before .before .before .before .before .before .before .before .pre .lent .is) (c .before .before .before .before .before .before .before .before .before .before .before .before .before .before .before .before .pre .lent .fit)
+keep-requires-2 c κs =
+    let start = c .before .before .before .before .before .before .before .before .before .before .before .before .before .before .before .before in
+    size-fits _ _ (start .pre .lent .is) (start .pre .lent .fit)
 
 returns : tie.Need-returns
 returns c q is =
-    visited _ _ _ _ _ (c .before .before .before .before .before .before .before .before .before .before .before .before .before .before .before .before .before .pre) _ _ _ (c .before .before .before .before .before .before .before .before .before .before .before .before .before .before .before .field .ensures) (c .before .before .before .before .before .before .before .before .before .before .before .before .before .before .field2 .ensures) (c .before .before .before .before .before .before .before .before .before .before .before .before .before .either .ensures) _ _ (c .before .before .before .before .before .before .before .before .before .before .from-both .ensures) _ _ (c .before .before .before .before .before .before .before .before .rank .ensures) (c .before .before .before .before .before .before .rank2 .ensures) q is
-    _ _ _ _ _ (c .before .before .before .before .key .ensures) (c .before .key2 .ensures) (c .before .before .before .keep .ensures) (c .keep2 .ensures)
+    let start = c .before .before .before .before .before .before .before .before .before .before .before .before .before .before .before .before .before in
+    let field = c .before .before .before .before .before .before .before .before .before .before .before .before .before .before .before .field in
+    let field2 = c .before .before .before .before .before .before .before .before .before .before .before .before .before .before .field2 in
+    let either = c .before .before .before .before .before .before .before .before .before .before .before .before .before .either in
+    let from-both = c .before .before .before .before .before .before .before .before .before .before .from-both in
+    let rank = c .before .before .before .before .before .before .before .before .rank in
+    let rank2 = c .before .before .before .before .before .before .rank2 in
+    let key = c .before .before .before .before .key in
+    let keep = c .before .before .before .keep in
+    visited _ _ _ _ _ (start .pre) _ _ _ (field .ensures) (field2 .ensures) (either .ensures) _ _ (from-both .ensures) _ _ (rank .ensures) (rank2 .ensures) q is
+    _ _ _ _ _ (key .ensures) (c .before .key2 .ensures) (keep .ensures) (c .keep2 .ensures)
 
 pub visit-spec : {M : Type 1} → statement M
 visit-spec =

@@ -38,8 +38,15 @@ key-requires c κs = search needs
 
 returns-2 : tie.Need-returns-2
 returns-2 c =
-    way-beyond _ _ _ _ _ _ _ _ (c .before .before .before .before .before .before .before .before .before .field .ensures) (rw (c .before .before .before .before .before .before .before .over .ensures) at (c .before .before .before .before .before .before .if1 .left)) _
-    (rw (c .before .before .before .before .larger .ensures, c .before .before .before .before .before .over2 .ensures, c .before .before .field2 .ensures) at (c .before .key .ensures)) (rw (c .before .before .before .wanted .ensures) at (c .if2 .taken))
+    let field = c .before .before .before .before .before .before .before .before .before .field in
+    let over = c .before .before .before .before .before .before .before .over in
+    let if1 = c .before .before .before .before .before .before .if1 in
+    let over2 = c .before .before .before .before .before .over2 in
+    let larger = c .before .before .before .before .larger in
+    let wanted = c .before .before .before .wanted in
+    let field2 = c .before .before .field2 in
+    way-beyond _ _ _ _ _ _ _ _ (field .ensures) (rw (over .ensures) at (if1 .left)) _
+    (rw (larger .ensures, over2 .ensures, field2 .ensures) at (c .before .key .ensures)) (rw (wanted .ensures) at (c .if2 .taken))
 
 add-field-2 : tie.Need-add-field-2
 add-field-2 c = search needs
@@ -49,9 +56,17 @@ field-requires-3 c κs = search needs
 
 returns-3 : tie.Need-returns-3
 returns-3 c =
+    let field = c .before .before .before .before .before .before .before .before .before .before .field in
+    let over = c .before .before .before .before .before .before .before .before .over in
+    let if1 = c .before .before .before .before .before .before .before .if1 in
+    let over2 = c .before .before .before .before .before .before .over2 in
+    let larger = c .before .before .before .before .before .larger in
+    let wanted = c .before .before .before .before .wanted in
+    let field2 = c .before .before .before .field2 in
+    let key = c .before .before .key in
     c .field3 .ensures
-    ∙ way-open _ _ _ _ _ _ _ _ (c .before .before .before .before .before .before .before .before .before .before .field .ensures) (rw (c .before .before .before .before .before .before .before .before .over .ensures) at (c .before .before .before .before .before .before .before .if1 .left)) _
-    (rw (c .before .before .before .before .before .larger .ensures, c .before .before .before .before .before .before .over2 .ensures, c .before .before .before .field2 .ensures) at (c .before .before .key .ensures)) (rw (c .before .before .before .before .wanted .ensures) at (c .before .if2 .left))
+    ∙ way-open _ _ _ _ _ _ _ _ (field .ensures) (rw (over .ensures) at (if1 .left)) _
+    (rw (larger .ensures, over2 .ensures, field2 .ensures) at (key .ensures)) (rw (wanted .ensures) at (c .before .if2 .left))
 
 pub way-down-spec : {M : Type 1} → statement M
 way-down-spec =
