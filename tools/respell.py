@@ -119,7 +119,11 @@ def main():
         word, text, at = match.group(0), match.string, match.start()
         if code and word in LEMMAS:
             return word
-        if word not in new or (at and text[at - 1] == "." and text[at - 2 : at - 1] not in (".", " ", "\n") and word not in fields):
+        if word not in new:
+            return word
+        # Behind a dot stands a field, a name of one of our modules, or a name that Rattle makes.
+        owner = re.search(r"([^\s(){}\[\];,.`\"|⌜⌝@:]+)\.$", text[max(0, at - 80) : at])
+        if owner and word not in fields and not (owner.group(1)[0].isupper() and word not in LEMMAS):
             return word
         return new[word]
 

@@ -1,6 +1,8 @@
 // Generated tables and questions beside a plain scan, which shares no code with the walk: its own distance, its own selection.
 // Prints how many claims the tables have, how many pages were asked for, how many of them in far order and how many refused for their mark, how many items and last pages came, how many
 // nearest and farthest claims were asked for and how often there was none, and how many answers were not the scan's.
+#![tactic(auto)]
+
 mod checked;
 mod scan;
 mod tables;
@@ -22,7 +24,7 @@ use tables::{next, pick};
 use walk::questions::{mark_holds, page_of};
 
 // What was asked, and how much of it was not the scan's.
-#[derive(Drop)]
+#[derive(Clone, Copy)]
 struct Tally {
     claims: u64,
     pages: u64,

@@ -7,7 +7,7 @@ use paper::limits::{ITEM_ROOM, MOST_PAGE};
 use std::num::wrapping_add_u64;
 
 // A question, as the scan knows it. Where `after` is set, only what comes after the mark counts.
-#[derive(Drop)]
+#[derive(Clone, Copy)]
 pub struct Asking {
     pub far: bool,
     pub measure: u64,
@@ -21,7 +21,7 @@ pub struct Asking {
 }
 
 // The best claim so far.
-#[derive(Drop)]
+#[derive(Clone, Copy)]
 pub struct Best {
     pub found: bool,
     pub number: u64,

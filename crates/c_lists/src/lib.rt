@@ -1,5 +1,7 @@
 // Orders, lists, asks and answers as C has them: their fields side by side, flags as numbers. [9.19]
 // Apart from `c_values`, so that a wrong conversion of either is tried in seconds.
+#![tactic(auto)]
+
 ghost use Rattle.std.specs.Prelude.{◌≡◌, ◌≤◌};
 ghost use Rattle.paper.specs.Limits.{most_coordinates};
 ghost use Rattle.c_lists.specs.Values.{order_in, order_out, list_in, list_out, opened_out, taken_out, scope_from, extent_out, ask_out, answer_out};
@@ -13,7 +15,7 @@ use paper::queries::Query;
 
 // What an ask and an answer have behind the probe: the reach, and a scope.
 #[repr(C)]
-#[derive(Drop)]
+#[derive(Clone, Copy)]
 pub struct Extent {
     pub reach: u64,
     pub from: u8,
@@ -24,7 +26,7 @@ pub struct Extent {
 
 // The fields of an ask.
 #[repr(C)]
-#[derive(Drop)]
+#[derive(Clone, Copy)]
 pub struct AskFields {
     pub table: u32,
     pub order: u8,
@@ -37,7 +39,7 @@ pub struct AskFields {
 
 // The fields of an answer.
 #[repr(C)]
-#[derive(Drop)]
+#[derive(Clone, Copy)]
 pub struct AnswerFields {
     pub table: u32,
     pub order: u8,
@@ -52,7 +54,7 @@ pub struct AnswerFields {
 
 // An ask's line, read.
 #[repr(C)]
-#[derive(Drop)]
+#[derive(Clone, Copy)]
 pub struct AskShown {
     pub refusal: u8,
     pub ask: AskFields,
@@ -60,7 +62,7 @@ pub struct AskShown {
 
 // An answer's line, read.
 #[repr(C)]
-#[derive(Drop)]
+#[derive(Clone, Copy)]
 pub struct AnswerShown {
     pub refusal: u8,
     pub answer: AnswerFields,
@@ -68,7 +70,7 @@ pub struct AnswerShown {
 
 // A tablet's list: its query and its fields side by side, with flags as numbers. The order is a flag, on for far.
 #[repr(C)]
-#[derive(Drop)]
+#[derive(Clone, Copy)]
 pub struct Listing {
     pub table: u32,
     pub order: u8,
@@ -84,7 +86,7 @@ pub struct Listing {
 
 // A list after opening or taking.
 #[repr(C)]
-#[derive(Drop)]
+#[derive(Clone, Copy)]
 pub struct Listed {
     pub refusal: u8,
     pub list: Listing,

@@ -1,6 +1,8 @@
 // What goes to C and comes back: numbers, and structs of numbers. [9.19] A refusal's number stands beside the values, 0 where nothing was
 // refused; where a case is not given its values are 0. A flag from C is off when it is 0 and on otherwise; a flag to C is 0 or 1.
 // This is a crate of its own so that wrong conversions are tried in seconds, apart from the exports.
+#![tactic(auto)]
+
 ghost use Rattle.std.specs.Prelude.{◌≡◌};
 ghost use Rattle.c_values.specs.Values.{no_table, made_out, entered_out, item_out, filled_out, written_out, place_of};
 
@@ -11,7 +13,7 @@ use paper::tables::{Entered, Made, Table};
 
 // A table after making or entering.
 #[repr(C)]
-#[derive(Drop)]
+#[derive(Clone, Copy)]
 pub struct Tabled {
     pub refusal: u8,
     pub table: Table,
@@ -19,7 +21,7 @@ pub struct Tabled {
 
 // What nearest and farthest found.
 #[repr(C)]
-#[derive(Drop)]
+#[derive(Clone, Copy)]
 pub struct Item {
     pub refusal: u8,
     pub found: u8,
@@ -30,7 +32,7 @@ pub struct Item {
 
 // Where a page starts: at the start where `from` is 0, and otherwise after the mark, in the first `snapshot` claims.
 #[repr(C)]
-#[derive(Drop)]
+#[derive(Clone, Copy)]
 pub struct Start {
     pub from: u8,
     pub snapshot: u64,
@@ -40,7 +42,7 @@ pub struct Start {
 
 // How many items stand at the front of the room, and whether they are the last.
 #[repr(C)]
-#[derive(Drop)]
+#[derive(Clone, Copy)]
 pub struct Filled {
     pub refusal: u8,
     pub last: u8,
@@ -49,7 +51,7 @@ pub struct Filled {
 
 // The length of the line at the front of the output room.
 #[repr(C)]
-#[derive(Drop)]
+#[derive(Clone, Copy)]
 pub struct Written {
     pub refusal: u8,
     pub length: usize,

@@ -1,5 +1,7 @@
 // Tests that several layers put, and small readings that they share. They stand apart from `paper`, whose examples are then checked in
 // seconds.
+#![tactic(auto)]
+
 mod counts;
 mod flags;
 mod kinds;

@@ -1,4 +1,6 @@
 // [6.1] The office's end: the answer line to an ask line, by that line and a sound table alone.
+#![tactic(auto)]
+
 mod answers;
 mod pages;
 

@@ -1,4 +1,6 @@
 // The tablet's end: a list that is opened, writes its present ask and takes answer lines.
+#![tactic(auto)]
+
 mod asking;
 mod items;
 mod lists;

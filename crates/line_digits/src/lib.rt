@@ -1,4 +1,6 @@
 // Lines as digits, and numbers in them: what every kind of line is read and written with.
+#![tactic(auto)]
+
 mod hex;
 mod numbers;
 

@@ -1,4 +1,6 @@
 // The parts that the kinds of line are made of, written into a line and read from one.
+#![tactic(auto)]
+
 mod items;
 mod parts;
 mod queries;

@@ -1,4 +1,6 @@
 // The lines: for asks, answers and claims a bare writer and a bare reader each, and for the office the ask and the claim in a line that was found sound.
+#![tactic(auto)]
+
 mod answers;
 mod asks;
 mod claims;

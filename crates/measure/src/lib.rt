@@ -1,4 +1,6 @@
 // Distances of points in lent memory, exact for all coordinates.
+#![tactic(auto)]
+
 ghost use Rattle.std.specs.Prelude.{◌≡◌, ◌+◌, ◌≤◌, ◌<◌, ◌-ℤ◌, nat_abs, length, drop};
 ghost use Rattle.paper.specs.Points.{measure_of, weigh, joined, greatest_of};
 ghost use Rattle.paper.specs.Points.{distance as Points·distance};
@@ -59,7 +61,7 @@ pub fn distance(measure: u8, d: usize, a: &[i32], at: usize, b: &[i32], bt: usiz
 }
 
 // How far two claims are from a third point.
-#[derive(Drop)]
+#[derive(Clone, Copy)]
 pub struct Pair {
     pub left: u64,
     pub right: u64,

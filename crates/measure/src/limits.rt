@@ -8,7 +8,7 @@ use super::with_one;
 use paper::points::Measure;
 
 // How far two points are apart, as far as a limit: their distance, or that it is more than the limit.
-#[derive(Drop)]
+#[derive(Clone, Copy)]
 pub enum Apart {
     At(u64),
     Beyond,

@@ -1,5 +1,7 @@
 // The public calls. [9.1] [9.2] [9.3] Each checks its own input, in the order of its rule, refuses under a number and then leaves all
 // lent memory as it was, and otherwise gives what its definition in paper/specs says.
+#![tactic(auto)]
+
 mod bare;
 mod lists;
 mod office;

@@ -1,5 +1,7 @@
 // [6.5] A buffer of ask lines in, answer lines out: the table is tested once, and then line after line is answered as the
 // office's single call would answer it.
+#![tactic(auto)]
+
 mod ends;
 mod outcomes;
 mod turns;
@@ -15,7 +17,7 @@ use turns::answer_lines;
 // [6.7] [9.18] How many lines were answered, how many characters of the asks they used, and how many characters of answers were
 // written; all 0 beside a refusal.
 #[repr(C)]
-#[derive(Drop)]
+#[derive(Clone, Copy)]
 pub struct Answered {
     pub refusal: u8,
     pub lines: usize,

@@ -5,7 +5,7 @@ ghost use Rattle.nearby_batch.specs.Batch.{row_put, row_shown};
 use paper::lines::Wrote;
 
 // [6.6] What a call row to a line: the refusal's number or 0, and the answer line's length or 0.
-#[derive(Drop)]
+#[derive(Clone, Copy)]
 pub struct LineRow {
     pub refusal: u8,
     pub length: usize,

@@ -1,4 +1,6 @@
 // [4.16] Many questions to one table, which is tested once: row after row of the output rooms is what the single call gives.
+#![tactic(auto)]
+
 mod counts;
 mod firsts;
 mod pages;

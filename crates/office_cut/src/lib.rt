@@ -1,10 +1,12 @@
 // The lines of an input that comes in chunks, for every program. [10.8] The line so far stands in a lent room, and the room's length is
 // the longest line: of a longer one the front is kept, and its size is one more than the room's length.
+#![tactic(auto)]
+
 ghost use Rattle.std.specs.Prelude.{◌≡◌, ◌<◌, ◌^◌, length, drop, set};
 ghost use Rattle.office_cut.specs.Cut.{one_more, cut_with, cut_of};
 
 // How far the chunk is read, the size of the line so far, and whether its end was met.
-#[derive(Drop)]
+#[derive(Clone, Copy)]
 pub struct Piece {
     pub at: usize,
     pub size: usize,

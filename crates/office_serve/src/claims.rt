@@ -11,7 +11,7 @@ use paper::tables::Table;
 use tree_repeats::one::is_known;
 
 // What a line leads to: the table after it, and where what was said ends.
-#[derive(Drop)]
+#[derive(Clone, Copy)]
 pub struct Step {
     pub table: Table,
     pub at: usize,

@@ -11,7 +11,7 @@ use paper::tables::Table;
 
 // The office between two lines or within one: its table, the size of the line so far, how many lines it still reads,
 // where it is in the chunk, and how much of the output room is written.
-#[derive(Drop)]
+#[derive(Clone, Copy)]
 pub struct Sitting {
     pub table: Table,
     pub size: usize,

@@ -1,4 +1,6 @@
 // The office over a stream of lines: one line served, a chunk fed, the input's end.
+#![tactic(auto)]
+
 mod asks;
 mod claims;
 pub mod feeding;

@@ -1,5 +1,7 @@
 // The office on standard input and output. What it says to its lines is proved in `office_serve`; [10.12] here they are read in large
 // chunks, and whatever was said is written before the next read, so that the office can be talked to through a pipe.
+#![tactic(auto)]
+
 ghost use Rattle.std.specs.Prelude.{◌≡◌, ℕ, ◌<◌, ◌≤◌, true, false, ◌⊎◌, List, ◌++◌, length, take};
 ghost use Rattle.paper.specs.Tree.{lent};
 ghost use Rattle.paper.specs.Program.{program};
@@ -90,7 +92,7 @@ fn pump(
 }
 
 // The office after a read, and how many bytes that got.
-#[derive(Drop)]
+#[derive(Clone, Copy)]
 struct Pause {
     sitting: Sitting,
     got: usize,

@@ -36,7 +36,7 @@ unfolding measure_of weigh joined distance in_range point cleared new_node near_
     opening present_place every rising started_well sound_in asking same_probe same_query same_place to_present page_holds joined_to taken taking
     items_in listing unused_zero held_well opened_as opening_held asking_held taking_held held_after
     be num glyph digit hexes line_of frame_of pairs_ended is_line head front coord_bytes coords_in in_slots query_in_slots scope_bytes scope_in scope_ok item_frame item_bytes
-    Fields.itemNumbers item_slots numbers_ok references_ok bare_line reading head_ok behind query_at query_fits is_ask ask_frame ask_ranges ask_fits ask_ok ask_at an_ask no_ask read_as_ask
+    Fields.item_numbers item_slots numbers_ok references_ok bare_line reading head_ok behind query_at query_fits is_ask ask_frame ask_ranges ask_fits ask_ok ask_at an_ask no_ask read_as_ask
     answer_frame answer_ranges answer_fits count_in answer_ok is_answer answer_at an_answer no_answer read_as_answer claim_ok no_claim read_as_claim
     scope_of place_in ask_line answer_line ask_meant answer_meant read_ask read_answer
 far_calls_marked =

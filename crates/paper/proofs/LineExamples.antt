@@ -41,7 +41,7 @@ lists_marked =
 pub taking_marked : TakingMarked
 unfolding in_range unused_zero held_well every items_in listing sound_in rising started_well rank before present_place follows same_probe same_query same_place to_present page_holds
     joined_to taken taking taking_held flat fronted held_after be num glyph digit hexes line_of frame_of pairs_ended is_line coords_in in_slots scope_in scope_ok
-    Fields.itemNumbers item_slots numbers_ok head_ok behind answer_ranges query_at count_in answer_ok is_answer answer_at place_in answer_meant read_answer
+    Fields.item_numbers item_slots numbers_ok head_ok behind answer_ranges query_at count_in answer_ok is_answer answer_at place_in answer_meant read_answer
 taking_marked =
     record {
       first = refl;
@@ -71,7 +71,7 @@ taking_marked =
 
 pub lines_marked : LinesMarked
 unfolding in_range be num glyph digit hexes line_of frame_of pairs_ended is_line head front coord_bytes coords_in in_slots scope_bytes scope_in scope_ok item_frame item_bytes
-    Fields.itemNumbers item_slots numbers_ok references_ok bare_line reading head_ok behind query_at query_fits is_ask ask_frame ask_ranges ask_fits ask_ok ask_at an_ask no_ask read_as_ask
+    Fields.item_numbers item_slots numbers_ok references_ok bare_line reading head_ok behind query_at query_fits is_ask ask_frame ask_ranges ask_fits ask_ok ask_at an_ask no_ask read_as_ask
     answer_frame answer_ranges answer_fits count_in answer_ok is_answer answer_at an_answer no_answer read_as_answer claim_frame claim_fits claim_ok claim_at a_claim no_claim read_as_claim
 lines_marked =
     record {

@@ -75,6 +75,6 @@ pub program_marked : ProgramMarked
 unfolding program office_start input_done fed byte line_done line_turn frame_turn ask_turn claim_turn reply reply_to claim_entering with_claim claim_in ours
     table_for answer_line ask_meant scope_of place_in answer_to answer_of matches claim_at claim_ok answer_frame ask_at ask_ok ask_ranges behind head_ok query_at
     is_ask item_bytes item_frame scope_ok scope_in front scope_bytes in_slots coords_in coord_bytes in_range head is_line frame_of line_of hexes digit glyph num be
-    Frames.pairsEnded flat mark_holds last_of page_of following snapshot_holds rest follows listed item_of insert before rank distance joined weigh
+    Frames.pairs_ended flat mark_holds last_of page_of following snapshot_holds rest follows listed item_of insert before rank distance joined weigh
     measure_of refusal decimal references_of is_among anew
 program_marked = record { sample = refl; both_kinds = refl; repeated = refl; full17 = refl; full3 = refl }

@@ -3,7 +3,7 @@ use crate::limits::{ITEM_ROOM, MOST_CLAIMS, MOST_COORDINATES};
 use crate::queries::Query;
 
 // [5.5] What an ask and an answer have behind the reach: distance and number are the mark.
-#[derive(Drop)]
+#[derive(Clone, Copy)]
 pub struct Scope {
     pub from: u8,
     pub snapshot: u16,
@@ -27,7 +27,7 @@ impl Scope {
 }
 
 // [5.5] What an ask line says.
-#[derive(Drop)]
+#[derive(Clone, Copy)]
 pub struct Ask {
     pub query: Query,
     pub scope: Scope,
@@ -36,7 +36,7 @@ pub struct Ask {
 
 // [5.6] [5.14] What an answer line says. The items are triples of number, reference and distance; slots that are not in use hold 0, here
 // as in a probe. The query, which ends in a whole word, stands before the items: with a gap there, a reader holds them twice.
-#[derive(Drop)]
+#[derive(Clone, Copy)]
 pub struct Answer {
     pub last: u8,
     pub count: u8,
@@ -46,7 +46,7 @@ pub struct Answer {
 }
 
 #[repr(C)]
-#[derive(Drop)]
+#[derive(Clone, Copy)]
 pub struct ClaimLine {
     pub table: u32,
     pub measure: u8,
@@ -61,27 +61,27 @@ impl ClaimLine {
 }
 
 // [5.14] [9.15] What a reader gives: refusal 0 beside the fields, or 9 or 10 beside zeros.
-#[derive(Drop)]
+#[derive(Clone, Copy)]
 pub struct AskRead {
     pub refusal: u8,
     pub ask: Ask,
 }
 
-#[derive(Drop)]
+#[derive(Clone, Copy)]
 pub struct AnswerRead {
     pub refusal: u8,
     pub answer: Answer,
 }
 
 #[repr(C)]
-#[derive(Drop)]
+#[derive(Clone, Copy)]
 pub struct ClaimRead {
     pub refusal: u8,
     pub claim: ClaimLine,
 }
 
 // [5.12] What a writer answers: the length of the line that it wrote, or the number of its refusal.
-#[derive(Drop)]
+#[derive(Clone, Copy)]
 pub enum Wrote {
     Line(usize),
     Refused(u8),

@@ -3,7 +3,7 @@ use crate::limits::MOST_CLAIMS;
 use crate::queries::Query;
 
 // [7.1] [7.2] [7.3] What the list is opened for, and how far it has come.
-#[derive(Drop)]
+#[derive(Clone, Copy)]
 pub struct List {
     pub query: Query,
     pub started: bool,
@@ -19,14 +19,14 @@ impl List {
 }
 
 // [9.13] What taking a line gives: the refusal's number, or 0, beside the list as it then stands.
-#[derive(Drop)]
+#[derive(Clone, Copy)]
 pub struct Taken {
     pub refusal: u8,
     pub list: List,
 }
 
 // [9.11] What opening a list gives: the refusal's number beside a list of zeros, or 0 beside the list.
-#[derive(Drop)]
+#[derive(Clone, Copy)]
 pub struct Opened {
     pub refusal: u8,
     pub list: List,

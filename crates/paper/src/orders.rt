@@ -4,7 +4,7 @@ ghost use Rattle.paper.specs.Orders.{start_mark, mark_at};
 ghost use Rattle.paper.specs.Orders.{rank as Orders·rank, before as Orders·before};
 
 // [2.1] [2.2] Near order is smaller distances first, far order larger ones.
-#[derive(Drop)]
+#[derive(Clone, Copy)]
 pub enum Order {
     Near,
     Far,
@@ -38,7 +38,7 @@ impl Order {
 }
 
 // The last claim that a page before has shown: its distance from the probe, with its number.
-#[derive(Drop)]
+#[derive(Clone, Copy)]
 pub struct Mark {
     pub distance: u64,
     pub number: u64,
@@ -65,35 +65,35 @@ impl Mark {
 }
 
 // [4.4] [4.5] Where a page starts: at the start, or after a mark in the first so many claims.
-#[derive(Drop)]
+#[derive(Clone, Copy)]
 pub enum Place {
     Start,
     After(u64, Mark),
 }
 
 // [4.7] What a page call gives beside the room's filled front: how many items stand there, and whether the page is the last.
-#[derive(Drop)]
+#[derive(Clone, Copy)]
 pub struct Paged {
     pub count: usize,
     pub last: bool,
 }
 
 // [4.1] [4.2] What nearest and farthest give: nothing, or an item's number, reference and distance.
-#[derive(Drop)]
+#[derive(Clone, Copy)]
 pub enum Found {
     Nothing,
     Item(u64, u64, u64),
 }
 
 // What the public nearest and farthest give.
-#[derive(Drop)]
+#[derive(Clone, Copy)]
 pub enum Nearest {
     Refused(u8),
     Answer(Found),
 }
 
 // What the public page gives, beside the room's filled front.
-#[derive(Drop)]
+#[derive(Clone, Copy)]
 pub enum Page {
     Refused(u8),
     Filled(Paged),

@@ -3,7 +3,7 @@ ghost use Rattle.std.specs.Prelude.{◌≡◌, ◌≤◌};
 ghost use Rattle.paper.specs.Points.{measure_of, greatest_of};
 ghost use Rattle.paper.specs.Limits.{most_coordinates};
 
-#[derive(Drop)]
+#[derive(Clone, Copy)]
 pub enum Measure {
     CityBlock,
     Maximum,

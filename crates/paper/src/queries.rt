@@ -2,7 +2,7 @@
 use crate::limits::MOST_COORDINATES;
 use crate::orders::Order;
 
-#[derive(Drop)]
+#[derive(Clone, Copy)]
 pub struct Query {
     pub order: Order,
     pub table: u32,

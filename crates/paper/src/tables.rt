@@ -2,7 +2,7 @@
 
 // [3.1] What a table is called and measured by, and how much of its memory is in use.
 #[repr(C)]
-#[derive(Drop)]
+#[derive(Clone, Copy)]
 pub struct Table {
     pub number: u32,
     pub measure: u8,
@@ -14,14 +14,14 @@ pub struct Table {
 }
 
 // [3.16] What making an empty table answers.
-#[derive(Drop)]
+#[derive(Clone, Copy)]
 pub enum Made {
     Table(Table),
     Refused(u8),
 }
 
 // [3.14] What entering a run of claims answers: the table's header afterwards.
-#[derive(Drop)]
+#[derive(Clone, Copy)]
 pub enum Entered {
     Table(Table),
     Refused(u8),

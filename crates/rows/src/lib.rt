@@ -1,4 +1,6 @@
 // Numbers in lent rooms: rows of them, the filled front of a room, and items joined to those that stand in one.
+#![tactic(auto)]
+
 mod answers;
 mod counts;
 mod fronts;

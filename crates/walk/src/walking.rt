@@ -14,7 +14,7 @@ use walk_keep::keys::{half, key, larger, over, rank};
 use walk_keep::numbers::{D, FAR, FIRST, MEASURE, NUMBERS};
 
 // The ranks of a node's two claims: of its one claim twice, where it has no other.
-#[derive(Drop)]
+#[derive(Clone, Copy)]
 pub struct Visited {
     pub left: u64,
     pub right: u64,

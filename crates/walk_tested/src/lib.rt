@@ -1,5 +1,7 @@
 // [9.8] The page of a table that was tested: what is left to refuse is the place and the room, 7, 8 and 12. The single call and many pages
 // both ask here.
+#![tactic(auto)]
+
 ghost use Rattle.std.specs.Prelude.{◌≡◌, length};
 ghost use Rattle.paper.specs.Outcomes.{number, Promise};
 ghost use Rattle.paper.specs.Tree.{lent};

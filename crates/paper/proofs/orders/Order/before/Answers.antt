@@ -8,8 +8,7 @@ use borrow.Author.Tests.{lt-ltb, le-ltb, eq-eqb, ne_eqb}
 use Rattle.paper.specs.declared.orders.Order.{Order}
 use Rattle.paper.specs.Orders.{rank, before}
 use borrow.Author.Rules.{rules}
-use Rattle.paper.proofs.orders.Order.before.Statement.{statement}
-use Rattle.paper.proofs.orders.Order.before.Tie as tie
+use Rattle.paper.proofs.orders.Order.before.Goals as goal
 
 -- by rank, or by number at equal ranks
 module _ (o : Order) (x k y j a b : ℕ) (pa : a ≡ rank o x) (pb : b ≡ rank o y) where
@@ -29,20 +28,11 @@ module _ (o : Order) (x k y j a b : ℕ) (pa : a ≡ rank o x) (pb : b ≡ rank 
       let e : a ≡ b = omega arith in
       rw (← pa, ← pb, le-ltb a b h, eq-eqb a b e)
 
-rank-requires : tie.Need-rank-requires
-rank-requires c κs = search rules
+pub returns-then-a-b : goal.returns-then-a-b
+returns-then-a-b c = earlier_rank _ _ _ _ _ _ _ c.rank-a.ensures c.rank-b.ensures c.if-a-b.true
 
-rank-requires-2 : tie.Need-rank-requires-2
-rank-requires-2 c κs = search rules
+pub returns-then-b-a : goal.returns-then-b-a
+returns-then-b-a c = later_rank _ _ _ _ _ _ _ c.rank-a.ensures c.rank-b.ensures c.if-b-a.true
 
-returns : tie.Need-returns
-returns c = earlier_rank _ _ _ _ _ _ _ c.before.before.rank.ensures c.before.rank2.ensures c.if1.true
-
-returns-2 : tie.Need-returns-2
-returns-2 c = later_rank _ _ _ _ _ _ _ c.before.before.before.rank.ensures c.before.before.rank2.ensures c.if2.true
-
-returns-3 : tie.Need-returns-3
-returns-3 c = earlier_number _ _ _ _ _ _ _ c.before.before.before.rank.ensures c.before.before.rank2.ensures c.before.if1.false c.if2.false
-
-pub before-spec : {M : Type 1} → statement M
-before-spec = tie.close (tie.spec rank-requires rank-requires-2 returns returns-2 returns-3)
+pub returns : goal.returns
+returns c = earlier_number _ _ _ _ _ _ _ c.rank-a.ensures c.rank-b.ensures c.if-a-b.false c.if-b-a.false
