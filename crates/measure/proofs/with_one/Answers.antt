@@ -10,8 +10,7 @@ use borrow.Author.Rules.{rules}
 use Rattle.paper.specs.Points.{joined, weigh}
 use Rattle.paper.specs.declared.points.Measure.{Measure}
 use Rattle.paper.specs.declared.points.Measure.TheVariants.{CityBlock, Maximum, Hamming}
-use Rattle.measure.proofs.with_one.Statement.{statement}
-use Rattle.measure.proofs.with_one.Tie as tie
+use Rattle.measure.proofs.with_one.Goals as goal
 
 pos_of : (g : ℕ) → (g ≡ 0 → ⊥) → 0 < g
 pos_of g h = omega arith
@@ -50,61 +49,27 @@ module _ (m : Measure) (a g : ℕ) {x y : ℤ} (hx : SFits w32 x) (hy : SFits w3
       ham : 0 < g → a + 1 ≡ a + min 1 (nat_abs (x -ℤ y))
       ham l = omega (arith, is)
 
-gap-requires : tie.Need-gap-requires
-gap-requires c κs = search rules
+pub returns-in-CityBlock : goal.returns-in-CityBlock
+returns-in-CityBlock c =
+    let s = c in
+    in_city s.args.m s.args.sum c.gap-g.result s.ranges.x s.ranges.y c.gap-g.ensures c.in-CityBlock.is
 
-enum_told : tie.Need-enum-told
-enum_told c = search rules
+pub returns-then-sum-g : goal.returns-then-sum-g
+returns-then-sum-g c =
+    let s = c in
+    in_most s.args.m s.args.sum c.gap-g.result s.ranges.x s.ranges.y c.gap-g.ensures c.in-Maximum.is c.if-sum-g.true
 
-add-result : tie.Need-overflow-add-result
-add-result c = search rules
+pub returns-else-sum-g : goal.returns-else-sum-g
+returns-else-sum-g c =
+    let s = c in
+    in_most_not s.args.m s.args.sum c.gap-g.result s.ranges.x s.ranges.y c.gap-g.ensures c.in-Maximum.is c.if-sum-g.false
 
-enum-told-2 : tie.Need-enum-told-2
-enum-told-2 c = search rules
+pub returns-then-g-eq0 : goal.returns-then-g-eq0
+returns-then-g-eq0 c =
+    let s = c in
+    in_hamming s.args.m s.args.sum c.gap-g.result s.ranges.x s.ranges.y c.gap-g.ensures c.in-Hamming.is c.if-g-eq0.true
 
-enum-told-3 : tie.Need-enum-told-3
-enum-told-3 c = search rules
-
-add-result-2 : tie.Need-overflow-add-result-2
-add-result-2 c = search rules
-
-returns : tie.Need-returns
-returns c =
-    let s = c.before.before.before in
-    in_city s.args.m s.args.sum c.before.before.gap.result s.ranges.x s.ranges.y c.before.before.gap.ensures c.enum_told.given.1
-
-returns-2 : tie.Need-returns-2
-returns-2 c =
-    let s = c.before.before.before.before in
-    in_most s.args.m s.args.sum c.before.before.before.gap.result s.ranges.x s.ranges.y c.before.before.before.gap.ensures c.before.enum-told2.given.1 c.if1.true
-
-returns-3 : tie.Need-returns-3
-returns-3 c =
-    let s = c.before.before.before.before in
-    in_most_not s.args.m s.args.sum c.before.before.before.gap.result s.ranges.x s.ranges.y c.before.before.before.gap.ensures c.before.enum-told2.given.1 c.if1.false
-
-returns-4 : tie.Need-returns-4
-returns-4 c =
-    let s = c.before.before.before.before in
-    in_hamming s.args.m s.args.sum c.before.before.before.gap.result s.ranges.x s.ranges.y c.before.before.before.gap.ensures c.before.enum-told3.given.1 c.if2.true
-
-returns-5 : tie.Need-returns-5
-returns-5 c =
-    let s = c.before.before.before.before in
-    in_hamming_not s.args.m s.args.sum c.before.before.before.gap.result s.ranges.x s.ranges.y c.before.before.before.gap.ensures c.before.enum-told3.given.1 c.if2.false
-
-pub with-one-spec : {M : Type 1} → statement M
-with-one-spec =
-    tie.close
-    (tie.spec
-    gap-requires
-    enum_told
-    add-result
-    enum-told-2
-    enum-told-3
-    add-result-2
-    returns
-    returns-2
-    returns-3
-    returns-4
-    returns-5)
+pub returns-else-g-eq0 : goal.returns-else-g-eq0
+returns-else-g-eq0 c =
+    let s = c in
+    in_hamming_not s.args.m s.args.sum c.gap-g.result s.ranges.x s.ranges.y c.gap-g.ensures c.in-Hamming.is c.if-g-eq0.false
