@@ -1,5 +1,5 @@
 -- Sections 2 and 4 of the rules: orders and questions, by measuring every stored claim. Definitions only.
-use Rattle.std.specs.Prelude.{ℕ, zero, suc, ◌+◌, ◌-◌, ◌*◌, ◌^◌, Bool, true, false, not, cond, ◌&&◌, ◌||◌, List, [], ◌∷◌, ◌++◌, ltb, leb, eqb, ℤ, length, get_or, take, drop}
+use Rattle.std.specs.Prelude.{ℕ, zero, suc, ◌-◌, ◌*◌, ◌^◌, Bool, true, false, not, cond, ◌&&◌, ◌||◌, List, [], ◌∷◌, ◌++◌, ltb, leb, eqb, ℤ, length, get_or, take, drop}
 use Rattle.paper.specs.declared.orders.Found.{Found as Answer}
 use Rattle.paper.specs.declared.orders.Found.TheVariants.{Nothing, Item as AnItem}
 use Rattle.paper.specs.declared.orders.Mark.{Mark}

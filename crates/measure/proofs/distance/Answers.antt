@@ -1,7 +1,6 @@
 -- `measure::distance` meets its contract: it is `measured` at the measure that the number names. Assumes nothing.
 use Prim.Native.Nat.{◌≤◌}
 use mathlib.Core.Path.{ap, subst, ◌∙◌}
-use borrow.Author.Rules.{rules}
 use lib.ListN.{drop}
 use Rattle.paper.specs.Points.{distance, greatest_of}
 use Rattle.paper.specs.declared.points.Measure.{Measure}

@@ -3,7 +3,7 @@ use native.Mathlib.Numerals.{add-one}
 use lib.ListN.{get_or}
 use lib.IntN.{ℤ, pos}
 use Rattle.paper.specs.declared.points.Measure.{Measure}
-use Prim.Native.Nat.{ℕ, ◌+◌, ◌≤◌, ◌*◌, ◌-◌}
+use Prim.Native.Nat.{ℕ, ◌+◌, ◌≤◌}
 use mathlib.Core.Path.{◌≡◌, refl, ap, subst, ◌∙◌}
 use native.Mathlib.Omega.{arith}
 use lib.ListN.{drop}

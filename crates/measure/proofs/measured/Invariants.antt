@@ -1,18 +1,8 @@
 -- `measure::measured` meets its contract: after i turns the sum is the distance over the first i coordinates. Assumes nothing.
-use native.Mathlib.Numerals.{add-one}
-use lib.ListN.{get_or}
-use lib.IntN.{ℤ, pos}
-use Rattle.paper.specs.declared.points.Measure.{Measure}
-use Prim.Native.Nat.{ℕ, ◌+◌, ◌≤◌, ◌*◌, ◌-◌}
-use mathlib.Core.Path.{◌≡◌, refl, ap, subst, ◌∙◌}
-use native.Mathlib.Omega.{arith}
+use Prim.Native.Nat.{◌≤◌, ◌*◌, ◌-◌}
+use mathlib.Core.Path.{◌≡◌}
 use lib.ListN.{drop}
-use Rattle.measure.proofs.Away.{same_args}
-use mir.Syntax.{w32}
-use mir.Val.{SFits}
-use Rattle.paper.specs.Points.{distance, joined, weigh, greatest_of}
-use Rattle.measure.proofs.Joining.{one_more_lem}
-use Rattle.measure.proofs.Metric.{joined_most, weigh_most}
+use Rattle.paper.specs.Points.{distance, greatest_of}
 use Rattle.measure.proofs.measured.Given as goal
 
 abbrev pub invariant-loop-i : goal.invariant-loop-i

@@ -6,7 +6,6 @@ use lib.IntN.{ℤ, ◌-ℤ◌, nat_abs}
 use mir.Syntax.{w32}
 use mir.Val.{SFits}
 use Rattle.measure.proofs.Away.{B, same_args}
-use borrow.Author.Rules.{rules}
 use Rattle.paper.specs.Points.{joined, weigh}
 use Rattle.paper.specs.declared.points.Measure.{Measure}
 use Rattle.paper.specs.declared.points.Measure.TheVariants.{CityBlock, Maximum, Hamming}

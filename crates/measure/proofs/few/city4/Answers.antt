@@ -3,7 +3,6 @@ use mathlib.Core.Path.{refl}
 use Rattle.paper.specs.Points.{joined}
 use Rattle.paper.specs.declared.points.Measure.TheVariants.{CityBlock}
 use Rattle.measure.proofs.Joining.{joins}
-use borrow.Author.Rules.{rules}
 use Rattle.measure.proofs.few.city4.Goals as goal
 
 pub returns : goal.returns

@@ -4,7 +4,6 @@ use native.Mathlib.Omega.{arith}
 use Rattle.paper.specs.Points.{joined}
 use Rattle.paper.specs.declared.points.Measure.TheVariants.{Maximum}
 use Rattle.measure.proofs.Joining.{joins}
-use borrow.Author.Rules.{rules}
 use Rattle.measure.proofs.few.maximum4.Goals as goal
 
 pub returns : goal.returns

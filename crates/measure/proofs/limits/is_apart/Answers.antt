@@ -1,6 +1,5 @@
 -- `measure::limits::is_apart` meets its contract. Assumes nothing.
 use Rattle.measure.proofs.Limiting.{just_at, just_beyond}
-use borrow.Author.Rules.{rules}
 use Rattle.measure.proofs.limits.is_apart.Goals as goal
 
 pub returns-in-At : goal.returns-in-At

@@ -1,6 +1,6 @@
 -- `measure::limits::within` meets its contract: after i turns the sum is the distance over the first i coordinates, and not over the
 -- limit. Assumes nothing.
-use Prim.Native.Nat.{ℕ, ◌+◌, ◌≤◌, ◌*◌, ◌-◌}
+use Prim.Native.Nat.{ℕ, ◌+◌}
 use mathlib.Core.Path.{◌≡◌, refl, ap, ◌∙◌}
 use mathlib.Core.List.{List}
 use native.Mathlib.Omega.{arith}
@@ -8,7 +8,6 @@ use lib.ListN.{get_or, drop}
 use lib.IntN.{ℤ, pos}
 use mir.Syntax.{w32}
 use mir.Val.{SFits}
-use borrow.Author.Rules.{rules}
 use Rattle.paper.specs.Points.{distance, joined, weigh}
 use Rattle.paper.specs.declared.points.Measure.{Measure}
 use Rattle.measure.proofs.Away.{B, same_args}

@@ -1,18 +1,9 @@
 -- `measure::limits::within` meets its contract: after i turns the sum is the distance over the first i coordinates, and not over the
 -- limit. Assumes nothing.
-use Prim.Native.Nat.{ℕ, ◌+◌, ◌≤◌, ◌*◌, ◌-◌}
-use mathlib.Core.Path.{◌≡◌, refl, ap, ◌∙◌}
-use native.Mathlib.Omega.{arith}
-use lib.ListN.{get_or, drop}
-use lib.IntN.{ℤ, pos}
-use mir.Syntax.{w32}
-use mir.Val.{SFits}
-use borrow.Author.Rules.{rules}
-use Rattle.paper.specs.Points.{distance, joined, weigh}
-use Rattle.paper.specs.declared.points.Measure.{Measure}
-use Rattle.measure.proofs.Away.{same_args}
-use Rattle.measure.proofs.Joining.{one_more_lem}
-use Rattle.measure.proofs.Limiting.{limited_at, limited_beyond}
+use Prim.Native.Nat.{◌≤◌, ◌*◌, ◌-◌}
+use mathlib.Core.Path.{◌≡◌}
+use lib.ListN.{drop}
+use Rattle.paper.specs.Points.{distance}
 use Rattle.measure.proofs.limits.within.Given as goal
 
 abbrev pub invariant-loop-i : goal.invariant-loop-i

@@ -1,7 +1,6 @@
 -- `measure::one::apart` meets its contract. Assumes nothing.
 use native.Mathlib.Omega.{arith}
 use Rattle.measure.proofs.OneCoordinate.{raise_apart}
-use borrow.Author.Rules.{rules}
 use Rattle.measure.proofs.one.apart.Goals as goal
 
 pub returns-then-a-b : goal.returns-then-a-b

@@ -2,7 +2,6 @@
 use Rattle.paper.specs.Points.{weigh}
 use Rattle.paper.specs.declared.points.Measure.TheVariants.{Hamming}
 use Rattle.measure.proofs.OneCoordinate.{one_is}
-use borrow.Author.Rules.{rules}
 use Rattle.measure.proofs.one.differs_at.Goals as goal
 
 pub returns : goal.returns

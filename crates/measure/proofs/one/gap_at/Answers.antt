@@ -1,6 +1,5 @@
 -- `measure::one::gap_at` meets its contract. Assumes nothing.
 use Rattle.measure.proofs.OneCoordinate.{gap_is}
-use borrow.Author.Rules.{rules}
 use Rattle.measure.proofs.one.gap_at.Goals as goal
 
 pub returns : goal.returns

@@ -7,7 +7,6 @@ use lib.Dec.{ltb}
 use borrow.Author.Tests.{lt-ltb, le-ltb, eq-eqb, ne_eqb}
 use Rattle.paper.specs.declared.orders.Order.{Order}
 use Rattle.paper.specs.Orders.{rank, before}
-use borrow.Author.Rules.{rules}
 use Rattle.paper.proofs.orders.Order.before.Goals as goal
 
 -- by rank, or by number at equal ranks

@@ -1,6 +1,5 @@
 -- `Order::rank` meets its contract. Assumes nothing.
 use Rattle.paper.specs.Orders.{rank}
-use borrow.Author.Rules.{rules}
 use Rattle.paper.proofs.orders.Order.rank.Goals as goal
 
 pub returns-in-Near : goal.returns-in-Near
