@@ -1,7 +1,7 @@
 // Making an empty table, testing a table, and entering claims.
 ghost use Rattle.std.specs.Prelude.{◌≡◌};
 ghost use Rattle.paper.specs.Outcomes.{Promise, Shows, number as Outcomes·number};
-ghost use Rattle.paper.specs.Tree.{lent, lent_memory};
+ghost use Rattle.paper.specs.Tree.{lent, lent_mut, lent_memory};
 ghost use Rattle.paper.specs.Runs.{empty_table, make_call, made_shown, enter_call, entered_shown, put_store};
 ghost use Rattle.paper.specs.Calls.{table_refusal};
 
@@ -87,7 +87,7 @@ pub fn enter(
     points: &[i32],
 ) -> Entered
     ensures { Promise entered_shown put_store
-        (enter_call (lent t references.entry coordinates.entry nodes.entry) given.now points.now)
+        (enter_call (lent_mut t references.entry coordinates.entry nodes.entry) given.now points.now)
         (lent_memory references.entry coordinates.entry nodes.entry) result (lent_memory references.exit coordinates.exit nodes.exit) }
 {
     let why = run_refusal(t, references, coordinates, nodes, given, points);

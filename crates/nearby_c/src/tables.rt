@@ -1,7 +1,7 @@
 // Making a table, testing it, and entering claims.
 ghost use Rattle.std.specs.Prelude.{◌≡◌};
 ghost use Rattle.paper.specs.Outcomes.{Promise};
-ghost use Rattle.paper.specs.Tree.{lent, lent_memory};
+ghost use Rattle.paper.specs.Tree.{lent, lent_mut, lent_memory};
 ghost use Rattle.paper.specs.Runs.{empty_table, make_call, made_shown, enter_call, entered_shown, put_store};
 ghost use Rattle.paper.specs.Calls.{table_refusal};
 ghost use Rattle.c_values.specs.Values.{made_out, entered_out};
@@ -49,7 +49,7 @@ pub extern "C" fn nearby_enter(
     points: &[i32],
 ) -> Tabled
     ensures { Promise (λ o. entered_out (entered_shown o)) put_store
-        (enter_call (lent t references.entry coordinates.entry nodes.entry) given.now points.now)
+        (enter_call (lent_mut t references.entry coordinates.entry nodes.entry) given.now points.now)
         (lent_memory references.entry coordinates.entry nodes.entry) result (lent_memory references.exit coordinates.exit nodes.exit) }
 {
     let e = nearby::enter(t, references, coordinates, nodes, given, points);

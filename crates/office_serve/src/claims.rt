@@ -1,6 +1,6 @@
 // [10.3] A claim line: entered, with nothing said, or refused.
 ghost use Rattle.std.specs.Prelude.{◌≡◌, length};
-ghost use Rattle.paper.specs.Tree.{lent};
+ghost use Rattle.paper.specs.Tree.{lent_mut};
 ghost use Rattle.paper.specs.Program.{table_for, claim_entering, claim_turn};
 ghost use Rattle.office_serve.specs.Serving.{books_of, header_for, ClaimServing, Served};
 
@@ -43,9 +43,9 @@ pub fn take_claim(
     out: &mut [u8],
     at: usize,
 ) -> Step
-    requires { ClaimServing (lent t references coordinates nodes) c (length out.old) at }
-    ensures { Served (claim_turn (books_of (lent t references.entry coordinates.entry nodes.entry)) (claim_entering (table_for (books_of (lent t references.entry coordinates.entry nodes.entry)) c) c))
-        (lent result.table references.exit coordinates.exit nodes.exit) out.old at out.new result.at }
+    requires { ClaimServing (lent_mut t references coordinates nodes) c (length out.old) at }
+    ensures { Served (claim_turn (books_of (lent_mut t references.entry coordinates.entry nodes.entry)) (claim_entering (table_for (books_of (lent_mut t references.entry coordinates.entry nodes.entry)) c) c))
+        (lent_mut result.table references.exit coordinates.exit nodes.exit) out.old at out.new result.at }
 {
     let header = header_for(t, c);
     if !is_ours(header, c.table, c.measure, c.d as usize) {

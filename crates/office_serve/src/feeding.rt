@@ -1,6 +1,6 @@
 // The office over chunks of its input.
 ghost use Rattle.std.specs.Prelude.{◌≡◌, ◌+◌, ◌<◌, ◌≤◌, true, length};
-ghost use Rattle.paper.specs.Tree.{lent};
+ghost use Rattle.paper.specs.Tree.{lent_mut};
 ghost use Rattle.paper.specs.Program.{OfficeState};
 ghost use Rattle.office_serve.specs.Feeding.{Stands, Set, Turning, Moved, Ended};
 ghost use Rattle.paper.specs.Limits.{longest_answer};
@@ -30,10 +30,10 @@ fn turn(
     chunk: &[u8],
     out: &mut [u8],
 ) -> Sitting
-    requires { Set (lent sit.table references coordinates nodes) line.old × Turning sit (length chunk.now) (length out.old) }
-    ensures moved { (o : OfficeState) → Stands (lent sit.table references.entry coordinates.entry nodes.entry) line.old sit o
-        → Moved o chunk.now sit out.old (lent result.table references.exit coordinates.exit nodes.exit) line.new result out.new }
-    ensures ready { Set (lent result.table references.exit coordinates.exit nodes.exit) line.new }
+    requires { Set (lent_mut sit.table references coordinates nodes) line.old × Turning sit (length chunk.now) (length out.old) }
+    ensures moved { (o : OfficeState) → Stands (lent_mut sit.table references.entry coordinates.entry nodes.entry) line.old sit o
+        → Moved o chunk.now sit out.old (lent_mut result.table references.exit coordinates.exit nodes.exit) line.new result out.new }
+    ensures ready { Set (lent_mut result.table references.exit coordinates.exit nodes.exit) line.new }
     ensures on { (sit.at < result.at) × (result.written ≤ length out.old) }
 {
     let t = sit.table;
@@ -87,10 +87,10 @@ pub fn feed(
     chunk: &[u8],
     out: &mut [u8],
 ) -> Sitting
-    requires { Set (lent sit.table references coordinates nodes) line.old × (sit.written ≤ length out.old) }
-    ensures moved { (o : OfficeState) → Stands (lent sit.table references.entry coordinates.entry nodes.entry) line.old sit o
-        → Moved o chunk.now sit out.old (lent result.table references.exit coordinates.exit nodes.exit) line.new result out.new }
-    ensures ready { Set (lent result.table references.exit coordinates.exit nodes.exit) line.new }
+    requires { Set (lent_mut sit.table references coordinates nodes) line.old × (sit.written ≤ length out.old) }
+    ensures moved { (o : OfficeState) → Stands (lent_mut sit.table references.entry coordinates.entry nodes.entry) line.old sit o
+        → Moved o chunk.now sit out.old (lent_mut result.table references.exit coordinates.exit nodes.exit) line.new result out.new }
+    ensures ready { Set (lent_mut result.table references.exit coordinates.exit nodes.exit) line.new }
     ensures on { Turning sit (length chunk.now) (length out.old) → sit.at < result.at }
     ensures short { result.written ≤ length out.old }
     ensures stops { Turning result (length chunk.now) (length out.old) → ⊥ }
@@ -111,8 +111,8 @@ pub fn finish(
     line: &[u8],
     out: &mut [u8],
 ) -> usize
-    requires { Set (lent sit.table references coordinates nodes) line.now × (sit.written + longest_answer ≤ length out.old) }
-    ensures done { (o : OfficeState) → Stands (lent sit.table references.entry coordinates.entry nodes.entry) line.now sit o → Ended o out.old sit.written out.new result }
+    requires { Set (lent_mut sit.table references coordinates nodes) line.now × (sit.written + longest_answer ≤ length out.old) }
+    ensures done { (o : OfficeState) → Stands (lent_mut sit.table references.entry coordinates.entry nodes.entry) line.now sit o → Ended o out.old sit.written out.new result }
     ensures short { result ≤ length out.old }
 {
     let t = sit.table;

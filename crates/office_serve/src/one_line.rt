@@ -1,6 +1,6 @@
 // One line served: a sound one, any one, and the room that it was cut into.
 ghost use Rattle.std.specs.Prelude.{◌≡◌, true, length};
-ghost use Rattle.paper.specs.Tree.{lent};
+ghost use Rattle.paper.specs.Tree.{lent_mut};
 ghost use Rattle.paper.specs.Program.{line_turn};
 ghost use Rattle.paper.specs.Frames.{is_line};
 ghost use Rattle.office_serve.specs.Serving.{books_of, Serving, Served, ServedCut};
@@ -21,8 +21,8 @@ fn serve_sound(
     out: &mut [u8],
     at: usize,
 ) -> Step
-    requires { Serving (lent t references coordinates nodes) (length out.old) at × (is_line line.now ≡ true) }
-    ensures { Served (line_turn (books_of (lent t references.entry coordinates.entry nodes.entry)) line.now) (lent result.table references.exit coordinates.exit nodes.exit) out.old at out.new result.at }
+    requires { Serving (lent_mut t references coordinates nodes) (length out.old) at × (is_line line.now ≡ true) }
+    ensures { Served (line_turn (books_of (lent_mut t references.entry coordinates.entry nodes.entry)) line.now) (lent_mut result.table references.exit coordinates.exit nodes.exit) out.old at out.new result.at }
 {
     let as_claim = lines::claim_in(line);
     if as_claim.refusal == 0 {
@@ -49,8 +49,8 @@ fn serve_line(
     out: &mut [u8],
     at: usize,
 ) -> Step
-    requires { Serving (lent t references coordinates nodes) (length out.old) at }
-    ensures { Served (line_turn (books_of (lent t references.entry coordinates.entry nodes.entry)) line.now) (lent result.table references.exit coordinates.exit nodes.exit) out.old at out.new result.at }
+    requires { Serving (lent_mut t references coordinates nodes) (length out.old) at }
+    ensures { Served (line_turn (books_of (lent_mut t references.entry coordinates.entry nodes.entry)) line.now) (lent_mut result.table references.exit coordinates.exit nodes.exit) out.old at out.new result.at }
 {
     if line_digits::is_sound(line) {
         return serve_sound(t, references, coordinates, nodes, line, out, at);
@@ -70,8 +70,8 @@ pub fn serve_cut(
     out: &mut [u8],
     at: usize,
 ) -> Step
-    requires { Serving (lent t references coordinates nodes) (length out.old) at × (length line.now ≡ longest_answer) }
-    ensures { ServedCut line.now size (books_of (lent t references.entry coordinates.entry nodes.entry)) (lent result.table references.exit coordinates.exit nodes.exit) out.old at out.new result.at }
+    requires { Serving (lent_mut t references coordinates nodes) (length out.old) at × (length line.now ≡ longest_answer) }
+    ensures { ServedCut line.now size (books_of (lent_mut t references.entry coordinates.entry nodes.entry)) (lent_mut result.table references.exit coordinates.exit nodes.exit) out.old at out.new result.at }
 {
     if line.len() < size {
         let end = refuse(out, at, 9);

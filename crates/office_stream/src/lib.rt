@@ -3,7 +3,7 @@
 #![tactic(auto)]
 
 ghost use Rattle.std.specs.Prelude.{◌≡◌, ℕ, ◌<◌, ◌≤◌, true, false, ◌⊎◌, List, ◌++◌, length, take};
-ghost use Rattle.paper.specs.Tree.{lent};
+ghost use Rattle.paper.specs.Tree.{lent_mut};
 ghost use Rattle.paper.specs.Program.{program};
 ghost use Rattle.office_serve.specs.Feeding.{Set};
 ghost use Rattle.office_session.specs.Sittings.{anew_of, emptied_of, sitting_start, ProgramMemory};
@@ -78,10 +78,10 @@ fn pump(
     chunk: &[u8],
     out: &mut [u8],
 ) -> Sitting
-    requires { Set (lent sit.table references coordinates nodes) line.old × (longest_answer ≤ length out.old) }
-    ensures ready { Set (lent result.table references.exit coordinates.exit nodes.exit) line.new }
-    ensures answered { (xs : List ℕ) → BetweenReads xs (lent sit.table references.entry coordinates.entry nodes.entry) line.old sit
-        → BetweenReads (xs ++ chunk.now) (lent result.table references.exit coordinates.exit nodes.exit) line.new result }
+    requires { Set (lent_mut sit.table references coordinates nodes) line.old × (longest_answer ≤ length out.old) }
+    ensures ready { Set (lent_mut result.table references.exit coordinates.exit nodes.exit) line.new }
+    ensures answered { (xs : List ℕ) → BetweenReads xs (lent_mut sit.table references.entry coordinates.entry nodes.entry) line.old sit
+        → BetweenReads (xs ++ chunk.now) (lent_mut result.table references.exit coordinates.exit nodes.exit) line.new result }
 {
     let mut n = anew(sit);
     while unread(n, chunk.len()) {
@@ -108,10 +108,10 @@ fn once(
     chunk: &mut [u8],
     out: &mut [u8],
 ) -> Pause
-    requires { Set (lent sit.table references coordinates nodes) line.old × (longest_answer ≤ length out.old) }
-    ensures ready { Set (lent result.sitting.table references.exit coordinates.exit nodes.exit) line.new }
-    ensures answered { (xs : List ℕ) → BetweenReads xs (lent sit.table references.entry coordinates.entry nodes.entry) line.old sit
-        → BetweenReads (xs ++ take result.got chunk.new) (lent result.sitting.table references.exit coordinates.exit nodes.exit) line.new result.sitting }
+    requires { Set (lent_mut sit.table references coordinates nodes) line.old × (longest_answer ≤ length out.old) }
+    ensures ready { Set (lent_mut result.sitting.table references.exit coordinates.exit nodes.exit) line.new }
+    ensures answered { (xs : List ℕ) → BetweenReads xs (lent_mut sit.table references.entry coordinates.entry nodes.entry) line.old sit
+        → BetweenReads (xs ++ take result.got chunk.new) (lent_mut result.sitting.table references.exit coordinates.exit nodes.exit) line.new result.sitting }
 {
     let result = libc::read(STDIN_FILENO, chunk);
     let n = io::count(result, chunk);
@@ -169,8 +169,8 @@ fn end_input(
     line: &[u8],
     out: &mut [u8],
 ) -> usize
-    requires { Set (lent sit.table references coordinates nodes) line.now × (longest_answer ≤ length out.old) }
-    ensures { (xs : List ℕ) → (a : BetweenReads xs (lent sit.table references.entry coordinates.entry nodes.entry) line.now sit)
+    requires { Set (lent_mut sit.table references coordinates nodes) line.now × (longest_answer ≤ length out.old) }
+    ensures { (xs : List ℕ) → (a : BetweenReads xs (lent_mut sit.table references.entry coordinates.entry nodes.entry) line.now sit)
         → a.within.handed_over ++ take result out.new ≡ program xs }
 {
     let f = anew(sit);

@@ -1,6 +1,6 @@
 -- Section 3 of the rules: the tree. Here claims j and k are `e j k` apart. Definitions only.
 use Rattle.std.specs.Prelude.{ℕ, zero, suc, ◌+◌, ◌-◌, ◌*◌, max, Bool, true, cond, ◌&&◌, List, [], ◌∷◌, ◌++◌, leb, eqb, ℤ, length, get_or, set, drop, replicate}
-use Rattle.std.specs.Borrow.{Bor}
+use Rattle.std.specs.Borrow.{Bor, MutBor}
 use Rattle.paper.specs.declared.tables.Table.{Table}
 use Rattle.paper.specs.Points.{measure_of, distance, in_range, Claim, point}
 use Rattle.paper.specs.Limits.{most_claims}
@@ -76,6 +76,10 @@ store t references coordinates nodes = record { table = t; references = referenc
 abbrev pub lent : Table → Bor (List ℕ) → Bor (List ℤ) → Bor (List ℕ) → Store
 lent t references coordinates nodes = store t references.now coordinates.now nodes.now
 
+-- the same where the call may write to it
+abbrev pub lent_mut : Table → MutBor (List ℕ) → MutBor (List ℤ) → MutBor (List ℕ) → Store
+lent_mut t references coordinates nodes = store t references.now coordinates.now nodes.now
+
 -- the lent memory alone
 pub record Memory : Type 0 where
   pub references : List ℕ
@@ -85,7 +89,7 @@ pub record Memory : Type 0 where
 abbrev pub memory : List ℕ → List ℤ → List ℕ → Memory
 memory references coordinates nodes = record { references = references; coordinates = coordinates; nodes = nodes }
 
-abbrev pub lent_memory : Bor (List ℕ) → Bor (List ℤ) → Bor (List ℕ) → Memory
+abbrev pub lent_memory : MutBor (List ℕ) → MutBor (List ℤ) → MutBor (List ℕ) → Memory
 lent_memory references coordinates nodes = memory references.now coordinates.now nodes.now
 
 -- [1.4] how far claims j and k are apart, by measure and d, where the coordinates stand one after another

@@ -2,7 +2,7 @@
 ghost use Rattle.std.specs.Prelude.{◌≡◌, ◌+◌, ◌*◌, ◌≤◌, length, drop};
 ghost use Rattle.std.proofs.Math.Seq.{paste};
 ghost use Rattle.paper.specs.Points.{point};
-ghost use Rattle.paper.specs.Tree.{lent};
+ghost use Rattle.paper.specs.Tree.{lent_mut};
 ghost use Rattle.paper.specs.Runs.{added, added_run};
 ghost use Rattle.tree.specs.Soundness.{Roomy};
 
@@ -32,9 +32,9 @@ pub fn add(
     points: &[i32],
     i: usize,
 ) -> Table
-    requires { Roomy (lent t references coordinates nodes) 1 × (i * t.d + t.d ≤ length points.now) }
-    ensures { lent result references.exit coordinates.exit nodes.exit
-        ≡ added (lent t references.entry coordinates.entry nodes.entry) reference (point t.d points.now i) }
+    requires { Roomy (lent_mut t references coordinates nodes) 1 × (i * t.d + t.d ≤ length points.now) }
+    ensures { lent_mut result references.exit coordinates.exit nodes.exit
+        ≡ added (lent_mut t references.entry coordinates.entry nodes.entry) reference (point t.d points.now i) }
 {
     let k = t.count;
     let d = t.d;
@@ -60,9 +60,9 @@ pub fn add_run(
     given: &[u32],
     points: &[i32],
 ) -> Table
-    requires { Roomy (lent t references coordinates nodes) (length given.now) × (length points.now ≡ t.d * length given.now) }
-    ensures { lent result references.exit coordinates.exit nodes.exit
-        ≡ added_run given.now points.now (length given.now) (lent t references.entry coordinates.entry nodes.entry) }
+    requires { Roomy (lent_mut t references coordinates nodes) (length given.now) × (length points.now ≡ t.d * length given.now) }
+    ensures { lent_mut result references.exit coordinates.exit nodes.exit
+        ≡ added_run given.now points.now (length given.now) (lent_mut t references.entry coordinates.entry nodes.entry) }
 {
     let mut held = t;
     let mut i = 0;
