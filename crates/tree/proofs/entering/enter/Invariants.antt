@@ -19,10 +19,3 @@ invariant-loop-nodes l = EnteringGoing (apart l.measure l.d l.coordinates) l.use
 
 abbrev pub decreases-loop-nodes : goal.decreases-loop-nodes
 decreases-loop-nodes l = l.used - l.m
-
--- INV? -- once the two distances are known: the side to go below
-abbrev Below : tie.After-struct-known invariant-loop decreases-loop → ℕ → ℕ → Type 0
-Below c =
-    let a = c.before.before.before.before.before.before.before.before.before.before.before.before.args in
-    let l = c.before.before.before.before.before.before.before.before.before.loop in
-    GoingBelow (apart a.measure a.d a.coordinates.now) a.used a.k a.nodes.now l.nodes l.m

@@ -7,5 +7,5 @@ use Rattle.tree.proofs.entering.widen.Goals as goal
 
 pub returns : goal.returns
 returns c =
-    let a = c.before.before.before.before.before.before.before.before.args in
+    let a = c.args in
     c.store.ensures ∙ ap (λ (v : ℕ). put_field a.nodes.now a.m (2 + a.s) v) (rw c.field-far.ensures at c.larger.ensures)

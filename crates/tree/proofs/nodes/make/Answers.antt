@@ -24,10 +24,10 @@ pub loop-f-init : goal.loop-f-init
 loop-f-init c = (omega arith, refl, none _ _)
 
 pub store-requires-in-loop-f : goal.store-requires-in-loop-f
-store-requires-in-loop-f c = let v = c.loop-f.invariant in let s = c.store.auto.0 in omega (arith, v.1)
+store-requires-in-loop-f c = let v = c.loop-f.invariant in let s = c.store.auto.nodes in omega (arith, v.1)
 
 pub loop-f-preserved : goal.loop-f-preserved
-loop-f-preserved c = let v = c.loop-f.invariant in (omega arith, c.store-in-loop-f.auto.0 ∙ v.1, more _ _ _ _ _ v.2 c.store-in-loop-f.ensures)
+loop-f-preserved c = let v = c.loop-f.invariant in (omega arith, c.store-in-loop-f.auto.nodes ∙ v.1, more _ _ _ _ _ v.2 c.store-in-loop-f.ensures)
 
 pub returns : goal.returns
 returns c = let v = c.loop-f.invariant in whole _ _ _ _ _ _ c.store.ensures v.2 (omega arith)

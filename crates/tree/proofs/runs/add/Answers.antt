@@ -19,13 +19,13 @@ pub copy-requires : goal.copy-requires
 copy-requires c = (inside _ c.requires.0, c.requires.1)
 
 pub enter-used-requires : goal.enter-used-requires
-enter-used-requires c = let p = c.before.before.before.before.before.before.before.before.before.before.before.requires.0 in good_ready _ p.good (omega (arith, p.free)) _ c.UNKNOWN-copy.auto.0
+enter-used-requires c = let p = c.requires.0 in good_ready _ p.good (omega (arith, p.free)) _ c.copy.auto.coordinates
 
 pub returns : goal.returns
 returns c =
-    let args = c.before.before.before.before.before.before.before.before.before.before.before.before.before.before.args in
-    let put-reference = c.UNKNOWN-put-reference in
-    let copy = c.UNKNOWN-copy in
+    let args = c.args in
+    let put-reference = c.put_reference in
+    let copy = c.copy in
     let enter = c.enter-used in
     let a = args in
     add_way (store a.t a.references.now a.coordinates.now a.nodes.now) _ _ _ _ _ _ _ put-reference.ensures copy.ensures enter.ensures.nodes enter.ensures.used

@@ -12,16 +12,7 @@ use Rattle.tree.specs.Soundness.{Roomy}
 use Rattle.tree.proofs.Adding.{in_run, run_start, run_next, roomy_next, roomy_less, added_kept}
 use Rattle.tree.proofs.ClaimsInMemory.{point_length}
 use Rattle.tree.proofs.runs.add_run.Goals as goal
-
--- after i claims of the run
-record Running (given : List ℕ) (points : List ℤ) (s x : Store) (i : ℕ) : Type 0 where
-  pub low : i ≤ length given
-  pub roomy : Roomy x (length given - i)
-  pub d : x.table.d ≡ s.table.d
-  pub same : x ≡ added_run given points i s
-  pub references : length x.references ≡ length s.references
-  pub coordinates : length x.coordinates ≡ length s.coordinates
-  pub nodes : length x.nodes ≡ length s.nodes
+use Rattle.tree.proofs.runs.add_run.Invariants.{Running}
 
 -- the next claim's place is in the run
 module _ (given : List ℕ) (points : List ℤ) (s x : Store) (i : ℕ) (v : Running given points s x i) (whole : length points ≡ s.table.d * length given) (h : i < length given) where
@@ -71,7 +62,7 @@ loop-i-preserved c =
     let loop-test = c.loop-i-test in
     let add = c.add-held in
     let k = add.auto in
-    again _ _ _ _ _ loop.invariant pre.1 loop-test.true _ add.ensures k.1.0 k.1.1.0 k.1.1.1.0
+    again _ _ _ _ _ loop.invariant pre.1 loop-test.true _ add.ensures k.references k.coordinates k.nodes
 
 pub returns : goal.returns
 returns c =

@@ -19,7 +19,7 @@ enter-used-requires c =
 pub loop-k-preserved : goal.loop-k-preserved
 loop-k-preserved c =
     let l = c.loop-k in
-    (omega arith, c.enter-used.auto.0 ∙ l.invariant.1, rebuild_next _ _ _ _ _ _ _ l.invariant.2 _ _ c.enter-used.ensures.nodes c.enter-used.ensures.used)
+    (omega arith, c.enter-used.auto.nodes ∙ l.invariant.1, rebuild_next _ _ _ _ _ _ _ l.invariant.2 _ _ c.enter-used.ensures.nodes c.enter-used.ensures.used)
 
 pub returns : goal.returns
 returns c = let l = c.loop-k in let q : l.k ≡ c.args.n = omega arith in rw q at l.invariant.2
