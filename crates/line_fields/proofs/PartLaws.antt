@@ -4,7 +4,7 @@ use Prim.Native.Nat.{ℕ, zero, suc, ◌+◌, ◌-◌, ◌*◌, ◌≤◌, ◌<�
 use native.Mathlib.Numerals.{add-one}
 use native.Mathlib.Omega.{arith}
 use mathlib.Core.Path.{◌≡◌, refl, sym, ap, ◌∙◌}
-use mathlib.Core.Bool.{Bool, true, false, ◌&&◌, ◌||◌, not}
+use mathlib.Core.Bool.{Bool, true, false, ◌&&◌, ◌||◌}
 use mathlib.Core.List.{List, [], ◌∷◌, ◌++◌, append_assoc}
 use lib.ListN.{length, get_or, drop, set, replicate, length-append}
 use lib.Seq.{drop-cons, drop-drop, set_at}
@@ -17,7 +17,7 @@ use Rattle.line_digits.specs.FrameBytes.{overlaid, HasBytes}
 use Rattle.line_digits.proofs.NumbersAndFrames.{Bytes, bytes_append, bytes_be, length_be}
 use Rattle.line_digits.proofs.WritingOver.{over_append}
 use Rattle.line_digits.proofs.LinesAndFrames.{and_both}
-use borrow.Author.Tests.{le-leb, eqb-true, eq-eqb, not-false}
+use borrow.Author.Tests.{le-leb, eqb-true, eq-eqb}
 use Rattle.paper.specs.Points.{in_range, InRange}
 use Rattle.paper.specs.Orders.{Query}
 use Rattle.paper.proofs.Ranges.{range_is}
@@ -159,9 +159,9 @@ laid_then k n f t = go (head_ok k f) (eqb (length f) (n + 4 * num 1 (drop 6 f)))
     go false b = refl
 
 -- a line that the layout's test let through, by the d that was read from it
-module _ (k n : ℕ) (l : List ℕ) (s : is_line l ≡ true) (b : Bool) (be : b ≡ laid_out k n (frame_of l)) (h : not b ≡ false) (d : ℕ) (de : d ≡ num 1 (drop 6 (frame_of l))) where
+module _ (k n : ℕ) (l : List ℕ) (s : is_line l ≡ true) (b : Bool) (be : b ≡ laid_out k n (frame_of l)) (h : b ≡ true) (d : ℕ) (de : d ≡ num 1 (drop 6 (frame_of l))) where
   laid : (HeadOk k (frame_of l)) × (length (frame_of l) ≡ n + 4 * num 1 (drop 6 (frame_of l)))
-  laid = laid_is k n (frame_of l) (sym be ∙ not-false b h)
+  laid = laid_is k n (frame_of l) (sym be ∙ h)
 
   pub laid_narrow : d ≤ most_coordinates
   laid_narrow = omega (arith, laid.0.range.narrow)

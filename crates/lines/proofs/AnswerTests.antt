@@ -2,12 +2,12 @@
 use Prim.Native.Nat.{ℕ, ◌+◌, ◌-◌, ◌*◌, ◌≤◌}
 use native.Mathlib.Omega.{arith}
 use mathlib.Core.Path.{◌≡◌, sym, ◌∙◌}
-use mathlib.Core.Bool.{Bool, true, false, ◌&&◌, not}
+use mathlib.Core.Bool.{Bool, true, false, ◌&&◌}
 use mathlib.Core.List.{List, ◌++◌}
 use lib.ListN.{length, drop, length-append}
 use lib.Seq.{drop-drop}
 use lib.Dec.{leb, eqb}
-use borrow.Author.Tests.{leb-true, eqb-true, not-true, not-false}
+use borrow.Author.Tests.{leb-true, eqb-true}
 use Rattle.paper.specs.Frames.{be, num, frame_of, is_line}
 use Rattle.paper.specs.Fields.{front, scope_in, scope_ok, item_bytes, item_numbers, item_slots, numbers_ok, references_ok}
 use Rattle.paper.specs.Orders.{Query}
@@ -134,11 +134,11 @@ answer_rule k f =
 
 -- the ways through the reader of a sound line
 module _ (l : List ℕ) (s : is_line l ≡ true) (b : Bool) (be : b ≡ laid_out (answer_kind (answer_order (num 1 (frame_of l)))) (30 + 14 * count_in (frame_of l)) (frame_of l)) where
-  pub unlaid_answer : not b ≡ true → no_answer 10 ≡ read_as_answer l
+  pub unlaid_answer : b ≡ false → no_answer 10 ≡ read_as_answer l
   unfolding read_as_answer is_answer
-  unlaid_answer h = sym (reads_10 is_answer (λ f. an_answer (answer_at f)) no_answer l s (answer_rule _ (frame_of l) ∙ rw (sym be ∙ not-true b h)))
+  unlaid_answer h = sym (reads_10 is_answer (λ f. an_answer (answer_at f)) no_answer l s (answer_rule _ (frame_of l) ∙ rw (sym be ∙ h)))
 
-  module _ (h : not b ≡ false) (d : ℕ) (de : d ≡ num 1 (drop 6 (frame_of l))) (at : ℕ) (ate : at ≡ 28 + 4 * d) (n : ℕ) (ne : n ≡ num 1 (drop (at + 1) (frame_of l))) where
+  module _ (h : b ≡ true) (d : ℕ) (de : d ≡ num 1 (drop 6 (frame_of l))) (at : ℕ) (ate : at ≡ 28 + 4 * d) (n : ℕ) (ne : n ≡ num 1 (drop (at + 1) (frame_of l))) where
     place : at ≡ 28 + 4 * num 1 (drop 6 (frame_of l))
     place = omega arith
 
@@ -155,23 +155,23 @@ module _ (l : List ℕ) (s : is_line l ≡ true) (b : Bool) (be : b ≡ laid_out
     module _ (p : Scope) (pe : p ≡ scope_in (drop (at - 21) (frame_of l))) (last : ℕ) (le : last ≡ num 1 (drop at (frame_of l))) (t : Bool) (te : t ≡ answer_ranges p last n) where
       tested : is_answer (frame_of l) ≡ t && numbers_ok (item_numbers n (drop (at + 2) (frame_of l)))
       unfolding is_answer
-      tested = answer_rule _ (frame_of l) ∙ rw (sym be ∙ not-false b h, te, pe, le, counted, reach_at, last_at (frame_of l) at place, items_from (frame_of l) at place)
+      tested = answer_rule _ (frame_of l) ∙ rw (sym be ∙ h, te, pe, le, counted, reach_at, last_at (frame_of l) at place, items_from (frame_of l) at place)
 
-      pub answer_out_lem : not t ≡ true → no_answer 10 ≡ read_as_answer l
+      pub answer_out_lem : t ≡ false → no_answer 10 ≡ read_as_answer l
       unfolding read_as_answer
-      answer_out_lem q = sym (reads_10 is_answer (λ f. an_answer (answer_at f)) no_answer l s (tested ∙ rw (not-true t q)))
+      answer_out_lem q = sym (reads_10 is_answer (λ f. an_answer (answer_at f)) no_answer l s (tested ∙ rw q))
 
-      module _ (v : not t ≡ false) (u : Bool) (ue : u ≡ numbers_ok (item_numbers n (drop (at + 2) (frame_of l)))) where
+      module _ (v : t ≡ true) (u : Bool) (ue : u ≡ numbers_ok (item_numbers n (drop (at + 2) (frame_of l)))) where
         numbered : is_answer (frame_of l) ≡ u
-        numbered = tested ∙ rw (not-false t v, ue)
+        numbered = tested ∙ rw (v, ue)
 
-        pub items_out : not u ≡ true → no_answer 10 ≡ read_as_answer l
+        pub items_out : u ≡ false → no_answer 10 ≡ read_as_answer l
         unfolding read_as_answer
-        items_out z = sym (reads_10 is_answer (λ f. an_answer (answer_at f)) no_answer l s (numbered ∙ not-true u z))
+        items_out z = sym (reads_10 is_answer (λ f. an_answer (answer_at f)) no_answer l s (numbered ∙ z))
 
-        pub answer_read_lem : not u ≡ false → (x : queries.Query) → x ≡ query_at (answer_order (num 1 (frame_of l))) (frame_of l) → (ns : List ℕ) → ns ≡ item_slots n (item_numbers n (drop (at + 2) (frame_of l)))
+        pub answer_read_lem : u ≡ true → (x : queries.Query) → x ≡ query_at (answer_order (num 1 (frame_of l))) (frame_of l) → (ns : List ℕ) → ns ≡ item_slots n (item_numbers n (drop (at + 2) (frame_of l)))
             → record { refusal = 0; answer = record { last = last; count = n; scope = p; query = x; items = ns } } ≡ read_as_answer l
         unfolding read_as_answer an_answer
         answer_read_lem z x xe ns q =
-            sym (reads is_answer (λ f. an_answer (answer_at f)) no_answer l s (numbered ∙ not-false u z)
+            sym (reads is_answer (λ f. an_answer (answer_at f)) no_answer l s (numbered ∙ z)
             ∙ (unfold answer_at in rw (xe, q, pe, le, counted, reach_at, last_at (frame_of l) at place, items_from (frame_of l) at place)))

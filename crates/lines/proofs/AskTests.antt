@@ -2,12 +2,12 @@
 use Prim.Native.Nat.{ℕ, ◌+◌, ◌*◌, ◌≤◌}
 use native.Mathlib.Omega.{arith}
 use mathlib.Core.Path.{◌≡◌, refl, sym, ap, ◌∙◌}
-use mathlib.Core.Bool.{Bool, true, false, ◌&&◌, ◌||◌, not}
+use mathlib.Core.Bool.{Bool, true, false, ◌&&◌, ◌||◌}
 use mathlib.Core.List.{List}
 use lib.ListN.{length, drop, length-append}
 use lib.Seq.{drop-drop}
 use lib.Dec.{leb, eqb}
-use borrow.Author.Tests.{leb-true, eqb-true, eq-eqb, ne_eqb, not-true, not-false}
+use borrow.Author.Tests.{leb-true, eqb-true, eq-eqb, ne_eqb}
 use Rattle.paper.specs.Frames.{be, num, frame_of, is_line}
 use Rattle.paper.specs.Ends.{size_holds}
 use Rattle.paper.specs.Fields.{front, scope_in, scope_ok}
@@ -80,18 +80,18 @@ and_true false = refl
 -- the rules behind a scope that is in range, one after the other
 module _ (p : Scope) (s : ℕ) (e : scope_ok p ≡ true) where
   module _ (b : Bool) (be : b ≡ size_holds s) where
-    pub page_out : not b ≡ true → ask_ranges p s ≡ false
+    pub page_out : b ≡ false → ask_ranges p s ≡ false
     unfolding ask_ranges
-    page_out h = rw (e, sym be ∙ not-true b h) (and-false (eqb p.from 1 || eqb p.snapshot 0))
+    page_out h = rw (e, sym be ∙ h) (and-false (eqb p.from 1 || eqb p.snapshot 0))
 
-    module _ (h : not b ≡ false) where
+    module _ (h : b ≡ true) where
       pub placed : p.from ≡ 1 → ask_ranges p s ≡ true
       unfolding ask_ranges
-      placed q = rw (e, sym be ∙ not-false b h, eq-eqb p.from 1 q)
+      placed q = rw (e, sym be ∙ h, eq-eqb p.from 1 q)
 
       pub unplaced : (p.from ≡ 1 → ⊥) → ask_ranges p s ≡ eqb p.snapshot 0
       unfolding ask_ranges
-      unplaced q = rw (e, sym be ∙ not-false b h, ne_eqb p.from 1 q) (and_true (eqb p.snapshot 0))
+      unplaced q = rw (e, sym be ∙ h, ne_eqb p.from 1 q) (and_true (eqb p.snapshot 0))
 
 -- the layout, and then the ranges
 pub ask_rule : (k : ℕ) (f : List ℕ) → ask_ok k f ≡ laid_out k 29 f && ask_ranges (scope_in (behind f)) (num 1 (drop 21 (behind f)))
@@ -102,11 +102,11 @@ ask_rule k f = laid_then k 29 f (ask_ranges (scope_in (behind f)) (num 1 (drop 2
 
 -- the ways through the reader of a sound line
 module _ (l : List ℕ) (s : is_line l ≡ true) (b : Bool) (be : b ≡ laid_out (ask_kind (ask_order (num 1 (frame_of l)))) 29 (frame_of l)) where
-  pub unlaid_ask : not b ≡ true → no_ask 10 ≡ read_as_ask l
+  pub unlaid_ask : b ≡ false → no_ask 10 ≡ read_as_ask l
   unfolding read_as_ask is_ask
-  unlaid_ask h = sym (reads_10 is_ask (λ f. an_ask (ask_at f)) no_ask l s (ask_rule _ (frame_of l) ∙ rw (sym be ∙ not-true b h)))
+  unlaid_ask h = sym (reads_10 is_ask (λ f. an_ask (ask_at f)) no_ask l s (ask_rule _ (frame_of l) ∙ rw (sym be ∙ h)))
 
-  module _ (h : not b ≡ false) (d : ℕ) (de : d ≡ num 1 (drop 6 (frame_of l))) (at : ℕ) (ate : at ≡ 7 + 4 * d) (p : Scope) (pe : p ≡ scope_in (drop at (frame_of l)))
+  module _ (h : b ≡ true) (d : ℕ) (de : d ≡ num 1 (drop 6 (frame_of l))) (at : ℕ) (ate : at ≡ 7 + 4 * d) (p : Scope) (pe : p ≡ scope_in (drop at (frame_of l)))
       (n : ℕ) (ne : n ≡ num 1 (drop (at + 21) (frame_of l))) (t : Bool) (te : t ≡ ask_ranges p n) where
     reach_at : drop at (frame_of l) ≡ behind (frame_of l)
     reach_at = rw (ate, de) (sym (behind_eq (frame_of l)))
@@ -116,13 +116,13 @@ module _ (l : List ℕ) (s : is_line l ≡ true) (b : Bool) (be : b ≡ laid_out
 
     ranged : is_ask (frame_of l) ≡ t
     unfolding is_ask
-    ranged = ask_rule _ (frame_of l) ∙ rw (sym be ∙ not-false b h, te, pe, ne, reach_at, size_at)
+    ranged = ask_rule _ (frame_of l) ∙ rw (sym be ∙ h, te, pe, ne, reach_at, size_at)
 
-    pub ask_out_lem : not t ≡ true → no_ask 10 ≡ read_as_ask l
+    pub ask_out_lem : t ≡ false → no_ask 10 ≡ read_as_ask l
     unfolding read_as_ask
-    ask_out_lem q = sym (reads_10 is_ask (λ f. an_ask (ask_at f)) no_ask l s (ranged ∙ not-true t q))
+    ask_out_lem q = sym (reads_10 is_ask (λ f. an_ask (ask_at f)) no_ask l s (ranged ∙ q))
 
-    pub ask_read_lem : not t ≡ false → (x : queries.Query) → x ≡ query_at (ask_order (num 1 (frame_of l))) (frame_of l)
+    pub ask_read_lem : t ≡ true → (x : queries.Query) → x ≡ query_at (ask_order (num 1 (frame_of l))) (frame_of l)
         → record { refusal = 0; ask = record { query = x; scope = p; size = n } } ≡ read_as_ask l
     unfolding read_as_ask an_ask
-    ask_read_lem q x xe = sym (reads is_ask (λ f. an_ask (ask_at f)) no_ask l s (ranged ∙ not-false t q) ∙ (unfold ask_at in rw (xe, pe, ne, reach_at, size_at)))
+    ask_read_lem q x xe = sym (reads is_ask (λ f. an_ask (ask_at f)) no_ask l s (ranged ∙ q) ∙ (unfold ask_at in rw (xe, pe, ne, reach_at, size_at)))

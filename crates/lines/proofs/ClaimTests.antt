@@ -2,12 +2,12 @@
 use Prim.Native.Nat.{ℕ, ◌+◌, ◌*◌}
 use native.Mathlib.Omega.{arith}
 use mathlib.Core.Path.{◌≡◌, sym, ap, ◌∙◌}
-use mathlib.Core.Bool.{Bool, true, false, not}
+use mathlib.Core.Bool.{Bool, true, false}
 use mathlib.Core.List.{List, ◌++◌}
 use lib.ListN.{length, drop, length-append}
 use lib.Dec.{eqb}
 use lib.IntN.{ℤ}
-use borrow.Author.Tests.{eqb-true, not-true, not-false}
+use borrow.Author.Tests.{eqb-true}
 use Rattle.paper.specs.Frames.{be, num, frame_of, is_line}
 use Rattle.paper.specs.Points.{in_range, InRange}
 use Rattle.paper.proofs.Ranges.{range_is}
@@ -59,10 +59,10 @@ module _ (l : List ℕ) (s : is_line l ≡ true) (b : Bool) (be : b ≡ laid_out
   unfolding claim_ok laid_out
   layout = sym be
 
-  pub unlaid_claim : not b ≡ true → no_claim 10 ≡ read_as_claim l
+  pub unlaid_claim : b ≡ false → no_claim 10 ≡ read_as_claim l
   unfolding read_as_claim
-  unlaid_claim h = sym (reads_10 claim_ok (λ f. a_claim (claim_at f)) no_claim l s (layout ∙ not-true b h))
+  unlaid_claim h = sym (reads_10 claim_ok (λ f. a_claim (claim_at f)) no_claim l s (layout ∙ h))
 
-  pub claim_read_lem : not b ≡ false → (c : ClaimLine) → c ≡ claim_at (frame_of l) → record { refusal = 0; claim = c } ≡ read_as_claim l
+  pub claim_read_lem : b ≡ true → (c : ClaimLine) → c ≡ claim_at (frame_of l) → record { refusal = 0; claim = c } ≡ read_as_claim l
   unfolding read_as_claim a_claim
-  claim_read_lem h c e = ap a_claim e ∙ sym (reads claim_ok (λ f. a_claim (claim_at f)) no_claim l s (layout ∙ not-false b h))
+  claim_read_lem h c e = ap a_claim e ∙ sym (reads claim_ok (λ f. a_claim (claim_at f)) no_claim l s (layout ∙ h))
