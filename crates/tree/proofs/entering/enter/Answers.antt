@@ -1,18 +1,15 @@
 -- `tree::entering::enter` meets its contract: the loop goes down as `entered_from` does. Assumes nothing.
-use borrow.Author.Rules.{rules}
-use Prim.Native.Nat.{ℕ, ◌+◌, ◌-◌, ◌*◌, ◌<◌, ◌≤◌, ◌^◌}
-use mathlib.Core.Path.{◌≡◌, sym, ap, ◌∙◌}
+use Prim.Native.Nat.{ℕ, ◌+◌, ◌*◌, ◌<◌}
+use mathlib.Core.Path.{sym, ap, ◌∙◌}
 use mathlib.Core.List.{List}
 use native.Mathlib.Omega.{arith}
 use lib.Dec.{lit<}
 use lib.IntN.{ℤ}
 use lib.ListN.{length}
-use mir.Syntax.{w64}
-use mir.Val.{Fits}
-use Rattle.paper.specs.Tree.{Grown, field_at, new_node, apart}
+use Rattle.paper.specs.Tree.{Grown, new_node, apart}
 use Rattle.tree.specs.BuiltNodes.{Enterable}
 use Rattle.tree.proofs.PointsInMemory.{located_at}
-use Rattle.tree.proofs.OneEntering.{EnteringGoing, GoingBelow, going_start, entered_first, below_left, below_right, going_claim, going_two, going_stop, going_new, going_less, going_down}
+use Rattle.tree.proofs.OneEntering.{EnteringGoing, going_start, entered_first, below_left, below_right, going_claim, going_two, going_stop, going_new, going_less, going_down}
 use Rattle.tree.proofs.entering.enter.Goals as goal
 
 -- at each turn: the node that it is at and the next one not in use stand in the nodes

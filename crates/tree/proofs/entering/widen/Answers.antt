@@ -1,5 +1,4 @@
 -- `tree::entering::widen` meets its contract. Assumes nothing.
-use borrow.Author.Rules.{rules}
 use Prim.Native.Nat.{ℕ, ◌+◌}
 use mathlib.Core.Path.{ap, ◌∙◌}
 use Rattle.paper.specs.Tree.{put_field}

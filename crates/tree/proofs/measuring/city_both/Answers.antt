@@ -1,7 +1,6 @@
 -- `tree::measuring::city_both` meets its contract. Assumes nothing.
 use native.Mathlib.Omega.{arith}
 use Rattle.measure.proofs.Pairs.{of_size, of_none}
-use borrow.Author.Rules.{rules}
 use Rattle.tree.proofs.measuring.city_both.Goals as goal
 
 pub returns-then-d-eq2 : goal.returns-then-d-eq2

@@ -1,6 +1,5 @@
 -- `tree::measuring::from_both` meets its contract. Assumes nothing.
 use Rattle.measure.proofs.Pairs.{of_measure, named_city, named_maximum, named_hamming}
-use borrow.Author.Rules.{rules}
 use Rattle.tree.proofs.measuring.from_both.Goals as goal
 
 pub returns-then-measure-eq1 : goal.returns-then-measure-eq1

@@ -1,7 +1,6 @@
 -- `tree::measuring::hamming_both` meets its contract. Assumes nothing.
 use native.Mathlib.Omega.{arith}
 use Rattle.measure.proofs.Pairs.{of_size, of_none}
-use borrow.Author.Rules.{rules}
 use Rattle.tree.proofs.measuring.hamming_both.Goals as goal
 
 pub returns-then-d-eq2 : goal.returns-then-d-eq2

@@ -1,10 +1,9 @@
 -- `tree::nodes::make` meets its contract: a store, and one for each further field. Assumes nothing.
-use Prim.Native.Nat.{ℕ, ◌+◌, ◌-◌, ◌≤◌}
+use Prim.Native.Nat.{ℕ, ◌+◌}
 use mathlib.Core.Path.{◌≡◌, refl, ap, ◌∙◌}
 use mathlib.Core.List.{List}
 use native.Mathlib.Omega.{arith}
 use native.Mathlib.Numerals.{add-one}
-use lib.ListN.{length}
 use Rattle.paper.specs.Tree.{put_field, cleared, new_node}
 use Rattle.tree.proofs.nodes.make.Goals as goal
 

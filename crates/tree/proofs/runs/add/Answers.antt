@@ -1,7 +1,6 @@
 -- `tree::runs::add` meets its contract. Assumes nothing.
 use Prim.Native.Nat.{◌+◌, ◌*◌, ◌≤◌}
 use native.Mathlib.Omega.{arith}
-use borrow.Author.Rules.{rules}
 use lib.ListN.{length}
 use Rattle.paper.specs.Tree.{Store, store}
 use Rattle.tree.specs.Soundness.{Roomy}

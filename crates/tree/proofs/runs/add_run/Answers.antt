@@ -6,9 +6,8 @@ use native.Mathlib.Omega.{arith}
 use lib.IntN.{ℤ}
 use lib.ListN.{length, get_or}
 use Rattle.paper.specs.Points.{point}
-use Rattle.paper.specs.Tree.{Store, store}
-use Rattle.paper.specs.Runs.{added, added_run}
-use Rattle.tree.specs.Soundness.{Roomy}
+use Rattle.paper.specs.Tree.{Store}
+use Rattle.paper.specs.Runs.{added}
 use Rattle.tree.proofs.Adding.{in_run, run_start, run_next, roomy_next, roomy_less, added_kept}
 use Rattle.tree.proofs.ClaimsInMemory.{point_length}
 use Rattle.tree.proofs.runs.add_run.Goals as goal

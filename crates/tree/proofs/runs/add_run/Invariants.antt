@@ -1,16 +1,12 @@
 -- `tree::runs::add_run` meets its contract. Assumes nothing.
-use Prim.Native.Nat.{ℕ, ◌+◌, ◌-◌, ◌*◌, ◌<◌, ◌≤◌}
-use mathlib.Core.Path.{◌≡◌, refl, ap, ◌∙◌}
+use Prim.Native.Nat.{ℕ, ◌-◌, ◌≤◌}
+use mathlib.Core.Path.{◌≡◌}
 use mathlib.Core.List.{List}
-use native.Mathlib.Omega.{arith}
 use lib.IntN.{ℤ}
-use lib.ListN.{length, get_or}
-use Rattle.paper.specs.Points.{point}
+use lib.ListN.{length}
 use Rattle.paper.specs.Tree.{Store, store}
-use Rattle.paper.specs.Runs.{added, added_run}
+use Rattle.paper.specs.Runs.{added_run}
 use Rattle.tree.specs.Soundness.{Roomy}
-use Rattle.tree.proofs.Adding.{in_run, run_start, run_next, roomy_next, roomy_less, added_kept}
-use Rattle.tree.proofs.ClaimsInMemory.{point_length}
 use Rattle.tree.proofs.runs.add_run.Given as goal
 
 -- after i claims of the run

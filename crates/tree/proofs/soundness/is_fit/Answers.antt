@@ -1,8 +1,7 @@
 -- `tree::soundness::is_fit` meets its contract. Assumes nothing.
 use mathlib.Core.Path.{sym, ◌∙◌}
 use native.Mathlib.Omega.{arith}
-use borrow.Author.Rules.{rules}
-use borrow.Author.Tests.{le-leb, lt-leb, not-true, not-false}
+use borrow.Author.Tests.{le-leb, lt-leb}
 use Rattle.paper.specs.Tree.{fits}
 use Rattle.paper.proofs.Ranges.{range_is}
 use Rattle.tree.proofs.TestedTables.{few_points}

@@ -1,9 +1,6 @@
 -- `tree::soundness::rebuild` meets its contract. Assumes nothing.
-use Prim.Native.Nat.{◌-◌, ◌≤◌}
 use mathlib.Core.Path.{◌≡◌, refl, ◌∙◌}
 use native.Mathlib.Omega.{arith}
-use lib.ListN.{length}
-use Rattle.paper.specs.Tree.{grown, built, apart}
 use Rattle.tree.proofs.TestedTables.{rebuild_start, rebuild_ready, rebuild_next}
 use Rattle.tree.proofs.soundness.rebuild.Goals as goal
 

@@ -1,10 +1,8 @@
 -- `tree::soundness::rebuild` meets its contract. Assumes nothing.
 use Prim.Native.Nat.{◌-◌, ◌≤◌}
-use mathlib.Core.Path.{◌≡◌, refl, ◌∙◌}
-use native.Mathlib.Omega.{arith}
+use mathlib.Core.Path.{◌≡◌}
 use lib.ListN.{length}
 use Rattle.paper.specs.Tree.{grown, built, apart}
-use Rattle.tree.proofs.TestedTables.{rebuild_start, rebuild_ready, rebuild_next}
 use Rattle.tree.proofs.soundness.rebuild.Given as goal
 
 abbrev pub invariant-loop-k : goal.invariant-loop-k

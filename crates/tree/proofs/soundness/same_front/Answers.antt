@@ -1,9 +1,7 @@
 -- `tree::soundness::same_front` meets its contract. Assumes nothing.
-use Prim.Native.Nat.{◌-◌, ◌<◌, ◌≤◌}
+use Prim.Native.Nat.{◌<◌}
 use mathlib.Core.Path.{◌≡◌, sym}
-use mathlib.Core.Bool.{true}
 use native.Mathlib.Omega.{arith}
-use Rattle.paper.specs.Tree.{same_front}
 use Rattle.tree.proofs.Front.{front_none, front_more, front_break}
 use Rattle.tree.proofs.soundness.same_front.Goals as goal
 

@@ -1,10 +1,8 @@
 -- `tree::soundness::same_front` meets its contract. Assumes nothing.
-use Prim.Native.Nat.{◌-◌, ◌<◌, ◌≤◌}
-use mathlib.Core.Path.{◌≡◌, sym}
+use Prim.Native.Nat.{◌-◌, ◌≤◌}
+use mathlib.Core.Path.{◌≡◌}
 use mathlib.Core.Bool.{true}
-use native.Mathlib.Omega.{arith}
 use Rattle.paper.specs.Tree.{same_front}
-use Rattle.tree.proofs.Front.{front_none, front_more, front_break}
 use Rattle.tree.proofs.soundness.same_front.Given as goal
 
 abbrev pub invariant-loop-i : goal.invariant-loop-i
