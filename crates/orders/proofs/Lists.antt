@@ -41,6 +41,7 @@ module _ {A : Type 0} where
   all_get_d P (x ∷ l) (suc i) d h p = all_get_d P l i d h.1 (omega arith)
 
   pub all_mem : (P : A → Type 0) (x : A) (l : List A) → All P l → Memᴰ x l → P x
+  all_mem P x [] h m = elim m [ ]
   all_mem P x (y ∷ l) h (Memᴰ.head e) = rw e h.0
   all_mem P x (y ∷ l) h (Memᴰ.tail m) = all_mem P x l h.1 m
 

@@ -117,6 +117,7 @@ first_take (suc size) (a ∷ l) h = refl
 
 pub first_some : (l : List Item) (a : Item) → Memᴰ a l → first_of l ≡ nothing → ⊥
 unfolding first_of
+first_some [] a m e = elim m [ ]
 first_some (b ∷ l) a m e = let z : ◌≡◌ {A = ℕ} 0 1 = cc in omega arith
 
 module _ (q : Query) (cs : List Claim) where

@@ -30,6 +30,7 @@ module _ (rank : ℕ → ℕ) (ok : ℕ → Bool) (n k : ℕ) (hn : n ≤ most_c
   pub insert_at : (s lo : ℕ) (l : List ℕ) (p : ℕ) → RisingClaims rank ok n s lo l → PositionIn rank l k p → (p < length l → get_or l p 0 ≡ k → ⊥)
       → insert_by rank k l ≡ take p l ++ (k ∷ drop p l)
   unfolding insert_by
+  insert_at zero lo (x ∷ l) p r g ne = elim r [ ]
   insert_at s lo [] zero none g ne = refl
   insert_at s lo [] (suc p) none g ne = absurd (omega (arith, g.few))
   insert_at (suc s) lo (x ∷ l) zero (more a b c d) g ne = rw (g.behind (omega arith), ne_eqb x k (ne (omega arith)))
@@ -43,6 +44,7 @@ module _ (rank : ℕ → ℕ) (ok : ℕ → Bool) (n k : ℕ) (hn : n ≤ most_c
   -- where it is already
   pub insert_same : (s lo : ℕ) (l : List ℕ) (p : ℕ) → RisingClaims rank ok n s lo l → p < length l → get_or l p 0 ≡ k → insert_by rank k l ≡ l
   unfolding insert_by
+  insert_same zero lo (x ∷ l) p r h e = elim r [ ]
   insert_same s lo [] p none h e = absurd (omega arith)
   insert_same (suc s) lo (x ∷ l) zero (more a b c d) h e = rw (e, self, eq-eqb k k refl)
     where

@@ -53,6 +53,8 @@ module _ (rank : ℕ → ℕ) where
   step x j s l l' (past h c) rec = past h (rec c)
 
   covered_some : (j s : ℕ) (l : List ℕ) → Covered rank j s l → 0 < s → 0 < length l
+  covered_some j zero (x ∷ l) c h = elim c [ ]
+  covered_some j (suc s) [] c h = elim c [ ]
   covered_some j zero [] full h = h
   covered_some j (suc s) (x ∷ l) there h = omega arith
   covered_some j (suc s) (x ∷ l) (past g c) h = omega arith
@@ -68,6 +70,7 @@ module _ (rank : ℕ → ℕ) where
 
   -- one less
   pub covered_less : (j s : ℕ) (l : List ℕ) → Covered rank j (suc s) (take (suc s) l) → Covered rank j s (take s l)
+  covered_less j (suc s) [] c = elim c [ ]
   covered_less j zero l c = full
   covered_less j (suc s) (x ∷ l) there = there
   covered_less j (suc s) (x ∷ l) (past h c) = past h (covered_less j s l c)
@@ -82,20 +85,24 @@ module _ (rank : ℕ → ℕ) where
 
 module _ (rank : ℕ → ℕ) (ok : ℕ → Bool) (n : ℕ) where
   pub rising_more : (s lo : ℕ) (l : List ℕ) → RisingClaims rank ok n s lo l → RisingClaims rank ok n (suc s) lo l
+  rising_more zero lo (k ∷ l) r = elim r [ ]
   rising_more s lo [] none = none
   rising_more (suc s) lo (k ∷ l) (more a b c d) = more a b c (rising_more s (key rank k + 1) l d)
 
   pub rising_take : (s t lo : ℕ) (l : List ℕ) → RisingClaims rank ok n t lo l → RisingClaims rank ok n s lo (take s l)
+  rising_take (suc s) zero lo (k ∷ l) r = elim r [ ]
   rising_take zero t lo l r = none
   rising_take (suc s) t lo [] none = none
   rising_take (suc s) (suc t) lo (k ∷ l) (more a b c d) = more a b c (rising_take s t (key rank k + 1) l d)
 
   pub rising_few : (s lo : ℕ) (l : List ℕ) → RisingClaims rank ok n s lo l → length l ≤ s
+  rising_few zero lo (k ∷ l) r = elim r [ ]
   rising_few s lo [] none = omega arith
   rising_few (suc s) lo (k ∷ l) (more a b c d) = let h = rising_few s (key rank k + 1) l d in omega arith
 
   -- the item at i
   pub rising_at : (s lo : ℕ) (l : List ℕ) (i : ℕ) → RisingClaims rank ok n s lo l → i < length l → (lo ≤ key rank (get_or l i 0)) × (get_or l i 0 < n)
+  rising_at zero lo (k ∷ l) i r h = elim r [ ]
   rising_at s lo [] i none h = absurd (omega arith)
   rising_at (suc s) lo (k ∷ l) zero (more a b c d) h = (a, b)
   rising_at (suc s) lo (k ∷ l) (suc i) (more a b c d) h =
@@ -103,6 +110,7 @@ module _ (rank : ℕ → ℕ) (ok : ℕ → Bool) (n : ℕ) where
 
   -- and it is admitted
   pub rising_ok : (s lo : ℕ) (l : List ℕ) (i : ℕ) → RisingClaims rank ok n s lo l → i < length l → ok (get_or l i 0) ≡ true
+  rising_ok zero lo (k ∷ l) i r h = elim r [ ]
   rising_ok s lo [] i none h = absurd (omega arith)
   rising_ok (suc s) lo (k ∷ l) zero (more a b c d) h = c
   rising_ok (suc s) lo (k ∷ l) (suc i) (more a b c d) h = rising_ok s (key rank k + 1) l i d (omega arith)
@@ -121,6 +129,7 @@ module _ (rank : ℕ → ℕ) (ok : ℕ → Bool) (n : ℕ) where
 
   -- the last is the greatest
   pub rising_last : (s lo : ℕ) (l : List ℕ) (i m : ℕ) → RisingClaims rank ok n s lo l → i ≤ m → m < length l → key rank (get_or l i 0) ≤ key rank (get_or l m 0)
+  rising_last zero lo (k ∷ l) i m r hi h = elim r [ ]
   rising_last s lo [] i m none hi h = absurd (omega arith)
   rising_last (suc s) lo (k ∷ l) zero zero (more a b c d) hi h = le_refl _
   rising_last (suc s) lo (k ∷ l) (suc i) zero (more a b c d) hi h = absurd (omega arith)
@@ -132,6 +141,7 @@ module _ (rank : ℕ → ℕ) (ok : ℕ → Bool) (n : ℕ) where
   module _ (k : ℕ) (hn : n ≤ most_claims) (hk : k < n) where
     pub insert_rising : (t lo : ℕ) (l : List ℕ) → lo ≤ key rank k → ok k ≡ true → RisingClaims rank ok n t lo l → RisingClaims rank ok n (suc t) lo (insert_by rank k l)
     unfolding insert_by
+    insert_rising zero lo (x ∷ l) hlo hok r = elim r [ ]
     insert_rising t lo [] hlo hok none = more hlo hk hok none
     insert_rising (suc t) lo (x ∷ l) hlo hok (more a b c d) =
         go (sooner rank x k) (eqb x k) refl refl (λ h. insert_rising t (key rank x + 1) l h hok d)
@@ -147,6 +157,7 @@ module _ (rank : ℕ → ℕ) (ok : ℕ → Bool) (n : ℕ) where
     -- the claim that was put is there, or everything kept comes before it
     pub insert_there : (s t lo : ℕ) (l : List ℕ) → RisingClaims rank ok n t lo l → Covered rank k s (take s (insert_by rank k l))
     unfolding insert_by
+    insert_there (suc s) zero lo (x ∷ l) r = elim r [ ]
     insert_there zero t lo l r = full
     insert_there (suc s) t lo [] none = there
     insert_there (suc s) (suc t) lo (x ∷ l) (more a b c d) = go (sooner rank x k) (eqb x k) refl refl (insert_there s t (key rank x + 1) l d)
@@ -160,6 +171,7 @@ module _ (rank : ℕ → ℕ) (ok : ℕ → Bool) (n : ℕ) where
     -- what was covered stays so
     pub insert_keeps : (j s t lo : ℕ) (l : List ℕ) → RisingClaims rank ok n t lo l → Covered rank j s (take s l) → Covered rank j s (take s (insert_by rank k l))
     unfolding insert_by
+    insert_keeps j (suc s) zero lo (x ∷ l) r h = elim r [ ]
     insert_keeps j zero t lo l r c = full
     insert_keeps j (suc s) t lo [] none c = absurd (let z = covered_some rank j (suc s) [] c (omega arith) in omega arith)
     insert_keeps j (suc s) (suc t) lo (x ∷ l) (more a b c d) h = go (sooner rank x k) (eqb x k) refl refl h (λ c. insert_keeps j s t (key rank x + 1) l d c)
@@ -203,6 +215,8 @@ module _ (rank : ℕ → ℕ) (ok : ℕ → Bool) (n : ℕ) where
   -- two lists that cover all claims from key lo on are the same
   pub same : (s lo : ℕ) (l r : List ℕ) → RisingClaims rank ok n s lo l → RisingClaims rank ok n s lo r
       → ((j : ℕ) → j < n → ok j ≡ true → lo ≤ key rank j → Covered rank j s l) → ((j : ℕ) → j < n → ok j ≡ true → lo ≤ key rank j → Covered rank j s r) → l ≡ r
+  same zero lo [] (y ∷ r) _ v cl cr = elim v [ ]
+  same zero lo (x ∷ l) r u _ cl cr = elim u [ ]
   same s lo [] [] none none cl cr = refl
   same (suc s) lo [] (y ∷ r) none (more a b c d) cl cr = absurd (let z = covered_some rank y (suc s) [] (cl y b c a) (omega arith) in omega arith)
   same (suc s) lo (x ∷ l) [] (more a b c d) none cl cr = absurd (let z = covered_some rank x (suc s) [] (cr x b c a) (omega arith) in omega arith)

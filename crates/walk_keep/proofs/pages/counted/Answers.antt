@@ -7,8 +7,7 @@ use native.Mathlib.Omega.{arith}
 use lib.ListN.{length, take, length-take}
 use borrow.Author.Tests.{le-leb, lt-leb}
 use Rattle.paper.specs.Orders.{Item, last_of, paged_of}
-use Rattle.walk_keep.proofs.pages.counted.Statement.{statement}
-use Rattle.walk_keep.proofs.pages.counted.Tie as tie
+use Rattle.walk_keep.proofs.pages.counted.Goals as goal
 
 module _ (size found : ℕ) (l : List Item) (looked : found ≡ length (take (size + 1) l)) where
   counted_more : size < found → record { count = size; last = false } ≡ paged_of size l
@@ -25,11 +24,8 @@ module _ (size found : ℕ) (l : List Item) (looked : found ≡ length (take (si
       let b = sym (le-leb (length l) size (omega (arith, looked, length-take (size + 1) l))) in
       λ i. record { count = n i; last = b i }
 
-returns : tie.Need-returns
-returns c l looked = counted_more _ _ l looked c.if1.true
+pub returns-then-size-found : goal.returns-then-size-found
+returns-then-size-found c l looked = counted_more _ _ l looked c.if-size-found.true
 
-returns-2 : tie.Need-returns-2
-returns-2 c l looked = counted_all _ _ l looked c.if1.false
-
-pub counted_spec : {M : Type 1} → statement M
-counted_spec = tie.close (tie.spec returns returns-2)
+pub returns : goal.returns
+returns c l looked = counted_all _ _ l looked c.if-size-found.false
