@@ -1,17 +1,15 @@
 -- A run that fits by its claims fits by its nodes: why no call has a refusal for nodes. Assumes nothing.
 use Prim.Native.Nat.{ℕ, zero, suc, ◌+◌, ◌*◌, ◌≤◌}
-use mathlib.Core.Path.{◌≡◌, refl}
+use mathlib.Core.Path.{◌≡◌}
 use mathlib.Core.Bool.{Bool, true, false, cond, ◌&&◌}
 use mathlib.Core.List.{List}
 use native.Mathlib.Omega.{arith}
 use native.Mathlib.Nat.{le_refl}
 use lib.Dec.{leb, eqb}
 use lib.ListN.{replicate}
-use borrow.Author.Tests.{leb-true, le-leb, eqb-true}
+use borrow.Author.Tests.{eqb-true}
 use Rattle.paper.specs.Tree.{Grown, field_at, near_side, entered_from, entered, built, afresh, Store, apart_in, same_front, sound}
-use Rattle.paper.specs.Outcomes.{Outcome, must}
 use Rattle.paper.proofs.Tests.{and_first, and_second}
-use Rattle.paper.proofs.Outcomes.{must_go}
 
 -- a bound of both is one of either
 either : (b : Bool) (x y : Grown) (n : ℕ) → x.used ≤ n → y.used ≤ n → (cond b x y).used ≤ n
@@ -53,14 +51,3 @@ module _ (s : Store) (well : sound s ≡ true) where
   -- [8.4] where the capacity leaves a claim free for each of a run, it leaves a node free for each
   pub a_node_is_free : (n : ℕ) → s.table.count + n ≤ s.table.capacity → s.table.used + n ≤ s.table.capacity
   a_node_is_free n room = omega (arith, no_more_nodes_than_claims, room)
-
-  -- so behind the test of claims a test of nodes, under whatever number, refuses nothing
-  pub nodes_need_no_test : {A : Type 0} (n r : ℕ) (x : Outcome A)
-      → must (leb (s.table.count + n) s.table.capacity) 3 (must (leb (s.table.used + n) s.table.capacity) r x)
-      ≡ must (leb (s.table.count + n) s.table.capacity) 3 x
-  nodes_need_no_test n r x = go (leb (s.table.count + n) s.table.capacity) refl
-    where
-      go : (b : Bool) → leb (s.table.count + n) s.table.capacity ≡ b
-          → must b 3 (must (leb (s.table.used + n) s.table.capacity) r x) ≡ must b 3 x
-      go true h = must_go _ r x (le-leb (s.table.used + n) s.table.capacity (a_node_is_free n (leb-true (s.table.count + n) s.table.capacity h)))
-      go false h = refl

@@ -9,5 +9,6 @@ pub mod Ranges
 pub mod Outcomes
 pub mod Reading
 pub mod FreeNodes
+pub mod NodesUntested
 pub mod Retired
 pub mod LineKinds
