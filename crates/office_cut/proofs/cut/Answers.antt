@@ -1,10 +1,7 @@
 -- `office_cut::cut` meets its contract: what is left to cut stays the same. Assumes nothing.
-use mathlib.Core.Path.{refl, sym, ◌∙◌}
+use mathlib.Core.Path.{sym, ◌∙◌}
 use Rattle.office_cut.proofs.LinesCut.{cut_ends, cut_goes, cut_none}
 use Rattle.office_cut.proofs.cut.Goals as goal
-
-pub loop-i-init : goal.loop-i-init
-loop-i-init c = (refl, refl, refl)
 
 pub returns-then-b-eq10 : goal.returns-then-b-eq10
 returns-then-b-eq10 c =
