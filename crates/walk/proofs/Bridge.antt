@@ -1,5 +1,5 @@
 -- From the walk's claim numbers to the items of paper/specs. Assumes nothing.
-use Prim.Native.Nat.{ℕ, zero, suc, ◌+◌, ◌-◌, ◌*◌, ◌<◌, ◌≤◌}
+use Prim.Native.Nat.{ℕ, zero, suc, ◌+◌, ◌*◌, ◌<◌, ◌≤◌}
 use mathlib.Core.Path.{◌≡◌, refl, sym, ap, subst, ◌∙◌}
 use mathlib.Core.Logic.{⊎_elim}
 use mathlib.Core.Bool.{Bool, true, false, cond, ◌&&◌}
@@ -57,6 +57,7 @@ module _ (o : Order) (ref dist : ℕ → ℕ) where
       → put o (item_at ref dist k) (map (item_at ref dist) l) ≡ map (item_at ref dist) (insert_by (ranks o dist) k l)
   unfolding put insert_by
   put_numbers ok k s lo [] hk none = refl
+  put_numbers ok k zero lo (x ∷ l) hk none' = elim none' [ ]
   put_numbers ok k (suc s) lo (x ∷ l) hk (more a b c d) =
       go (sooner (ranks o dist) x k) refl
       (sooner_turned (ranks o dist) x k (sooner (ranks o dist) x k) (omega arith) hk (λ e. omega arith) refl)

@@ -1,6 +1,6 @@
 -- Farthest finds something where there is a claim, whose coordinates are of 32 bits: none is beyond the measure's greatest distance.
 -- With `farthest_none`: [4.2] it is Nothing just where there is no claim. Assumes nothing.
-use Prim.Native.Nat.{ℕ, zero, suc, ◌-◌, ◌<◌, ◌≤◌}
+use Prim.Native.Nat.{ℕ, zero, suc, ◌<◌, ◌≤◌}
 use mathlib.Core.Path.{◌≡◌, refl, sym, ap, subst, ◌∙◌}
 use mathlib.Core.List.{List}
 use native.Mathlib.Omega.{arith}
