@@ -28,16 +28,16 @@ module _ (w : LentWorld) (r : LentReachable w) (i size : ℕ) (here : i < length
   abbrev Elsewhere : List ℕ → Type 0
   Elsewhere = Foreign w.store.table.number
 
-  alone : journey.Unshared lines Elsewhere (journey.theList (seen w) i).query.table
+  alone : journey.Unshared lines Elsewhere (journey.the_list (seen w) i).query.table
   unfolding matches
   alone =
-      let own : (journey.theList (seen w) i).query.table ≡ w.store.table.number = rw (list_seen w i) (eqb-true _ _ (and_first _ _ may.ours)) in
+      let own : (journey.the_list (seen w) i).query.table ≡ w.store.table.number = rw (list_seen w i) (eqb-true _ _ (and_first _ _ may.ours)) in
       rw own (unshared w.store.table.number)
 
   here_seen : i < length (seen w).lists
   here_seen = omega (arith, length-map w.lists listing)
 
-  may_seen : MayAsk (seen w).table (journey.theList (seen w) i) size
+  may_seen : MayAsk (seen w).table (journey.the_list (seen w) i) size
   may_seen = rw (list_seen w i) may
 
   module _ (v : LentWorld) (l : LentLater w v) where
@@ -90,7 +90,7 @@ module _ (w : LentWorld) (r : LentReachable w) (i size : ℕ) (here : i < length
             grown = grows.grown;
             accepted = λ h.
                 sym (list_seen (next_lent u (takes i (reply_in w v i size))) i)
-                ∙ ap (λ (x : journey.World). journey.theList x i) (takes_seen u u_sound i (reply_in w v i size) u_here)
+                ∙ ap (λ (x : journey.World). journey.the_list x i) (takes_seen u u_sound i (reply_in w v i size) u_here)
                 ∙ rw (list_seen w i) at (grows.accepted (room_for (the_held u i)) h);
             extended = rw (list_seen w i) at grows.extended;
           }

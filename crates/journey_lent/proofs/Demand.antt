@@ -3,7 +3,7 @@
 use Prim.Native.Nat.{ℕ, ◌<◌, ◌≤◌}
 use mathlib.Core.Path.{◌≡◌, ap}
 use mathlib.Core.Bool.{true}
-use mathlib.Core.List.{List, ◌∷◌, map, Memᴰ}
+use mathlib.Core.List.{List, [], ◌∷◌, map, Memᴰ}
 use lib.ListN.{length, take}
 use Rattle.paper.specs.declared.lists.List as lists
 use Rattle.paper.specs.Points.{Claim}
@@ -32,6 +32,7 @@ use Rattle.journey_lent.proofs.Answers.{answered_held, grows_held}
 use Rattle.journey_lent.proofs.Queries.{query_kept}
 
 mem_map : {A B : Type 0} (f : A → B) (x : A) (l : List A) → Memᴰ x l → Memᴰ (f x) (map f l)
+mem_map f x [] m = elim m [ ]
 mem_map f x (y ∷ l) (Memᴰ.head e) = Memᴰ.head (ap f e)
 mem_map f x (y ∷ l) (Memᴰ.tail m) = Memᴰ.tail (mem_map f x l m)
 

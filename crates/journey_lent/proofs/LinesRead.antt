@@ -79,7 +79,7 @@ module _ (f : List ℕ) (b : Bytes f) where
       let q = any_answer f e in
       let s = and_first (scope_ok (scope_in (behind f))) _ q.rest in
       let n = count_in f in
-      let room = item_slots n (fields.itemNumbers n (drop 23 (behind f))) in
+      let room = item_slots n (fields.item_numbers n (drop 23 (behind f))) in
       record {
         query = query_ok (answer_order (num 1 f)) q.headed.test;
         place = place_ok (scope_in (behind f)) s far;

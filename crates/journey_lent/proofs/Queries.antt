@@ -38,16 +38,16 @@ module _ (w : LentWorld) (r : LentReachable w) (q : Query) (room : List ℕ) (ty
   unfolding opening_held
   opened_with =
       let L = through (opening q) (λ L. gives (opened_as q)) l given in
-      let e : (journey.theList (seen (next_lent w (opens q room))) (length (seen w).lists)).query ≡ q =
-      ap (λ (x : journey.World). (journey.theList x (length (seen w).lists)).query) (opens_seen w (sound_memory r) q room)
+      let e : (journey.the_list (seen (next_lent w (opens q room))) (length (seen w).lists)).query ≡ q =
+      ap (λ (x : journey.World). (journey.the_list x (length (seen w).lists)).query) (opens_seen w (sound_memory r) q room)
       ∙ opened_query lines (seen w) q L.value L.first in
       ap (λ (K : Listing). K.query) (sym (list_seen (next_lent w (opens q room)) n))
-      ∙ subst (λ (k : ℕ). (journey.theList (seen (next_lent w (opens q room))) k).query ≡ q) (length-map w.lists listing) e
+      ∙ subst (λ (k : ℕ). (journey.the_list (seen (next_lent w (opens q room))) k).query ≡ q) (length-map w.lists listing) e
 
   pub query_kept : (v : LentWorld) → LentLater (next_lent w (opens q room)) v → (the_listing v n).query ≡ q
   query_kept v later =
       ap (λ (K : Listing). K.query) (sym (list_seen v n))
-      ∙ any.later-query lines lawful _ (seen (next_lent w (opens q room))) (later_seen _ refl opened_reachable later) n
+      ∙ any.later_query lines lawful _ (seen (next_lent w (opens q room))) (later_seen _ refl opened_reachable later) n
       (omega (arith, opened_here, length-map (next_lent w (opens q room)).lists listing))
       ∙ ap (λ (K : Listing). K.query) (list_seen (next_lent w (opens q room)) n)
       ∙ opened_with

@@ -38,16 +38,16 @@ use Rattle.journey_lent.proofs.SoundMemory.{SoundMemory, the_sound, sound_well, 
 abbrev with_lists : journey.World → List Listing → journey.World
 with_lists w l = record { table = w.table; air = w.air; lists = l }
 
-pub list_seen : (w : LentWorld) (i : ℕ) → journey.theList (seen w) i ≡ the_listing w i
+pub list_seen : (w : LentWorld) (i : ℕ) → journey.the_list (seen w) i ≡ the_listing w i
 unfolding listing items_in
 list_seen w i = get_or-map listing w.lists i (held no_list [])
 
-table_seen : (w : LentWorld) (o : Outcome Store) → seen (leaves put_table o w) ≡ journey.tableChanged (seen w) (onto o (λ x. gives (table_of x)))
+table_seen : (w : LentWorld) (o : Outcome Store) → seen (leaves put_table o w) ≡ journey.table_changed (seen w) (onto o (λ x. gives (table_of x)))
 table_seen w (refused n) = refl
 table_seen w (gives s) = refl
 
 opened_seen : (w : LentWorld) (room : List ℕ) (o : Outcome lists.List)
-    → seen (leaves (put_list room) o w) ≡ journey.listAdded (seen w) (onto o (λ l. gives (listing (held l room))))
+    → seen (leaves (put_list room) o w) ≡ journey.list_added (seen w) (onto o (λ l. gives (listing (held l room))))
 opened_seen w room (refused n) = refl
 opened_seen w room (gives l) = ap (with_lists (seen w)) (map-append listing w.lists (held l room ∷ []))
 
@@ -65,7 +65,7 @@ same_seen : (w : LentWorld) (i : ℕ) (h : Held) → listing h ≡ the_listing w
 same_seen w i h e = ap (with_lists (seen w)) (map-set_same listing w.lists i h (held no_list []) e)
 
 taken_seen : (w : LentWorld) (i : ℕ) (line : List ℕ) (o : Outcome Listing) → taking_held lines (the_held w i) line ≡ o
-    → seen (put_held i (held_after (the_held w i) o) w) ≡ journey.listChanged (seen w) i o
+    → seen (put_held i (held_after (the_held w i) o) w) ≡ journey.list_changed (seen w) i o
 taken_seen w i line (refused n) e = unfold held_after in same_seen w i (the_held w i) refl
 taken_seen w i line (gives L) e =
     ap (with_lists (seen w))
@@ -92,19 +92,19 @@ module _ (w : LentWorld) (m : SoundMemory w) where
   unfolding next_lent journey.next
   takes_seen i line here =
       taken_seen w i line _ refl
-      ∙ ap (journey.listChanged (seen w) i) (take_agrees (the_held w i) (sound_well _ (the_sound w i here m)) line)
-      ∙ ap (λ (L : Listing). journey.listChanged (seen w) i (taking lines (room_for (the_held w i)) L line)) (sym (list_seen w i))
+      ∙ ap (journey.list_changed (seen w) i) (take_agrees (the_held w i) (sound_well _ (the_sound w i here m)) line)
+      ∙ ap (λ (L : Listing). journey.list_changed (seen w) i (taking lines (room_for (the_held w i)) L line)) (sym (list_seen w i))
 
   pub opens_seen : (q : Query) (room : List ℕ) → seen (next_lent w (opens q room)) ≡ journey.next lines (seen w) (journey.opens q)
   unfolding next_lent journey.next
-  opens_seen q room = opened_seen w room (opening_held q) ∙ ap (journey.listAdded (seen w)) (open_agrees q room)
+  opens_seen q room = opened_seen w room (opening_held q) ∙ ap (journey.list_added (seen w)) (open_agrees q room)
 
   enters_seen : (given : List ℕ) (points : List ℤ)
       → seen (next_lent w (enters given points)) ≡ journey.next lines (seen w) (journey.enters (run_seen w.store given points))
   unfolding next_lent journey.next call_enters
   enters_seen given points =
       table_seen w (enter_call w.store given points)
-      ∙ ap (journey.tableChanged (seen w)) (enter_agrees w.store m.fit m.table given points)
+      ∙ ap (journey.table_changed (seen w)) (enter_agrees w.store m.fit m.table given points)
 
   event_seen_lem : (e : LentEvent) → LentAllowed w e → seen (next_lent w e) ≡ journey.next lines (seen w) (event_seen w e)
   unfolding LentAllowed event_seen
@@ -188,4 +188,4 @@ reachable_seen (begins s e typed) = let a = asked_sound s e in journey.begins (t
 reachable_seen (goes {w} {v} r s) =
     let l : LentLater w v = onwards still s in
     subst (λ (n : ℕ). journey.Reachable lines (Foreign n) (seen v)) (sym (number_stays r l))
-    (journeys.later-reachable lines lawful (Foreign w.store.table.number) (seen w) (reachable_seen r) (later_seen w.store.table.number refl r l))
+    (journeys.later_reachable lines lawful (Foreign w.store.table.number) (seen w) (reachable_seen r) (later_seen w.store.table.number refl r l))
