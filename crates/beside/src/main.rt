@@ -19,6 +19,8 @@ use paper::limits::ITEM_ROOM;
 use paper::orders::{Found, Mark, Paged, Place};
 use paper::tables::Table;
 use scan::{Asking, Best};
+use std::io;
+use std::io::Stdout;
 use std::num::wrapping_add_u64;
 use tables::{next, pick};
 use walk::questions::{mark_holds, page_of};
@@ -389,21 +391,18 @@ fn questions(
     sum
 }
 
-fn number(x: u64, end: &[u8]) {
-    io::print_decimal(1, x);
-    io::write_all(1, end);
-}
-
-fn show(t: Tally) {
-    number(t.claims, b" claims\n");
-    number(t.pages, b" pages, of them in far order ");
-    number(t.far, b", refused for a mark beyond the reach ");
-    number(t.refused, b"\n");
-    number(t.items, b" items, ");
-    number(t.lasts, b" last pages\n");
-    number(t.firsts, b" nearest and farthest, of them nothing ");
-    number(t.nothing, b"\n");
-    number(t.wrong, b" not the scan's\n");
+fn show(out: Stdout, t: Tally) -> io::Result<()> {
+    println!(out; "{} claims", t.claims)?;
+    println!(out;
+        "{} pages, of them in far order {}, refused for a mark beyond the reach {}",
+        t.pages, t.far, t.refused
+    )?;
+    println!(out; "{} items, {} last pages", t.items, t.lasts)?;
+    println!(out;
+        "{} nearest and farthest, of them nothing {}",
+        t.firsts, t.nothing
+    )?;
+    println!(out; "{} not the scan's", t.wrong)
 }
 
 // One table: measure and d by its number, as many claims as the generator says.
@@ -438,7 +437,7 @@ fn one_table(i: u64, seed: u64, tally: Tally) -> Tally {
     )
 }
 
-fn main() {
+fn main(rt: HostRuntime) -> io::Result<()> {
     let mut sum = Tally {
         claims: 0,
         pages: 0,
@@ -455,5 +454,5 @@ fn main() {
         sum = one_table(i, 20260000 + i * 7919, sum);
         i += 1;
     }
-    show(sum);
+    show(rt.stdout(), sum)
 }

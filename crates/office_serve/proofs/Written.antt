@@ -51,6 +51,12 @@ module _ (out : List ℕ) (at k : ℕ) (rest : k ≡ length out - at) where
   unfolding out_with
   lent_same part h e = lent_put [] part (omega arith) e
 
+-- ---- a part of the room that was written over
+
+part_put : (out : List ℕ) (at k : ℕ) (bs : List ℕ) → k ≡ length bs → at + length bs ≤ length out → take at out ++ (bs ++ drop k (drop at out)) ≡ out_with out at bs
+unfolding out_with
+part_put out at k bs q h = rw (q, drop-drop, sets-eq bs out at h) (sym (append_assoc (take at out) bs (drop (at + length bs) out)))
+
 -- ---- a refusal
 
 refusal_one : (n : ℕ) → n < 10 → refusal n ≡ 114 ∷ 101 ∷ 102 ∷ 117 ∷ 115 ∷ 101 ∷ 100 ∷ 32 ∷ (48 + n) ∷ 10 ∷ []
@@ -61,17 +67,11 @@ refusal_two : (n : ℕ) → 10 ≤ n → refusal n ≡ 114 ∷ 101 ∷ 102 ∷ 1
 unfolding refusal decimal
 refusal_two n h = rw (le-ltb n 10 h)
 
-module _ (out : List ℕ) (at k n : ℕ) (rest : k ≡ length out - at) (room : at + 11 ≤ length out) (part : List ℕ) (r : ℕ) where
-  pub refuse_one : n < 10 → r ≡ 10
-      → part ≡ 114 ∷ 101 ∷ 102 ∷ 117 ∷ 115 ∷ 101 ∷ 100 ∷ 32 ∷ (48 + n) ∷ 10 ∷ drop 10 (take k (drop at out))
-      → Put (refusal n) out at (take at out ++ (part ++ drop k (drop at out))) (at + r)
-  refuse_one h q e =
-      let s = refusal_one n h in
-      record { out = rw s (lent_put out at k rest _ part (omega arith) e); end = rw s (omega arith); short = omega arith }
+module _ (out : List ℕ) (at k n : ℕ) (room : at + 11 ≤ length out) (part : List ℕ) where
+  pub refuse_one : n < 10 → k ≡ 10 → part ≡ 114 ∷ 101 ∷ 102 ∷ 117 ∷ 115 ∷ 101 ∷ 100 ∷ 32 ∷ (48 + n) ∷ 10 ∷ []
+      → Put (refusal n) out at (take at out ++ (part ++ drop k (drop at out))) (at + 10)
+  refuse_one h q e = let s = refusal_one n h in record { out = rw (s, e) (part_put out at k _ q (omega arith)); end = rw s refl; short = omega arith }
 
-  pub refuse_two : 10 ≤ n → r ≡ 11
-      → part ≡ 114 ∷ 101 ∷ 102 ∷ 117 ∷ 115 ∷ 101 ∷ 100 ∷ 32 ∷ (48 + n / 10) ∷ (48 + n % 10) ∷ 10 ∷ drop 11 (take k (drop at out))
-      → Put (refusal n) out at (take at out ++ (part ++ drop k (drop at out))) (at + r)
-  refuse_two h q e =
-      let s = refusal_two n h in
-      record { out = rw s (lent_put out at k rest _ part (omega arith) e); end = rw s (omega arith); short = omega arith }
+  pub refuse_two : 10 ≤ n → k ≡ 11 → part ≡ 114 ∷ 101 ∷ 102 ∷ 117 ∷ 115 ∷ 101 ∷ 100 ∷ 32 ∷ (48 + n / 10) ∷ (48 + n % 10) ∷ 10 ∷ []
+      → Put (refusal n) out at (take at out ++ (part ++ drop k (drop at out))) (at + 11)
+  refuse_two h q e = let s = refusal_two n h in record { out = rw (s, e) (part_put out at k _ q (omega arith)); end = rw s refl; short = omega arith }

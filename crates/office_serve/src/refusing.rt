@@ -10,7 +10,8 @@ pub fn refuse(out: &mut [u8], at: usize, n: u8) -> usize
 {
     if n < 10 {
         let printed = [b'r', b'e', b'f', b'u', b's', b'e', b'd', b' ', 48 + n, 10];
-        return at + bytes::copy(&printed, &mut out[at..]);
+        out[at..at + 10].copy_from_slice(&printed);
+        return at + 10;
     }
     let printed = [
         b'r',
@@ -25,5 +26,6 @@ pub fn refuse(out: &mut [u8], at: usize, n: u8) -> usize
         48 + n % 10,
         10,
     ];
-    at + bytes::copy(&printed, &mut out[at..])
+    out[at..at + 11].copy_from_slice(&printed);
+    at + 11
 }

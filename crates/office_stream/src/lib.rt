@@ -1,5 +1,6 @@
-// The office on standard input and output. What it says to its lines is proved in `office_serve`; [10.12] here they are read in large
-// chunks, and whatever was said is written before the next read, so that the office can be talked to through a pipe.
+// The office on a reader and a writer, which the program's `main` lends as its standard input and output. What it says to its lines is
+// proved in `office_serve`; [10.12] here they are read in large chunks, and whatever was said is written before the next read, so that
+// the office can be talked to through a pipe.
 #![tactic(auto)]
 
 ghost use Rattle.std.specs.Prelude.{◌≡◌, ℕ, ◌<◌, ◌≤◌, true, false, ◌⊎◌, List, ◌++◌, length, take};
@@ -10,10 +11,10 @@ ghost use Rattle.office_session.specs.Sittings.{anew_of, emptied_of, sitting_sta
 ghost use Rattle.office_session.specs.Session.{BetweenReads, RanWhole};
 ghost use Rattle.paper.specs.Limits.{longest_answer};
 
-use libc::{STDIN_FILENO, STDOUT_FILENO};
 use office_serve::feeding::{Sitting, feed, finish};
 use paper::limits::{LONGEST_ANSWER, OFFICE_CLAIMS, OFFICE_COORDINATES, OFFICE_NODES};
 use paper::tables::Table;
+use std::io::{Read, Write};
 
 // How a sitting stands at the start of a chunk.
 fn anew(sit: Sitting) -> Sitting
@@ -30,23 +31,23 @@ fn anew(sit: Sitting) -> Sitting
 }
 
 // [10.11] [10.13] Hands the front of the room to the writer, and gives back what it handed over; a write that fails is passed over.
-fn hand_over(out: &[u8], w: usize) -> &[u8]
+fn hand_over<'a, W: Write>(output: &mut W, out: &'a [u8], w: usize) -> &'a [u8]
     requires { w ≤ length out.now }
     ensures { result.now ≡ take w out.now }
 {
     let printed = &out[0..w];
-    io::write_all(STDOUT_FILENO, printed);
+    let _ = output.write_all(printed);
     printed
 }
 
 // The same place in the chunk, with what was said handed over: only that goes off what is written.
-fn emptied(sit: Sitting, out: &[u8]) -> Sitting
+fn emptied<W: Write>(output: &mut W, sit: Sitting, out: &[u8]) -> Sitting
     requires { sit.written ≤ length out.now }
     ensures { result ≡ emptied_of sit }
 {
     let t = sit.table;
     let w = sit.written;
-    let printed = hand_over(out, w);
+    let printed = hand_over(output, out, w);
     Sitting {
         table: t,
         size: sit.size,
@@ -69,7 +70,8 @@ fn unread(sit: Sitting, n: usize) -> bool
 }
 
 // [10.11] [10.12] Takes a chunk of the input, and writes what the office says to it.
-fn pump(
+fn pump<W: Write>(
+    output: &mut W,
     sit: Sitting,
     references: &mut [u32],
     coordinates: &mut [i32],
@@ -86,7 +88,7 @@ fn pump(
     let mut n = anew(sit);
     while unread(n, chunk.len()) {
         n = feed(n, references, coordinates, nodes, line, chunk, out);
-        n = emptied(n, out);
+        n = emptied(output, n, out);
     }
     n
 }
@@ -99,7 +101,9 @@ struct Pause {
 }
 
 // [10.12] [10.13] Reads once, and takes what it got; a read that fails gets nothing.
-fn once(
+fn once<R: Read, W: Write>(
+    input: &mut R,
+    output: &mut W,
     sit: Sitting,
     references: &mut [u32],
     coordinates: &mut [i32],
@@ -113,9 +117,17 @@ fn once(
     ensures answered { (xs : List ℕ) → BetweenReads xs (lent_mut sit.table references.entry coordinates.entry nodes.entry) line.old sit
         → BetweenReads (xs ++ take result.got chunk.new) (lent_mut result.sitting.table references.exit coordinates.exit nodes.exit) line.new result.sitting }
 {
-    let result = libc::read(STDIN_FILENO, chunk);
-    let n = io::count(result, chunk);
-    let after = pump(sit, references, coordinates, nodes, line, &chunk[..n], out);
+    let n = input.read(chunk).unwrap_or(0);
+    let after = pump(
+        output,
+        sit,
+        references,
+        coordinates,
+        nodes,
+        line,
+        &chunk[..n],
+        out,
+    );
     Pause {
         sitting: after,
         got: n,
@@ -161,7 +173,8 @@ fn going(open: bool, turns: u64) -> bool
 }
 
 // [10.9] [10.11] The input is over: hands over what the office then says, and gives how much that was.
-fn end_input(
+fn end_input<W: Write>(
+    output: &mut W,
     sit: Sitting,
     references: &mut [u32],
     coordinates: &mut [i32],
@@ -175,13 +188,15 @@ fn end_input(
 {
     let f = anew(sit);
     let w = finish(f, references, coordinates, nodes, line, out);
-    let printed = hand_over(out, w);
+    let printed = hand_over(output, out, w);
     printed.len()
 }
 
 // Reads to the end of the input. A proved loop has to end, and nothing says that an input does: a line of it may have
 // no end. So the loop counts its reads down, from a number that no run uses up.
-fn run(
+fn run<R: Read, W: Write>(
+    input: &mut R,
+    output: &mut W,
     references: &mut [u32],
     coordinates: &mut [i32],
     nodes: &mut [u64],
@@ -196,16 +211,26 @@ fn run(
     let mut open = true;
     let mut turns = u64::MAX;
     while going(open, turns) {
-        let t = once(sit, references, coordinates, nodes, line, chunk, out);
+        let t = once(
+            input,
+            output,
+            sit,
+            references,
+            coordinates,
+            nodes,
+            line,
+            chunk,
+            out,
+        );
         sit = t.sitting;
         open = is_open(t);
         turns -= 1;
     }
-    end_input(sit, references, coordinates, nodes, line, out);
+    end_input(output, sit, references, coordinates, nodes, line, out);
 }
 
 // The program `office`, with memory of its own.
-pub fn office() {
+pub fn office<R: Read, W: Write>(input: &mut R, output: &mut W) {
     let mut references = [0u32; OFFICE_CLAIMS];
     let mut coordinates = [0i32; OFFICE_COORDINATES];
     let mut nodes = [0u64; OFFICE_NODES];
@@ -213,6 +238,8 @@ pub fn office() {
     let mut chunk = [0u8; 65536];
     let mut out = [0u8; 65536];
     run(
+        input,
+        output,
         &mut references,
         &mut coordinates,
         &mut nodes,
