@@ -1,13 +1,13 @@
 -- One law for each way through a page of a table: 1, 2, 5, 6, 7, 8, 12. Assumes nothing.
 use Prim.Native.Nat.{ℕ, ◌*◌, ◌/◌, ◌<◌, ◌≤◌}
 use mathlib.Core.Path.{◌≡◌, refl, sym, ap, ◌∙◌}
-use mathlib.Core.Bool.{Bool, true, false, not}
+use mathlib.Core.Bool.{Bool, true, false}
 use mathlib.Core.List.{List}
 use native.Mathlib.Omega.{arith}
 use lib.Dec.{leb}
 use lib.IntN.{ℤ}
 use lib.ListN.{length}
-use borrow.Author.Tests.{le-leb, lt-leb, leb-true, not-true, not-false}
+use borrow.Author.Tests.{le-leb, lt-leb, leb-true}
 use Rattle.paper.specs.declared.orders.Order.{Order}
 use Rattle.paper.specs.declared.orders.Page as Pages
 use Rattle.paper.specs.declared.orders.Paged.{Paged}
@@ -56,12 +56,12 @@ module _ (order : Order) (s : Store) (probe : List ℤ) (reach : ℕ) (place : P
       page_5 h = aim_stops s probe n we ok from_6 h
 
       module _ (h5 : length probe ≡ s.table.d) (a : Bool) (ae : a ≡ size_holds size) where
-        pub page_6 : not a ≡ true → page ≡ refused 6
+        pub page_6 : a ≡ false → page ≡ refused 6
         unfolding page_call
-        page_6 h = aim_goes s probe n we ok from_6 h5 ∙ must_stop (size_holds size) 6 from_7 (sym ae ∙ not-true a h)
+        page_6 h = aim_goes s probe n we ok from_6 h5 ∙ must_stop (size_holds size) 6 from_7 (sym ae ∙ h)
 
-        pub page_askable : not a ≡ false → Askable s (length probe) size
-        page_askable h = record { tested = sym ok ∙ we; aimed = h5; size = sym ae ∙ not-false a h }
+        pub page_askable : a ≡ true → Askable s (length probe) size
+        page_askable h = record { tested = sym ok ∙ we; aimed = h5; size = sym ae ∙ h }
 
   module _ (k : Askable s (length probe) size) where
     past_6 : page ≡ from_7
@@ -73,27 +73,27 @@ module _ (order : Order) (s : Store) (probe : List ℤ) (reach : ℕ) (place : P
       unfolding snapshot_holds
       snapshot_is = rw (claims_length s.table.d s.table.count s.references s.coordinates) (sym be)
 
-      pub page_7 : not b ≡ true → 7 ≡ number page
-      page_7 h = sym (ap number (past_6 ∙ must_stop (snapshot_holds (claims_in s) place) 7 from_8 (snapshot_is ∙ not-true b h)))
+      pub page_7 : b ≡ false → 7 ≡ number page
+      page_7 h = sym (ap number (past_6 ∙ must_stop (snapshot_holds (claims_in s) place) 7 from_8 (snapshot_is ∙ h)))
 
-      module _ (hb : not b ≡ false) where
+      module _ (hb : b ≡ true) where
         past_7 : page ≡ from_8
-        past_7 = past_6 ∙ must_go (snapshot_holds (claims_in s) place) 7 from_8 (snapshot_is ∙ not-false b hb)
+        past_7 = past_6 ∙ must_go (snapshot_holds (claims_in s) place) 7 from_8 (snapshot_is ∙ hb)
 
         pub page_markable : Markable s.table s.coordinates probe place
         page_markable =
             record {
               measurable = good_measurable s (table_good s 0 k.tested refl) probe k.aimed;
-              stored = leb-true (snapshot_of place s.table.count) s.table.count (sym be ∙ not-false b hb);
+              stored = leb-true (snapshot_of place s.table.count) s.table.count (sym be ∙ hb);
             }
 
         module _ (e : Bool) (ee : e ≡ mark_holds (table_query s.table order probe reach) (claims_in s) place) where
-          pub page_8 : not e ≡ true → 8 ≡ number page
-          page_8 h = sym (ap number (past_7 ∙ must_stop (mark_holds (table_query s.table order probe reach) (claims_in s) place) 8 from_12 (sym ee ∙ not-true e h)))
+          pub page_8 : e ≡ false → 8 ≡ number page
+          page_8 h = sym (ap number (past_7 ∙ must_stop (mark_holds (table_query s.table order probe reach) (claims_in s) place) 8 from_12 (sym ee ∙ h)))
 
-          module _ (he : not e ≡ false) where
+          module _ (he : e ≡ true) where
             past_8 : page ≡ from_12
-            past_8 = past_7 ∙ must_go (mark_holds (table_query s.table order probe reach) (claims_in s) place) 8 from_12 (sym ee ∙ not-false e he)
+            past_8 = past_7 ∙ must_go (mark_holds (table_query s.table order probe reach) (claims_in s) place) 8 from_12 (sym ee ∙ he)
 
             pub page_12 : room / 3 < size → 12 ≡ number page
             page_12 h = sym (ap number (past_8 ∙ must_stop (leb (size * 3) room) 12 _ (lt-leb (size * 3) room (omega arith))))

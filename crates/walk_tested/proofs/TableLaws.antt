@@ -1,12 +1,12 @@
 -- A table that a call tests: 1 and 2, and then 5 where it has a probe. Assumes nothing.
 use Prim.Native.Nat.{ℕ}
 use mathlib.Core.Path.{◌≡◌, refl, sym, ap, ◌∙◌}
-use mathlib.Core.Bool.{Bool, true, false, not}
+use mathlib.Core.Bool.{Bool, true, false}
 use mathlib.Core.List.{List}
 use lib.Dec.{eqb}
 use lib.IntN.{ℤ}
 use lib.ListN.{length}
-use borrow.Author.Tests.{eq-eqb, ne_eqb, not-true, not-false}
+use borrow.Author.Tests.{eq-eqb, ne_eqb}
 use Rattle.paper.specs.Outcomes.{Outcome, refused, gives, must, onto, number}
 use Rattle.paper.specs.Tree.{Store, fits, sound}
 use Rattle.paper.specs.Calls.{on_table, table_refusal, aimed}
@@ -18,27 +18,27 @@ use Rattle.tree.proofs.TestedTables.{fits_fit, sound_good}
 
 module _ (s : Store) (a : Bool) (ae : a ≡ fits s) where
   -- 1 is the first test of every call on a table
-  pub fit_stops : {A : Type 0} (x : Outcome A) → not a ≡ true → must (fits s) 1 x ≡ refused 1
-  fit_stops x h = must_stop (fits s) 1 x (sym ae ∙ not-true a h)
+  pub fit_stops : {A : Type 0} (x : Outcome A) → a ≡ false → must (fits s) 1 x ≡ refused 1
+  fit_stops x h = must_stop (fits s) 1 x (sym ae ∙ h)
 
-  pub fit_goes : {A : Type 0} (x : Outcome A) → not a ≡ false → must (fits s) 1 x ≡ x
-  fit_goes x h = must_go (fits s) 1 x (sym ae ∙ not-false a h)
+  pub fit_goes : {A : Type 0} (x : Outcome A) → a ≡ true → must (fits s) 1 x ≡ x
+  fit_goes x h = must_go (fits s) 1 x (sym ae ∙ h)
 
-  pub fit_lent : not a ≡ false → MemoryHolds s.table (length s.coordinates) (length s.nodes)
-  fit_lent h = (fits_fit s (sym ae ∙ not-false a h)).lent
+  pub fit_lent : a ≡ true → MemoryHolds s.table (length s.coordinates) (length s.nodes)
+  fit_lent h = (fits_fit s (sym ae ∙ h)).lent
 
-  pub table_1 : not a ≡ true → 1 ≡ table_refusal s
+  pub table_1 : a ≡ false → 1 ≡ table_refusal s
   unfolding table_refusal
   table_1 h = sym (ap number (fit_stops _ h))
 
-  module _ (ha : not a ≡ false) (b : Bool) (be : b ≡ sound s) where
-    pub table_2 : not b ≡ true → 2 ≡ table_refusal s
+  module _ (ha : a ≡ true) (b : Bool) (be : b ≡ sound s) where
+    pub table_2 : b ≡ false → 2 ≡ table_refusal s
     unfolding table_refusal
-    table_2 h = sym (ap number (fit_goes _ ha ∙ must_stop (sound s) 2 _ (sym be ∙ not-true b h)))
+    table_2 h = sym (ap number (fit_goes _ ha ∙ must_stop (sound s) 2 _ (sym be ∙ h)))
 
-    pub table_0 : not b ≡ false → 0 ≡ table_refusal s
+    pub table_0 : b ≡ true → 0 ≡ table_refusal s
     unfolding table_refusal
-    table_0 h = sym (ap number (fit_goes _ ha ∙ must_go (sound s) 2 (gives s) (sym be ∙ not-false b h)))
+    table_0 h = sym (ap number (fit_goes _ ha ∙ must_go (sound s) 2 (gives s) (sym be ∙ h)))
 
 module _ (s : Store) (n : ℕ) (we : n ≡ table_refusal s) where
   -- what any call does behind the two

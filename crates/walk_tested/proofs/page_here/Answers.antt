@@ -1,7 +1,6 @@
 -- `walk_tested::page_here` meets its contract: refused before anything is written, or the walk's page. Assumes nothing.
 use Rattle.paper.specs.Tree.{store}
 use Rattle.walk_tested.proofs.PageLaws.{page_refuses, page_answerable, page_few, page_pageable, page_filled}
-use borrow.Author.Rules.{rules}
 use Rattle.walk_tested.proofs.page_here.Goals as goal
 
 pub returns-then-why-ne0 : goal.returns-then-why-ne0
@@ -16,25 +15,7 @@ page_of-paged-requires c =
     let place-refusal = c.place_refusal-why in
     let if1 = c.if-why-ne0 in
     let a = args in
-record { answerable = (let s = store a.t a.references.now a.coordinates.now a.nodes.now in (
-      page_answerable a.order s a.probe.now a.reach a.place a.size a.room.now pre _ place-refusal.ensures if1.false,
-      (
-        page_few s _ a.size pre,
-        page_pageable a.order s a.probe.now a.reach a.place a.size a.room.now pre _ place-refusal.ensures if1.false,
-      ),
-    )).0; size_le_most_page = (let s = store a.t a.references.now a.coordinates.now a.nodes.now in (
-      page_answerable a.order s a.probe.now a.reach a.place a.size a.room.now pre _ place-refusal.ensures if1.false,
-      (
-        page_few s _ a.size pre,
-        page_pageable a.order s a.probe.now a.reach a.place a.size a.room.now pre _ place-refusal.ensures if1.false,
-      ),
-    )).1; pageable = (let s = store a.t a.references.now a.coordinates.now a.nodes.now in (
-      page_answerable a.order s a.probe.now a.reach a.place a.size a.room.now pre _ place-refusal.ensures if1.false,
-      (
-        page_few s _ a.size pre,
-        page_pageable a.order s a.probe.now a.reach a.place a.size a.room.now pre _ place-refusal.ensures if1.false,
-      ),
-    )).2 }
+    let s = store a.t a.references.now a.coordinates.now a.nodes.now in record { answerable = page_answerable a.order s a.probe.now a.reach a.place a.size a.room.now pre _ place-refusal.ensures if1.false; size_le_most_page = page_few s _ a.size pre; pageable = page_pageable a.order s a.probe.now a.reach a.place a.size a.room.now pre _ place-refusal.ensures if1.false }
 
 pub returns : goal.returns
 returns c =

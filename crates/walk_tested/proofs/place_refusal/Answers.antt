@@ -1,7 +1,6 @@
 -- `walk_tested::place_refusal` meets its contract: 7, 8, 12. Assumes nothing.
 use Rattle.paper.specs.Tree.{store}
 use Rattle.walk_tested.proofs.PageLaws.{page_7, page_markable, page_8, page_12, page_0}
-use borrow.Author.Rules.{rules}
 use Rattle.walk_tested.proofs.place_refusal.Goals as goal
 
 pub returns-then-not-snapshot_holds : goal.returns-then-not-snapshot_holds
