@@ -7,7 +7,7 @@ use native.Mathlib.Omega.{arith}
 use lib.Dec.{leb, eqb}
 use lib.ListN.{length}
 use lib.Seq.{length-take-le}
-use borrow.Author.Tests.{le-leb, lt-leb, leb-true, eq-eqb, ne_eqb, not-true, not-false}
+use borrow.Author.Tests.{le-leb, lt-leb, leb-true, eq-eqb, ne_eqb}
 use Rattle.paper.specs.declared.lines.AnswerRead.{AnswerRead}
 use Rattle.paper.specs.declared.lines.Scope.{Scope}
 use Rattle.paper.specs.declared.lines.Wrote.{Wrote}
@@ -17,7 +17,7 @@ use Rattle.paper.specs.declared.lists.Opened.{Opened}
 use Rattle.paper.specs.declared.queries.Query as queries
 use Rattle.paper.specs.declared.orders.Place.{Place}
 use Rattle.paper.specs.Orders.{Query, query_in, same_order, snapshot_of}
-use Rattle.paper.specs.Outcomes.{Outcome, refused, gives, must, onto, number}
+use Rattle.paper.specs.Outcomes.{Outcome, refused, gives, must, onto}
 use Rattle.paper.specs.Points.{in_range}
 use Rattle.paper.specs.Frames.{line_of, frame_of}
 use Rattle.paper.specs.Frames as frames
@@ -70,11 +70,11 @@ module _ (s : Held) (sound : sound_held s ≡ true) where
           reads ∙ ap (λ r. onto r onward) (must_go (eqb x.refusal 0) x.refusal _ (eq-eqb x.refusal 0 h))
           ∙ ap (λ (u : Bool). must u 10 (taken (room_for s) (listing s) (answer_meant x.answer))) (sym be)
 
-      pub take_other : not b ≡ true → taking_held lines s line ≡ refused 10
-      take_other o = take_any ∙ must_stop b 10 _ (not-true b o)
+      pub take_other : b ≡ false → taking_held lines s line ≡ refused 10
+      take_other o = take_any ∙ must_stop b 10 _ o
 
-      pub take_read : not b ≡ false → taking_held lines s line ≡ taken (room_for s) (listing s) (answer_meant x.answer)
-      take_read o = take_any ∙ must_go b 10 _ (not-false b o)
+      pub take_read : b ≡ true → taking_held lines s line ≡ taken (room_for s) (listing s) (answer_meant x.answer)
+      take_read o = take_any ∙ must_go b 10 _ o
 
 -- what reads has at most a page of items
 pub read_few : (line : List ℕ) (x : AnswerRead) → x ≡ read_as_answer line → x.refusal ≡ 0 → x.answer.count ≤ most_page
@@ -168,12 +168,12 @@ module _ (l : lists.List) (mem : List ℕ) (size : ℕ) (out : List ℕ) (sound 
     past_16 = past_2 ∙ must_go (not l.complete) 16 _ (ap not hc)
 
     module _ (b : Bool) (be : b ≡ size_holds size) where
-      pub ask_6 : not b ≡ true → Promised (Refused 6) out
-      ask_6 h = writes_refused ask 6 out (past_16 ∙ must_stop (size_holds size) 6 _ (sym be ∙ not-true b h))
+      pub ask_6 : b ≡ false → Promised (Refused 6) out
+      ask_6 h = writes_refused ask 6 out (past_16 ∙ must_stop (size_holds size) 6 _ (sym be ∙ h))
 
-      module _ (hb : not b ≡ false) where
+      module _ (hb : b ≡ true) where
         holds : size_holds size ≡ true
-        holds = sym be ∙ not-false b hb
+        holds = sym be ∙ hb
 
         pub ask_some : (1 ≤ size) × (size ≤ most_page)
         ask_some = (leb-true 1 size (and_first (leb 1 size) (leb size most_page) holds), leb-true size most_page (and_second (leb 1 size) (leb size most_page) holds))
@@ -193,19 +193,19 @@ module _ (q : Query) (a : Bool) (ae : a ≡ in_range q.measure q.d) where
   abbrev opens : Outcome lists.List
   opens = opening_held q
 
-  pub open_1 : not a ≡ true → (r : Opened) → r ≡ record { refusal = 1; list = no_list } → r ≡ opened_shown opens
+  pub open_1 : a ≡ false → (r : Opened) → r ≡ record { refusal = 1; list = no_list } → r ≡ opened_shown opens
   unfolding opening_held opening opened_shown
-  open_1 h r e = e ∙ rw (← ae, not-true a h)
+  open_1 h r e = e ∙ rw (← ae, h)
 
-  module _ (ha : not a ≡ false) where
+  module _ (ha : a ≡ true) where
     pub open_5 : (length q.probe ≡ q.d → ⊥) → (r : Opened) → r ≡ record { refusal = 5; list = no_list } → r ≡ opened_shown opens
     unfolding opening_held opening opened_shown
-    open_5 h r e = e ∙ rw (← ae, not-false a ha, ne_eqb (length q.probe) q.d h)
+    open_5 h r e = e ∙ rw (← ae, ha, ne_eqb (length q.probe) q.d h)
 
     pub open_list : length q.probe ≡ q.d → (x : queries.Query) → x ≡ query_in_slots q
         → record { refusal = 0; list = record { query = x; started = false; snapshot = 0; count = 0; complete = false } } ≡ opened_shown opens
     unfolding opening_held opening opened_shown opened_as
-    open_list h x e = rw (← ae, not-false a ha, eq-eqb (length q.probe) q.d h, e)
+    open_list h x e = rw (← ae, ha, eq-eqb (length q.probe) q.d h, e)
 
     pub open_narrow : q.d ≤ most_coordinates
-    open_narrow = (range_is q.measure q.d (sym ae ∙ not-false a ha)).narrow
+    open_narrow = (range_is q.measure q.d (sym ae ∙ ha)).narrow

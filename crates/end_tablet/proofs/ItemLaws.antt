@@ -1,12 +1,12 @@
 -- Items in a room, read one by one: what each way through `item_holds` gives, and what one pass over the items means. Assumes nothing.
 use Prim.Native.Nat.{ℕ, zero, suc, ◌+◌, ◌-◌, ◌*◌, ◌<◌, ◌≤◌}
 use mathlib.Core.Path.{◌≡◌, refl, sym, ◌∙◌}
-use mathlib.Core.Bool.{Bool, true, false, not, ◌&&◌}
+use mathlib.Core.Bool.{Bool, true, false, ◌&&◌}
 use mathlib.Core.List.{List, [], ◌∷◌}
 use native.Mathlib.Omega.{arith}
 use lib.ListN.{get_or, drop}
 use lib.Seq.{get_or-drop, drop-drop}
-use borrow.Author.Tests.{le-leb, lt-leb, lt-ltb, le-ltb, not-true, not-false}
+use borrow.Author.Tests.{le-leb, lt-leb, lt-ltb, le-ltb}
 use Rattle.paper.specs.declared.orders.Order.{Order}
 use Rattle.paper.specs.declared.orders.Place.{Place}
 use Rattle.paper.specs.declared.orders.Place.TheVariants.{Start}
@@ -62,12 +62,12 @@ module _ (o : Order) (p : Place) (reach snapshot : ℕ) (room : List ℕ) (i cou
     way_snapshot h = rw (items_open room i count hi, le-leb (get_or room (i * 3 + 2) 0) reach hr, le-ltb (get_or room (i * 3) 0) snapshot h)
 
     module _ (hs : get_or room (i * 3) 0 < snapshot) (f : Bool) (fe : f ≡ follows o p (item_at room i)) where
-      pub way_mark : not f ≡ true → false ≡ item_holds o p reach snapshot suffix
+      pub way_mark : f ≡ false → false ≡ item_holds o p reach snapshot suffix
       unfolding item_holds
       way_mark h =
-          rw (items_open room i count hi, le-leb (get_or room (i * 3 + 2) 0) reach hr, lt-ltb (get_or room (i * 3) 0) snapshot hs, ← fe, not-true f h)
+          rw (items_open room i count hi, le-leb (get_or room (i * 3 + 2) 0) reach hr, lt-ltb (get_or room (i * 3) 0) snapshot hs, ← fe, h)
 
-      module _ (hf : not f ≡ false) where
+      module _ (hf : f ≡ true) where
         pub way_next : i + 1 < count → (r : Bool)
             → r ≡ before o (get_or room (i * 3 + 2) 0) (get_or room (i * 3) 0) (get_or room (i * 3 + 5) 0) (get_or room (i * 3 + 3) 0)
             → r ≡ item_holds o p reach snapshot suffix
@@ -80,7 +80,7 @@ module _ (o : Order) (p : Place) (reach snapshot : ℕ) (room : List ℕ) (i cou
               le-leb (get_or room (i * 3 + 2) 0) reach hr,
               lt-ltb (get_or room (i * 3) 0) snapshot hs,
               ← fe,
-              not-false f hf,
+              hf,
               items_open room (i + 1) count h,
               n,
               q,
@@ -94,7 +94,7 @@ module _ (o : Order) (p : Place) (reach snapshot : ℕ) (room : List ℕ) (i cou
               le-leb (get_or room (i * 3 + 2) 0) reach hr,
               lt-ltb (get_or room (i * 3) 0) snapshot hs,
               ← fe,
-              not-false f hf,
+              hf,
               items_none room (i + 1) count h,
             )
 

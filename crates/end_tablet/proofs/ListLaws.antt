@@ -1,7 +1,7 @@
 -- The fields of a list: what each way through its soundness test gives, and that the test is the definition. Assumes nothing.
 use Prim.Native.Nat.{ℕ, zero, suc, ◌+◌, ◌-◌, ◌*◌, ◌/◌, ◌<◌, ◌≤◌}
 use mathlib.Core.Path.{◌≡◌, refl, sym, ap, ◌∙◌}
-use mathlib.Core.Bool.{Bool, true, false, not, ◌&&◌}
+use mathlib.Core.Bool.{Bool, true, false, ◌&&◌}
 use mathlib.Core.List.{List}
 use native.Mathlib.Omega.{arith}
 use native.Mathlib.Numerals.{add-one}
@@ -9,7 +9,7 @@ use lib.Dec.{leb, eqb}
 use lib.IntN.{ℤ, pos, negsuc, ◌-ℤ◌, nat_abs}
 use lib.ListN.{length, get_or, take, drop}
 use lib.Seq.{drop-cons, drop-length, length-take-le, get_or-take}
-use borrow.Author.Tests.{le-leb, lt-leb, leb-true, eq-eqb, ne_eqb, eqb-true, not-true, not-false}
+use borrow.Author.Tests.{le-leb, lt-leb, leb-true, eq-eqb, ne_eqb, eqb-true}
 use Rattle.measure.proofs.Away.{away, abs_away}
 use Rattle.paper.specs.declared.lists.List as lists
 use Rattle.paper.specs.declared.orders.Order.{Order}
@@ -68,31 +68,31 @@ same_take (suc d) n m p q h k =
 -- ---- the fields
 
 module _ (l : lists.List) (room : ℕ) (a : Bool) (ae : a ≡ in_range l.query.measure l.query.d) where
-  pub way_range : not a ≡ true → false ≡ fields_hold l room
+  pub way_range : a ≡ false → false ≡ fields_hold l room
   unfolding fields_hold
-  way_range h = rw (← ae, not-true a h)
+  way_range h = rw (← ae, h)
 
-  pub range_d : not a ≡ false → l.query.d ≤ 8
-  range_d h = (range_is l.query.measure l.query.d (sym ae ∙ not-false a h)).narrow
+  pub range_d : a ≡ true → l.query.d ≤ 8
+  range_d h = (range_is l.query.measure l.query.d (sym ae ∙ h)).narrow
 
-  module _ (ha : not a ≡ false) (b : Bool) (be : b ≡ unused_zero l.query.d l.query.probe) where
-    pub way_unused : not b ≡ true → false ≡ fields_hold l room
+  module _ (ha : a ≡ true) (b : Bool) (be : b ≡ unused_zero l.query.d l.query.probe) where
+    pub way_unused : b ≡ false → false ≡ fields_hold l room
     unfolding fields_hold
-    way_unused h = rw (← ae, not-false a ha, ← be, not-true b h)
+    way_unused h = rw (← ae, ha, ← be, h)
 
-    module _ (hb : not b ≡ false) where
+    module _ (hb : b ≡ true) where
       pub way_most_snapshot : most_claims < l.snapshot → false ≡ fields_hold l room
       unfolding fields_hold
-      way_most_snapshot h = rw (← ae, not-false a ha, ← be, not-false b hb, lt-leb l.snapshot most_claims h)
+      way_most_snapshot h = rw (← ae, ha, ← be, hb, lt-leb l.snapshot most_claims h)
 
       module _ (hs : l.snapshot ≤ most_claims) where
         pub way_room : room / 3 < l.count → false ≡ fields_hold l room
         unfolding fields_hold
-        way_room h = rw (← ae, not-false a ha, ← be, not-false b hb, le-leb l.snapshot most_claims hs, lt-leb l.count (room / 3) h)
+        way_room h = rw (← ae, ha, ← be, hb, le-leb l.snapshot most_claims hs, lt-leb l.count (room / 3) h)
 
         pub way_started : l.count ≤ room / 3 → (r : Bool) → r ≡ started_by l.started l.count l.snapshot l.complete → r ≡ fields_hold l room
         unfolding fields_hold
-        way_started h r e = rw (← ae, not-false a ha, ← be, not-false b hb, le-leb l.snapshot most_claims hs, le-leb l.count (room / 3) h) e
+        way_started h r e = rw (← ae, ha, ← be, hb, le-leb l.snapshot most_claims hs, le-leb l.count (room / 3) h) e
 
 -- ---- the whole test
 
@@ -166,12 +166,12 @@ module _ (l : lists.List) (room : List ℕ) (eight : 7 < length l.query.probe) w
 
   -- the ways through the test
   module _ (a : Bool) (ae : a ≡ fields_hold l (length room)) where
-    pub unsound_fields : not a ≡ true → false ≡ sound_held (held l room)
-    unsound_fields h = rw (sound_splits, ← ae, not-true a h)
+    pub unsound_fields : a ≡ false → false ≡ sound_held (held l room)
+    unsound_fields h = rw (sound_splits, ← ae, h)
 
-    module _ (ha : not a ≡ false) where
+    module _ (ha : a ≡ true) where
       pub fields_few : l.count * 3 ≤ length room
-      fields_few = let f = fields_facts l (length room) (sym ae ∙ not-false a ha) in omega (arith, f.few)
+      fields_few = let f = fields_facts l (length room) (sym ae ∙ ha) in omega (arith, f.few)
 
       pub sound_items : (r : Bool) → r ≡ items_hold o Start l.query.reach l.snapshot items → r ≡ sound_held (held l room)
-      sound_items r e = rw (sound_splits, ← ae, not-false a ha) e
+      sound_items r e = rw (sound_splits, ← ae, ha) e

@@ -1,12 +1,12 @@
 -- Whether an answer is to the present ask of a list: slots and queries compared, and what the present ask is. Assumes nothing.
 use Prim.Native.Nat.{ℕ, ◌+◌, ◌-◌, ◌*◌, ◌≤◌}
 use mathlib.Core.Path.{◌≡◌, refl, sym, ap, ◌∙◌}
-use mathlib.Core.Bool.{Bool, true, false, not, cond}
+use mathlib.Core.Bool.{Bool, true, false, cond}
 use mathlib.Core.List.{List}
 use native.Mathlib.Omega.{arith}
 use lib.Dec.{eqb}
 use lib.ListN.{get_or, take}
-use borrow.Author.Tests.{eq-eqb, ne_eqb, not-true, not-false}
+use borrow.Author.Tests.{eq-eqb, ne_eqb}
 use Rattle.paper.specs.declared.lines.Answer.{Answer}
 use Rattle.paper.specs.declared.lines.Scope.{Scope}
 use Rattle.paper.specs.declared.lists.List as lists
@@ -84,15 +84,15 @@ module _ (p q : queries.Query) where
         probes : same_probe p.d (take p.d p.probe) (take q.d q.probe) ≡ b
         probes = same_take p.d p.d q.d p.probe q.probe (omega arith) (omega arith) ∙ sym be
 
-        pub query_probe : not b ≡ true → false ≡ same
+        pub query_probe : b ≡ false → false ≡ same
         unfolding same_query
         query_probe h =
-            rw (eq-eqb p.table q.table ht, eq-eqb p.measure q.measure hm, eq-eqb p.d q.d hd, probes, not-true b h)
+            rw (eq-eqb p.table q.table ht, eq-eqb p.measure q.measure hm, eq-eqb p.d q.d hd, probes, h)
 
-        pub query_reach : not b ≡ false → eqb p.reach q.reach ≡ same
+        pub query_reach : b ≡ true → eqb p.reach q.reach ≡ same
         unfolding same_query
         query_reach h =
-            rw (eq-eqb p.table q.table ht, eq-eqb p.measure q.measure hm, eq-eqb p.d q.d hd, probes, not-false b h)
+            rw (eq-eqb p.table q.table ht, eq-eqb p.measure q.measure hm, eq-eqb p.d q.d hd, probes, h)
 
 -- ---- the present ask
 
@@ -117,13 +117,13 @@ module _ (l : lists.List) (room : List ℕ) where
   present_start s = rw s
 
   module _ (y : Answer) (a : Bool) (ae : a ≡ same_query (query_in l.query) (query_in y.query)) where
-    pub present_query : not a ≡ true → false ≡ to_present (listing (held l room)) (answer_meant y)
+    pub present_query : a ≡ false → false ≡ to_present (listing (held l room)) (answer_meant y)
     unfolding to_present listing answer_meant
-    present_query h = rw (← ae, not-true a h)
+    present_query h = rw (← ae, h)
 
-    pub present_place_lem : not a ≡ false → (p : Scope) → p ≡ scope_of present_at (snapshot_of present_at 0)
+    pub present_place_lem : a ≡ true → (p : Scope) → p ≡ scope_of present_at (snapshot_of present_at 0)
         → (r : Bool) → r ≡ same_place (place_in p) (place_in y.scope) → r ≡ to_present (listing (held l room)) (answer_meant y)
     unfolding to_present listing answer_meant
     present_place_lem h p pe r e =
         let b : place_in p ≡ present_at = ap place_in pe ∙ place_back present_at in
-        e ∙ ap (λ (u : Place). same_place u (place_in y.scope)) b ∙ rw (← ae, not-false a h)
+        e ∙ ap (λ (u : Place). same_place u (place_in y.scope)) b ∙ rw (← ae, h)

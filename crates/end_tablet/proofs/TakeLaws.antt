@@ -8,7 +8,7 @@ use native.Mathlib.Omega.{arith}
 use lib.Dec.{leb, eqb}
 use lib.ListN.{length, get_or, take, length-append}
 use lib.Seq.{paste}
-use borrow.Author.Tests.{le-leb, lt-leb, leb-true, not-true, not-false, ltb-true}
+use borrow.Author.Tests.{le-leb, lt-leb, leb-true, ltb-true}
 use Rattle.paper.specs.declared.lines.Answer.{Answer}
 use Rattle.paper.specs.declared.lists.List as lists
 use Rattle.paper.specs.declared.lists.Taken.{Taken}
@@ -46,14 +46,14 @@ module _ (y : Answer) (u : Place) (ue : u ≡ place_in y.scope) (a : Bool)
       and_group true false f e = refl
       and_group false w f e = refl
 
-  pub page_items : not a ≡ true → false ≡ page_holds (answer_meant y)
-  page_items h = rw (page_splits, not-true a h)
+  pub page_items : a ≡ false → false ≡ page_holds (answer_meant y)
+  page_items h = rw (page_splits, h)
 
-  pub page_some : not a ≡ false → 1 ≤ y.count → true ≡ page_holds (answer_meant y)
-  page_some h k = rw (page_splits, not-false a h, le-leb 1 y.count k)
+  pub page_some : a ≡ true → 1 ≤ y.count → true ≡ page_holds (answer_meant y)
+  page_some h k = rw (page_splits, h, le-leb 1 y.count k)
 
-  pub page_none : not a ≡ false → y.count < 1 → eqb y.last 1 ≡ page_holds (answer_meant y)
-  page_none h k = rw (page_splits, not-false a h, lt-leb 1 y.count k)
+  pub page_none : a ≡ true → y.count < 1 → eqb y.last 1 ≡ page_holds (answer_meant y)
+  page_none h k = rw (page_splits, h, lt-leb 1 y.count k)
 
 -- ---- items joined
 
@@ -151,19 +151,19 @@ module _ (l : lists.List) (room : List ℕ) (y : Answer) where
     go_16 : not l.complete ≡ true
     go_16 = ap not hc
 
-    pub take_13 : not a ≡ true → call ≡ refused 13
+    pub take_13 : a ≡ false → call ≡ refused 13
     unfolding taken listing
-    take_13 h = must_go (not l.complete) 16 _ go_16 ∙ must_stop (to_present L (answer_meant y)) 13 _ (sym ae ∙ not-true a h)
+    take_13 h = must_go (not l.complete) 16 _ go_16 ∙ must_stop (to_present L (answer_meant y)) 13 _ (sym ae ∙ h)
 
-    module _ (ha : not a ≡ false) (b : Bool) (be : b ≡ page_holds (answer_meant y)) where
-      pub take_14 : not b ≡ true → call ≡ refused 14
+    module _ (ha : a ≡ true) (b : Bool) (be : b ≡ page_holds (answer_meant y)) where
+      pub take_14 : b ≡ false → call ≡ refused 14
       unfolding taken listing
       take_14 h =
           must_go (not l.complete) 16 _ go_16
-          ∙ must_go (to_present L (answer_meant y)) 13 _ (sym ae ∙ not-false a ha)
-          ∙ must_stop (page_holds (answer_meant y)) 14 _ (sym be ∙ not-true b h)
+          ∙ must_go (to_present L (answer_meant y)) 13 _ (sym ae ∙ ha)
+          ∙ must_stop (page_holds (answer_meant y)) 14 _ (sym be ∙ h)
 
-      module _ (hb : not b ≡ false) (few : l.count ≤ length room / 3) where
+      module _ (hb : b ≡ true) (few : l.count ≤ length room / 3) where
         sum : length L.items + length (answer_meant y).items ≡ l.count + y.count
         unfolding listing answer_meant
         sum = omega (arith, length_in l.count room, length_in y.count y.items)
@@ -172,8 +172,8 @@ module _ (l : lists.List) (room : List ℕ) (y : Answer) where
         unfolding taken listing
         up_to_15 =
             must_go (not l.complete) 16 _ go_16
-            ∙ must_go (to_present L (answer_meant y)) 13 _ (sym ae ∙ not-false a ha)
-            ∙ must_go (page_holds (answer_meant y)) 14 _ (sym be ∙ not-false b hb)
+            ∙ must_go (to_present L (answer_meant y)) 13 _ (sym ae ∙ ha)
+            ∙ must_go (page_holds (answer_meant y)) 14 _ (sym be ∙ hb)
 
         pub take_15 : length room / 3 - l.count < y.count → call ≡ refused 15
         take_15 h = up_to_15 ∙ must_stop _ 15 _ (lt-leb (length L.items + length (answer_meant y).items) (length room / 3) (omega (arith, sum)))
