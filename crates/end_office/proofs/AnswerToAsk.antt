@@ -1,12 +1,12 @@
 -- The answer to an ask: a law for each way through the calls. Assumes nothing.
 use Prim.Native.Nat.{ℕ, ◌≤◌}
 use mathlib.Core.Path.{◌≡◌, refl, sym, ap, subst, ◌∙◌}
-use mathlib.Core.Bool.{Bool, true, false, ◌&&◌, ◌||◌, not}
+use mathlib.Core.Bool.{Bool, true, false, ◌&&◌, ◌||◌}
 use mathlib.Core.List.{List}
 use native.Mathlib.Omega.{arith}
 use lib.Dec.{leb, eqb}
 use lib.ListN.{take, drop}
-use borrow.Author.Tests.{leb-true, not-true, not-false}
+use borrow.Author.Tests.{leb-true}
 use Rattle.paper.specs.declared.lines.Ask as lines-Ask
 use Rattle.paper.specs.declared.lines.AskRead.{AskRead}
 use Rattle.paper.specs.declared.lines.Scope.{Scope}
@@ -44,26 +44,26 @@ module _ (s : Store) (q : queries.Query) (p : Scope) (size : ℕ) (b : Bool) (ho
   unfolding snapshot_holds
   stored_is = rw (claims_length s.table.d s.table.count s.references s.coordinates) (sym holds)
 
-  pub here_7 : (before : List ℕ) → not b ≡ true → Writes (page_reply (table_of s) (ask_in q p size)) before (Refused 7) before
+  pub here_7 : (before : List ℕ) → b ≡ false → Writes (page_reply (table_of s) (ask_in q p size)) before (Refused 7) before
   unfolding page_reply
-  here_7 before t = writes_refused _ 7 before (rw (stored_is, not-true b t))
+  here_7 before t = writes_refused _ 7 before (rw (stored_is, t))
 
-  pub here_stored : not b ≡ false → snapshot_of (place_in p) s.table.count ≤ s.table.count
-  here_stored t = leb-true _ _ (sym holds ∙ not-false b t)
+  pub here_stored : b ≡ true → snapshot_of (place_in p) s.table.count ≤ s.table.count
+  here_stored t = leb-true _ _ (sym holds ∙ t)
 
   module _ (out : ℕ) (h : AskOurs s q p size out) (m : Bool) (place : Place) (at : place ≡ place_in p)
-      (marked : m ≡ mark_holds (table_query s.table q.order (take q.d q.probe) q.reach) (claims_in s) place) (t : not b ≡ false) where
+      (marked : m ≡ mark_holds (table_query s.table q.order (take q.d q.probe) q.reach) (claims_in s) place) (t : b ≡ true) where
     marked_is : mark_holds (query_in q) (claims_in s) (place_in p) ≡ m
     marked_is = subst (λ (x : Query). mark_holds x (claims_in s) (place_in p) ≡ m) (sym (own_query s q p size out h)) (rw (← at) (sym marked))
 
-    pub here_8 : (before : List ℕ) → not m ≡ true → Writes (page_reply (table_of s) (ask_in q p size)) before (Refused 8) before
+    pub here_8 : (before : List ℕ) → m ≡ false → Writes (page_reply (table_of s) (ask_in q p size)) before (Refused 8) before
     unfolding page_reply
-    here_8 before u = writes_refused _ 8 before (rw (stored_is, not-false b t, marked_is, not-true m u))
+    here_8 before u = writes_refused _ 8 before (rw (stored_is, t, marked_is, u))
 
-    pub here_page : (before : List ℕ) (w : Wrote) (after : List ℕ) → not m ≡ false → Writes (page_line (table_of s) (ask_in q p size)) before w after
+    pub here_page : (before : List ℕ) (w : Wrote) (after : List ℕ) → m ≡ true → Writes (page_line (table_of s) (ask_in q p size)) before w after
         → Writes (page_reply (table_of s) (ask_in q p size)) before w after
     unfolding page_reply
-    here_page before w after u x = rw (stored_is, not-false b t, marked_is, not-false m u) x
+    here_page before w after u x = rw (stored_is, t, marked_is, u) x
 
 -- ---- answer_ask
 
@@ -82,18 +82,18 @@ module _ (s : Store) (a : lines-Ask.Ask) (b : Bool)
   unfolding matches
   matches_is = sym is
 
-  pub ask_11 : (before : List ℕ) → not b ≡ true → Writes (reply_to (table_of s) (ask_meant a)) before (Refused 11) before
+  pub ask_11 : (before : List ℕ) → b ≡ false → Writes (reply_to (table_of s) (ask_meant a)) before (Refused 11) before
   unfolding reply_to answer_to ask_meant
-  ask_11 before t = writes_refused _ 11 before (rw (matches_is, not-true b t))
+  ask_11 before t = writes_refused _ 11 before (rw (matches_is, t))
 
-  module _ (t : not b ≡ false) where
+  module _ (t : b ≡ true) where
     pub ask_here : (before : List ℕ) (w : Wrote) (after : List ℕ) → Writes (page_reply (table_of s) (ask_in a.query a.scope a.size)) before w after
         → Writes (reply_to (table_of s) (ask_meant a)) before w after
     unfolding ask_meant
-    ask_here before w after x = rw (reply_here (table_of s) (ask_meant a) (matches_is ∙ not-false b t)) x
+    ask_here before w after x = rw (reply_here (table_of s) (ask_meant a) (matches_is ∙ t)) x
 
     pub ask_ready : (out : ℕ) → Answering s a out → AskOurs s a.query a.scope a.size out
-    ask_ready out h = record { is_open = h.is_open; ask = h.ask; ours = matches_is ∙ not-false b t }
+    ask_ready out h = record { is_open = h.is_open; ask = h.ask; ours = matches_is ∙ t }
 
 -- ---- answer_line
 
