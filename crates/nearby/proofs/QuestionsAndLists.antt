@@ -1,12 +1,12 @@
 -- One law for each way through the questions, the office and the calls on a list. Assumes nothing.
 use Prim.Native.Nat.{ℕ, ◌<◌, ◌≤◌}
 use mathlib.Core.Path.{◌≡◌, refl, sym, ap, ◌∙◌}
-use mathlib.Core.Bool.{Bool, true, false, not, ◌&&◌}
+use mathlib.Core.Bool.{Bool, true, false, ◌&&◌}
 use mathlib.Core.List.{List}
 use lib.Dec.{leb}
 use lib.IntN.{ℤ}
 use lib.ListN.{length}
-use borrow.Author.Tests.{le-leb, lt-leb, not-true}
+use borrow.Author.Tests.{le-leb, lt-leb}
 use Rattle.paper.specs.declared.lines.Wrote.{Wrote}
 use Rattle.paper.specs.declared.lines.Wrote.TheVariants.{Refused}
 use Rattle.paper.specs.declared.orders.Found as answers
@@ -76,10 +76,10 @@ two : {A : Type 0} (a b : Bool) (x : Outcome A) → (a && b) ≡ false → must 
 two true b x h = must_stop b 2 x h
 two false b x h = refl
 
-module _ (s : Held) (a : Bool) (ae : a ≡ sound_held s) (h : not a ≡ true) where
+module _ (s : Held) (a : Bool) (ae : a ≡ sound_held s) (h : a ≡ false) where
   unsound : (held_well s.list.query && sound_in (room_for s) (listing s)) ≡ false
   unfolding sound_held
-  unsound = sym ae ∙ not-true a h
+  unsound = sym ae ∙ h
 
   pub ask_unsound : (size : ℕ) (out : List ℕ) → Writes (asking_held lines s size (length out)) out (Refused 2) out
   unfolding asking_held asking

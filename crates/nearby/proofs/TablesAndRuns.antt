@@ -1,13 +1,13 @@
 -- One law for each way through making a table and entering a run. Assumes nothing.
 use Prim.Native.Nat.{ℕ, ◌+◌, ◌-◌, ◌*◌, ◌<◌, ◌≤◌}
 use mathlib.Core.Path.{◌≡◌, refl, sym, ap, ◌∙◌}
-use mathlib.Core.Bool.{Bool, true, false, not}
+use mathlib.Core.Bool.{Bool, true, false}
 use mathlib.Core.List.{List}
 use native.Mathlib.Omega.{arith}
 use lib.Dec.{leb, eqb}
 use lib.IntN.{ℤ}
 use lib.ListN.{length, take}
-use borrow.Author.Tests.{le-leb, lt-leb, not-true, not-false}
+use borrow.Author.Tests.{le-leb, lt-leb}
 use Rattle.paper.specs.declared.tables.Table.{Table}
 use Rattle.paper.specs.declared.tables.Made.{Made}
 use Rattle.paper.specs.declared.tables.Entered.{Entered}
@@ -25,11 +25,11 @@ use Rattle.walk_tested.proofs.TableLaws.{fit_stops, fit_goes, table_refused, tab
 -- ---- [9.4] making
 
 module _ (s : Store) (a : Bool) (ae : a ≡ fits s) where
-  pub made_1 : not a ≡ true → Made.Refused 1 ≡ made_shown (make_call s)
+  pub made_1 : a ≡ false → Made.Refused 1 ≡ made_shown (make_call s)
   unfolding make_call
   made_1 h = sym (ap made_shown (fit_stops s a ae _ h))
 
-  pub made_table : not a ≡ false → Made.Table s.table ≡ made_shown (make_call s)
+  pub made_table : a ≡ true → Made.Table s.table ≡ made_shown (make_call s)
   unfolding make_call
   made_table h = sym (ap made_shown (fit_goes s a ae _ h))
 
@@ -72,24 +72,24 @@ module _ (s : Store) (given : List ℕ) (points : List ℤ) where
         unfolding enter_call
         past_2 = table_goes s n we ok from_5
 
-        pub run_5 : not w ≡ true → 5 ≡ number call
-        run_5 h = sym (ap number (past_2 ∙ must_stop (eqb (length points) (s.table.d * length given)) 5 from_17 (sym we' ∙ not-true w h)))
+        pub run_5 : w ≡ false → 5 ≡ number call
+        run_5 h = sym (ap number (past_2 ∙ must_stop (eqb (length points) (s.table.d * length given)) 5 from_17 (sym we' ∙ h)))
 
-        module _ (hw : not w ≡ false) (a : Bool) (ae : a ≡ anew (take s.table.count s.references) given) where
+        module _ (hw : w ≡ true) (a : Bool) (ae : a ≡ anew (take s.table.count s.references) given) where
           past_5 : call ≡ from_17
-          past_5 = past_2 ∙ must_go (eqb (length points) (s.table.d * length given)) 5 from_17 (sym we' ∙ not-false w hw)
+          past_5 = past_2 ∙ must_go (eqb (length points) (s.table.d * length given)) 5 from_17 (sym we' ∙ hw)
 
           -- what was looked at is what is in force
           tested : anew (in_force (claims_in s)) given ≡ a
           tested =
               ap (λ (l : List ℕ). anew l given) (references_are s.table.d s.table.count s.references s.coordinates run_stored) ∙ sym ae
 
-          pub run_17 : not a ≡ true → 17 ≡ number call
-          run_17 h = sym (ap number (past_5 ∙ must_stop (anew (in_force (claims_in s)) given) 17 from_3 (tested ∙ not-true a h)))
+          pub run_17 : a ≡ false → 17 ≡ number call
+          run_17 h = sym (ap number (past_5 ∙ must_stop (anew (in_force (claims_in s)) given) 17 from_3 (tested ∙ h)))
 
-          module _ (ha : not a ≡ false) where
+          module _ (ha : a ≡ true) where
             past_17 : call ≡ from_3
-            past_17 = past_5 ∙ must_go (anew (in_force (claims_in s)) given) 17 from_3 (tested ∙ not-false a ha)
+            past_17 = past_5 ∙ must_go (anew (in_force (claims_in s)) given) 17 from_3 (tested ∙ ha)
 
             pub run_3 : s.table.capacity - s.table.count < length given → 3 ≡ number call
             run_3 h =
