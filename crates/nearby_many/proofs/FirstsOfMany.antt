@@ -1,7 +1,7 @@
 -- One law for each way through a call for many questions. Assumes nothing.
 use Prim.Native.Nat.{ℕ, suc, ◌+◌, ◌-◌, ◌*◌, ◌<◌, ◌≤◌}
 use mathlib.Core.Path.{◌≡◌, refl, sym, ap, ◌∙◌}
-use mathlib.Core.Bool.{Bool, true, false, not}
+use mathlib.Core.Bool.{Bool, true, false}
 use mathlib.Core.List.{List}
 use native.Mathlib.Nat.{mul_comm}
 use native.Mathlib.Omega.{arith}
@@ -9,7 +9,7 @@ use lib.Dec.{leb, eqb}
 use lib.IntN.{ℤ}
 use lib.ListN.{length, take, drop, length-drop}
 use lib.Seq.{sets, length-take-le}
-use borrow.Author.Tests.{leb-true, eqb-true, not-true, not-false}
+use borrow.Author.Tests.{leb-true, eqb-true}
 use Rattle.paper.specs.Points.{point}
 use Rattle.paper.specs.declared.orders.Found as answers
 use Rattle.paper.specs.Orders.{Found, found_in, found_shown}
@@ -39,13 +39,13 @@ module _ (s : Store) (probes n why : ℕ) (we : why ≡ table_refusal s) where
     many_wide = (table_good s why we ok).fit.range.wide
 
     module _ (b : Bool) (be : b ≡ eqb probes (s.table.d * n)) where
-      pub many_5 : not b ≡ true → ◌≡◌ {A = ℕ} 5 (many_refusal s probes n)
+      pub many_5 : b ≡ false → ◌≡◌ {A = ℕ} 5 (many_refusal s probes n)
       unfolding many_refusal
-      many_5 h = sym (ap number (table_goes s why we ok _ ∙ must_stop (eqb probes (s.table.d * n)) 5 _ (sym be ∙ not-true b h)))
+      many_5 h = sym (ap number (table_goes s why we ok _ ∙ must_stop (eqb probes (s.table.d * n)) 5 _ (sym be ∙ h)))
 
-      pub many_0 : not b ≡ false → ◌≡◌ {A = ℕ} 0 (many_refusal s probes n)
+      pub many_0 : b ≡ true → ◌≡◌ {A = ℕ} 0 (many_refusal s probes n)
       unfolding many_refusal
-      many_0 h = sym (ap number (table_goes s why we ok _ ∙ must_go (eqb probes (s.table.d * n)) 5 _ (sym be ∙ not-false b h)))
+      many_0 h = sym (ap number (table_goes s why we ok _ ∙ must_go (eqb probes (s.table.d * n)) 5 _ (sym be ∙ h)))
 
 -- ---- question i
 
@@ -141,16 +141,16 @@ module _ (s : Store) (probes n why : ℕ) (we : why ≡ many_refusal s probes n)
     firsts_refused h = promise_refused number instead call out why why (many_refused _ h) refl
 
     module _ (ok : why ≡ 0) (b : Bool) (be : b ≡ leb (n * 4) (length out)) where
-      pub firsts_12 : not b ≡ true → Promise number instead call out 12 out
+      pub firsts_12 : b ≡ false → Promise number instead call out 12 out
       unfolding firsts_call
       firsts_12 h =
-          promise_refused number instead call out 12 12 (many_goes ok _ ∙ must_stop (leb (n * 4) (length out)) 12 _ (sym be ∙ not-true b h)) refl
+          promise_refused number instead call out 12 12 (many_goes ok _ ∙ must_stop (leb (n * 4) (length out)) 12 _ (sym be ∙ h)) refl
 
-      pub firsts_many : not b ≡ false → Many s probes n 4 (length out)
-      firsts_many h = many_asked ok 4 (length out) (leb-true (n * 4) (length out) (sym be ∙ not-false b h))
+      pub firsts_many : b ≡ true → Many s probes n 4 (length out)
+      firsts_many h = many_asked ok 4 (length out) (leb-true (n * 4) (length out) (sym be ∙ h))
 
-      pub firsts_answered : not b ≡ false → (after : List ℕ) → after ≡ each (put_found answer) n out → Promise number instead call out 0 after
+      pub firsts_answered : b ≡ true → (after : List ℕ) → after ≡ each (put_found answer) n out → Promise number instead call out 0 after
       unfolding firsts_call
       firsts_answered h after w =
           promise_given number instead call out (each (put_found answer) n out) 0 after
-          (many_goes ok _ ∙ must_go (leb (n * 4) (length out)) 12 _ (sym be ∙ not-false b h)) refl w
+          (many_goes ok _ ∙ must_go (leb (n * 4) (length out)) 12 _ (sym be ∙ h)) refl w

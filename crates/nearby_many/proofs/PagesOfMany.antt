@@ -1,7 +1,7 @@
 -- One law for each way through the calls for many pages. Assumes nothing.
 use Prim.Native.Nat.{ℕ, ◌+◌, ◌-◌, ◌*◌, ◌<◌, ◌≤◌}
 use mathlib.Core.Path.{◌≡◌, refl, sym, ap, ◌∙◌}
-use mathlib.Core.Bool.{Bool, true, false, not}
+use mathlib.Core.Bool.{Bool, true, false}
 use mathlib.Core.List.{List, ◌++◌}
 use native.Mathlib.Nat.{mul_comm}
 use native.Mathlib.Omega.{arith}
@@ -9,7 +9,7 @@ use lib.Dec.{leb, eqb}
 use lib.IntN.{ℤ}
 use lib.ListN.{length, take, drop}
 use lib.Seq.{sets, drop-drop}
-use borrow.Author.Tests.{leb-true, eqb-true, not-true, not-false}
+use borrow.Author.Tests.{leb-true, eqb-true}
 use Rattle.paper.specs.declared.orders.Page as answers
 use Rattle.paper.specs.declared.orders.Place.{Place}
 use Rattle.paper.specs.Points.{point}
@@ -49,48 +49,48 @@ module _ (s : Store) (probes n places size outcomes items : ℕ) where
       unfolding pages_refusal
       to_5 = ap number (many_goes s probes n why we ok from_5)
 
-      pub pages_5 : not a ≡ true → 5 ≡ whole
-      pages_5 h = sym (to_5 ∙ ap number (must_stop (eqb places (place_numbers * n)) 5 _ (sym ae ∙ not-true a h)))
+      pub pages_5 : a ≡ false → 5 ≡ whole
+      pages_5 h = sym (to_5 ∙ ap number (must_stop (eqb places (place_numbers * n)) 5 _ (sym ae ∙ h)))
 
-      module _ (ha : not a ≡ false) (b : Bool) (be : b ≡ size_holds size) where
+      module _ (ha : a ≡ true) (b : Bool) (be : b ≡ size_holds size) where
         abbrev from_6 : Outcome ℕ
         from_6 = must (size_holds size) 6 (must (leb (n * 3) outcomes) 12 (must (leb (n * (size * 3)) items) 12 (gives n)))
 
         to_6 : whole ≡ number from_6
-        to_6 = to_5 ∙ ap number (must_go (eqb places (place_numbers * n)) 5 from_6 (sym ae ∙ not-false a ha))
+        to_6 = to_5 ∙ ap number (must_go (eqb places (place_numbers * n)) 5 from_6 (sym ae ∙ ha))
 
-        pub pages_6 : not b ≡ true → 6 ≡ whole
-        pages_6 h = sym (to_6 ∙ ap number (must_stop (size_holds size) 6 _ (sym be ∙ not-true b h)))
+        pub pages_6 : b ≡ false → 6 ≡ whole
+        pages_6 h = sym (to_6 ∙ ap number (must_stop (size_holds size) 6 _ (sym be ∙ h)))
 
-        module _ (hb : not b ≡ false) where
+        module _ (hb : b ≡ true) where
           pub pages_small : size ≤ most_page
-          pages_small = leb-true size most_page (and_second (leb 1 size) (leb size most_page) (sym be ∙ not-false b hb))
+          pages_small = leb-true size most_page (and_second (leb 1 size) (leb size most_page) (sym be ∙ hb))
 
           pub pages_some : 1 ≤ size
-          pages_some = leb-true 1 size (and_first (leb 1 size) (leb size most_page) (sym be ∙ not-false b hb))
+          pages_some = leb-true 1 size (and_first (leb 1 size) (leb size most_page) (sym be ∙ hb))
 
           module _ (e : Bool) (ee : e ≡ leb (n * 3) outcomes) where
             abbrev from_12 : Outcome ℕ
             from_12 = must (leb (n * 3) outcomes) 12 (must (leb (n * (size * 3)) items) 12 (gives n))
 
             to_12 : whole ≡ number from_12
-            to_12 = to_6 ∙ ap number (must_go (size_holds size) 6 from_12 (sym be ∙ not-false b hb))
+            to_12 = to_6 ∙ ap number (must_go (size_holds size) 6 from_12 (sym be ∙ hb))
 
-            pub pages_12 : not e ≡ true → 12 ≡ whole
-            pages_12 h = sym (to_12 ∙ ap number (must_stop (leb (n * 3) outcomes) 12 _ (sym ee ∙ not-true e h)))
+            pub pages_12 : e ≡ false → 12 ≡ whole
+            pages_12 h = sym (to_12 ∙ ap number (must_stop (leb (n * 3) outcomes) 12 _ (sym ee ∙ h)))
 
-            module _ (he : not e ≡ false) (f : Bool) (fe : f ≡ leb (n * (size * 3)) items) where
+            module _ (he : e ≡ true) (f : Bool) (fe : f ≡ leb (n * (size * 3)) items) where
               abbrev last : Outcome ℕ
               last = must (leb (n * (size * 3)) items) 12 (gives n)
 
               to_last : whole ≡ number last
-              to_last = to_12 ∙ ap number (must_go (leb (n * 3) outcomes) 12 last (sym ee ∙ not-false e he))
+              to_last = to_12 ∙ ap number (must_go (leb (n * 3) outcomes) 12 last (sym ee ∙ he))
 
-              pub pages_12_items : not f ≡ true → 12 ≡ whole
-              pages_12_items h = sym (to_last ∙ ap number (must_stop (leb (n * (size * 3)) items) 12 (gives n) (sym fe ∙ not-true f h)))
+              pub pages_12_items : f ≡ false → 12 ≡ whole
+              pages_12_items h = sym (to_last ∙ ap number (must_stop (leb (n * (size * 3)) items) 12 (gives n) (sym fe ∙ h)))
 
-              pub pages_0 : not f ≡ false → 0 ≡ whole
-              pages_0 h = sym (to_last ∙ ap number (must_go (leb (n * (size * 3)) items) 12 (gives n) (sym fe ∙ not-false f h)))
+              pub pages_0 : f ≡ true → 0 ≡ whole
+              pages_0 h = sym (to_last ∙ ap number (must_go (leb (n * (size * 3)) items) 12 (gives n) (sym fe ∙ h)))
 
 -- ---- question i
 
