@@ -8,7 +8,7 @@ use lib.Dec.{leb, eqb}
 use lib.IntN.{ℤ}
 use lib.ListN.{length, take}
 use lib.Seq.{take-take, length-paste}
-use borrow.Author.Tests.{eq-eqb, ne_eqb, le-leb, lt-leb, eqb-true, not-true, not-false}
+use borrow.Author.Tests.{eq-eqb, ne_eqb, le-leb, lt-leb, eqb-true}
 use Rattle.paper.specs.declared.lines.ClaimLine.{ClaimLine}
 use Rattle.paper.specs.declared.tables.Table.{Table}
 use Rattle.paper.specs.Points.{InRange, point}
@@ -116,18 +116,18 @@ module _ (s : Store) (c : ClaimLine) (r : Ready s) (i : InRange c.measure c.d) (
   unfolding claim_turn
   claim_refused n l e q p = rw q (record { books = refl; ready = r; printed = p })
 
-  pub claim_11 : not b ≡ true → (l : List ℕ) (e : ℕ) → Put (refusal 11) out at l e
+  pub claim_11 : b ≡ false → (l : List ℕ) (e : ℕ) → Put (refusal 11) out at l e
       → Served (claim_turn (books_of s) (claim_entering (table_for (books_of s) c) c)) s out at l e
   unfolding claim_entering
-  claim_11 t l e p = claim_refused 11 l e (rw (ours_is, not-true b t)) p
+  claim_11 t l e p = claim_refused 11 l e (rw (ours_is, t)) p
 
   -- the claim's reference is looked for among those in force
   pub stored : h.count ≤ length s.references
   stored = omega (arith, head_ready.good.count, head_ready.good.fit.references)
 
-  module _ (t : not b ≡ false) (k : Bool) (search : k ≡ is_among (take h.count s.references) c.reference) where
+  module _ (t : b ≡ true) (k : Bool) (search : k ≡ is_among (take h.count s.references) c.reference) where
     for_us : ours (table_for (books_of s) c) c ≡ true
-    for_us = ours_is ∙ not-false b t
+    for_us = ours_is ∙ t
 
     new_is : anew (in_force (table_for (books_of s) c).claims) (c.reference ∷ []) ≡ not k
     new_is =
@@ -162,7 +162,7 @@ module _ (s : Store) (c : ClaimLine) (r : Ready s) (i : InRange c.measure c.d) (
 
         same_d : h.d ≡ c.d
         same_d = sym (eqb-true c.d h.d (and_second (eqb c.measure h.measure) (eqb c.d h.d)
-            (and_second (eqb c.table h.number) (eqb c.measure h.measure && eqb c.d h.d) (sym test ∙ not-false b t))))
+            (and_second (eqb c.table h.number) (eqb c.measure h.measure && eqb c.d h.d) (sym test ∙ t))))
 
         abbrev Point : List ℤ
         Point = point h.d c.coordinates 0
