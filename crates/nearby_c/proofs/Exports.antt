@@ -1,11 +1,11 @@
 -- What a call of `nearby` promises, with its cases as numbers. Assumes nothing.
 use Prim.Native.Nat.{ℕ, ◌≤◌}
 use mathlib.Core.Path.{◌≡◌, refl, sym, ap, subst, ◌∙◌}
-use mathlib.Core.Bool.{Bool, true, false, cond, not, ◌&&◌}
+use mathlib.Core.Bool.{Bool, true, false, cond, ◌&&◌}
 use mathlib.Core.List.{List}
 use lib.Dec.{leb, eqb, lit≤}
 use lib.ListN.{length}
-use borrow.Author.Tests.{le-leb, leb-true, eq-eqb, eqb-true, not-true, not-false}
+use borrow.Author.Tests.{le-leb, leb-true, eq-eqb, eqb-true}
 use Rattle.paper.specs.declared.lines.Scope.{Scope}
 use Rattle.paper.specs.declared.lines.Wrote.{Wrote}
 use Rattle.paper.specs.declared.queries.Query as queries
@@ -58,9 +58,9 @@ line_from call q x p y before after w r e f h k =
 
 -- a probe that has no slots is refused by whoever writes
 module _ (q : Query) (p : Scope) (b : Bool) (be : b ≡ eqb (length q.probe) q.d && leb q.d most_coordinates) where
-  module _ (h : not b ≡ true) where
+  module _ (h : b ≡ false) where
     misplaced : QueryFits q → ⊥
-    misplaced w = never b (be ∙ and_both _ _ (eq-eqb _ _ w.count) (le-leb q.d most_coordinates w.range.narrow)) (not-true b h)
+    misplaced w = never b (be ∙ and_both _ _ (eq-eqb _ _ w.count) (le-leb q.d most_coordinates w.range.narrow)) (h)
 
     pub ask_misplaced : (s : ℕ) → ask_fits q p s ≡ false
     ask_misplaced s = refuted (ask_fits q p s) (λ e. misplaced (ask_fits_lem q p s e).query)
@@ -68,9 +68,9 @@ module _ (q : Query) (p : Scope) (b : Bool) (be : b ≡ eqb (length q.probe) q.d
     pub answer_misplaced : (last n : ℕ) (ns : List ℕ) → answer_fits q p last n ns ≡ false
     answer_misplaced last n ns = refuted (answer_fits q p last n ns) (λ e. misplaced (answer_fits_lem q p last n ns e).query)
 
-  module _ (h : not b ≡ false) where
+  module _ (h : b ≡ true) where
     both : (eqb (length q.probe) q.d && leb q.d most_coordinates) ≡ true
-    both = sym be ∙ not-false b h
+    both = sym be ∙ h
 
     pub placed : (length q.probe ≡ q.d) × (q.d ≤ most_coordinates)
     placed = (eqb-true _ _ (and_first _ _ both), leb-true _ _ (and_second (eqb (length q.probe) q.d) _ both))

@@ -5,7 +5,6 @@ use Rattle.paper.specs.declared.lines.AnswerRead.{AnswerRead}
 use Rattle.paper.specs.Limits.{most_coordinates}
 use Rattle.c_lists.specs.Values.{answer_out}
 use Rattle.nearby_c.proofs.Exports.{answer_narrow}
-use borrow.Author.Rules.{rules}
 use Rattle.nearby_c.proofs.bare.nearby_read_answer_line.Goals as goal
 
 pub answer_out-requires : goal.answer_out-requires

@@ -5,7 +5,6 @@ use Rattle.paper.specs.declared.lines.AskRead.{AskRead}
 use Rattle.paper.specs.Limits.{most_coordinates}
 use Rattle.c_lists.specs.Values.{ask_out}
 use Rattle.nearby_c.proofs.Exports.{ask_narrow}
-use borrow.Author.Rules.{rules}
 use Rattle.nearby_c.proofs.bare.nearby_read_ask_line.Goals as goal
 
 pub ask_out-requires : goal.ask_out-requires

@@ -10,7 +10,6 @@ use Rattle.c_lists.specs.Values.{query_from, scope_from}
 use Rattle.c_values.specs.Values.{written_out}
 use Rattle.lines.proofs.WritersReaders.{refused_10}
 use Rattle.nearby_c.proofs.Exports.{shown_as, line_from, answer_misplaced, placed, placed_query}
-use borrow.Author.Rules.{rules}
 use Rattle.nearby_c.proofs.bare.nearby_write_answer_line.Goals as goal
 
 pub returns-then-not-placeable : goal.returns-then-not-placeable

@@ -2,7 +2,6 @@
 use Rattle.paper.specs.Lines.{wrote_shown, put_line}
 use Rattle.c_values.specs.Values.{written_out}
 use Rattle.nearby_c.proofs.Exports.{shown_as}
-use borrow.Author.Rules.{rules}
 use Rattle.nearby_c.proofs.bare.nearby_write_claim_line.Goals as goal
 
 pub returns : goal.returns

@@ -2,7 +2,6 @@
 use Rattle.paper.specs.Lists.{held, taking_held}
 use Rattle.paper.specs.Codec.{lines}
 use Rattle.nearby_c.proofs.Exports.{taken_from_lem}
-use borrow.Author.Rules.{rules}
 use Rattle.nearby_c.proofs.lists.nearby_take.Goals as goal
 
 pub returns : goal.returns

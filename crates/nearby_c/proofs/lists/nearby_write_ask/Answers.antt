@@ -5,7 +5,6 @@ use Rattle.paper.specs.Codec.{lines}
 use Rattle.paper.specs.Lines.{wrote_shown, put_line}
 use Rattle.c_values.specs.Values.{written_out}
 use Rattle.nearby_c.proofs.Exports.{shown_from}
-use borrow.Author.Rules.{rules}
 use Rattle.nearby_c.proofs.lists.nearby_write_ask.Goals as goal
 
 pub returns : goal.returns

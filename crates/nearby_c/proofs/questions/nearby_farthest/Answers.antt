@@ -3,7 +3,6 @@ use mathlib.Core.Path.{sym, ap, subst, ◌∙◌}
 use Rattle.c_values.specs.declared.Item.{Item}
 use Rattle.c_values.specs.Values.{item_out, NothingOut}
 use Rattle.c_values.proofs.Cases.{nothing_out}
-use borrow.Author.Rules.{rules}
 use Rattle.nearby_c.proofs.questions.nearby_farthest.Goals as goal
 
 pub returns : goal.returns

@@ -1,7 +1,6 @@
 -- `nearby_c::questions::nearby_nearest` meets its contract: what `nearby::nearest` gives. Assumes nothing.
 use mathlib.Core.Path.{ap, ◌∙◌}
 use Rattle.c_values.specs.Values.{item_out}
-use borrow.Author.Rules.{rules}
 use Rattle.nearby_c.proofs.questions.nearby_nearest.Goals as goal
 
 pub returns : goal.returns

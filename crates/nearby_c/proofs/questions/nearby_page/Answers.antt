@@ -4,7 +4,6 @@ use Rattle.paper.specs.Tree.{store}
 use Rattle.paper.specs.Calls.{page_call, page_shown, put_page}
 use Rattle.c_values.specs.Values.{filled_out}
 use Rattle.nearby_c.proofs.Exports.{shown_from}
-use borrow.Author.Rules.{rules}
 use Rattle.nearby_c.proofs.questions.nearby_page.Goals as goal
 
 pub returns : goal.returns

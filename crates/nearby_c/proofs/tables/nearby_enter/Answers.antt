@@ -2,7 +2,6 @@
 use Rattle.paper.specs.Runs.{entered_shown, put_store}
 use Rattle.c_values.specs.Values.{entered_out}
 use Rattle.nearby_c.proofs.Exports.{shown_as}
-use borrow.Author.Rules.{rules}
 use Rattle.nearby_c.proofs.tables.nearby_enter.Goals as goal
 
 pub returns : goal.returns
