@@ -7,9 +7,6 @@ use Rattle.nearby_batch.proofs.turns.answer_lines.Goals as goal
 pub loop-t-init : goal.loop-t-init
 loop-t-init c = (going_start _ _ _ _, refl)
 
-pub goes_on-requires : goal.goes_on-requires
-goes_on-requires c = tt
-
 pub answer_next-done-requires : goal.answer_next-done-requires
 answer_next-done-requires c = record { sound = c.requires; more = goes_is _ _ _ _ c.goes_on.ensures c.loop-t-test.true }
 

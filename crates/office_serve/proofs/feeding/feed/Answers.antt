@@ -8,9 +8,6 @@ use Rattle.office_serve.proofs.feeding.feed.Goals as goal
 pub loop-references-init : goal.loop-references-init
 loop-references-init c = going_start _ _ _ _ _ _ _ c.requires.0 c.requires.1
 
-pub goes_on-requires : goal.goes_on-requires
-goes_on-requires c = tt
-
 pub turn-n-requires : goal.turn-n-requires
 turn-n-requires c = (c.loop-references.invariant.ready, c.goes_on.ensures.0 c.loop-references-test.true)
 
