@@ -13,6 +13,7 @@ use mir.Val.{SFits}
 use Rattle.paper.specs.Points.{distance, joined, weigh, greatest_of}
 use Rattle.measure.proofs.Joining.{one_more_lem}
 use Rattle.measure.proofs.Metric.{joined_most, weigh_most}
+use borrow.Author.Rules.{rules}
 use Rattle.measure.proofs.measured.Goals as goal
 
 -- with one coordinate more, no more than the greatest
@@ -29,8 +30,8 @@ loop-i-preserved c =
     let g = c.args in
     let x : ℤ = get_or g.a.now (g.at + l.i) (pos 0) in
     let y : ℤ = get_or g.b.now (g.bt + l.i) (pos 0) in
-    let hx : SFits w32 x = record { sfits = c.with_one-arg-1.given } in
-    let hy : SFits w32 y = record { sfits = c.with_one-arg-in-loop-i-1.given } in
+    let hx : SFits w32 x = search rules in
+    let hy : SFits w32 y = search rules in
     let is : c.with_one-sum.result ≡ joined g.m l.sum (weigh g.m x y) =
     c.with_one-sum.ensures.0 ∙ same_args (λ (u v : ℤ). joined g.m l.sum (weigh g.m u v)) hx hy in (
       omega arith,
@@ -43,4 +44,8 @@ pub returns : goal.returns
 returns c =
     let args = c.args in
     let loop = c.loop-i in
-    let e : loop.i ≡ args.d = omega arith in record { exact = loop.invariant.1 ∙ ap (λ (n : ℕ). distance args.m n (drop args.at args.a.now) (drop args.bt args.b.now)) e; bounded = subst (λ (n : ℕ). loop.sum ≤ greatest_of args.m n) e loop.invariant.3 }
+    let e : loop.i ≡ args.d = omega arith in
+    record {
+      exact = loop.invariant.1 ∙ ap (λ (n : ℕ). distance args.m n (drop args.at args.a.now) (drop args.bt args.b.now)) e;
+      bounded = subst (λ (n : ℕ). loop.sum ≤ greatest_of args.m n) e loop.invariant.3;
+    }

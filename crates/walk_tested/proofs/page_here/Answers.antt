@@ -15,7 +15,12 @@ page_of-paged-requires c =
     let place-refusal = c.place_refusal-why in
     let if1 = c.if-why-ne0 in
     let a = args in
-    let s = store a.t a.references.now a.coordinates.now a.nodes.now in record { answerable = page_answerable a.order s a.probe.now a.reach a.place a.size a.room.now pre _ place-refusal.ensures if1.false; size_le_most_page = page_few s _ a.size pre; pageable = page_pageable a.order s a.probe.now a.reach a.place a.size a.room.now pre _ place-refusal.ensures if1.false }
+    let s = store a.t a.references.now a.coordinates.now a.nodes.now in
+    record {
+      answerable = page_answerable a.order s a.probe.now a.reach a.place a.size a.room.now pre _ place-refusal.ensures if1.false;
+      size_le_most_page = page_few s _ a.size pre;
+      pageable = page_pageable a.order s a.probe.now a.reach a.place a.size a.room.now pre _ place-refusal.ensures if1.false;
+    }
 
 pub returns : goal.returns
 returns c =

@@ -10,6 +10,7 @@ use mir.Facts.{to_z-of_z}
 use mir.Syntax.{w32}
 use Rattle.paper.specs.Fields.{in_slots}
 use Rattle.checks.proofs.PadLaws.{so_far, one_more_lem}
+use borrow.Author.Rules.{rules}
 use Rattle.checks.proofs.slots.padded.Goals as goal
 
 pub loop-i-init : goal.loop-i-init
@@ -20,7 +21,7 @@ loop-i-preserved c =
     let l = c.loop-i in
     let p = c.args.probe.now in (
       omega arith,
-      ap (λ (z : ℤ). set l.slots l.i z) (to_z-of_z {w = w32} (record { sfits = c.slots-1.given }))
+      ap (λ (z : ℤ). set l.slots l.i z) (to_z-of_z {w = w32} (search rules))
           ∙ ap (λ (q : List ℤ). set q l.i (get_or p l.i (pos 0))) l.invariant.1 ∙ one_more_lem p l.i (omega arith) (omega arith),
     )
 

@@ -41,7 +41,10 @@ write_page-requires c =
     let a = c.args in
     let s = store a.t a.references.now a.coordinates.now a.nodes.now in
     let holds = stored_at a.p a.t.count _ _ c.place_of-place.ensures c.snapshot_holds.ensures in
-    record { asking = c.requires; stored = here_stored s a.q a.p a.size _ holds c.if-not-snapshot_holds.false }
+    record {
+      asking = c.requires;
+      stored = here_stored s a.q a.p a.size _ holds c.if-not-snapshot_holds.false;
+    }
 
 pub returns : goal.returns
 returns c =

@@ -12,7 +12,10 @@ returns-then-read-ne0 c =
 pub answer_ask-requires : goal.answer_ask-requires
 answer_ask-requires c =
     let is = read_is c.args.line.now _ c.read_ask-read.ensures in
-    record { is_open = c.requires; ask = is.given c.if-read-ne0.false }
+    record {
+      is_open = c.requires;
+      ask = is.given c.if-read-ne0.false;
+    }
 
 pub returns : goal.returns
 returns c =

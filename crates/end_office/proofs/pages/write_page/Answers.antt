@@ -25,7 +25,11 @@ pub find_page-paged-requires : goal.find_page-paged-requires
 find_page-paged-requires c =
     let a = c.args in
     let s = store a.t a.references.now a.coordinates.now a.nodes.now in
-    let long : 7 < length a.q.probe = search (rules, c.well_formed.1.1.1.1.0) in record { answerable = good_answerable s c.requires.asking.is_open.good (take a.q.d a.q.probe) (aimed s a.q a.p a.size _ c.requires.asking long); pageable = pageable s a.q a.p a.size _ c.requires _ _ c.place_of-place.ensures (lit≤ tt) }
+    let long : 7 < length a.q.probe = search (rules, c.well_formed.1.1.1.1.0) in
+    record {
+      answerable = good_answerable s c.requires.asking.is_open.good (take a.q.d a.q.probe) (aimed s a.q a.p a.size _ c.requires.asking long);
+      pageable = pageable s a.q a.p a.size _ c.requires _ _ c.place_of-place.ensures (lit≤ tt);
+    }
 
 pub answer_scope-scope-requires : goal.answer_scope-scope-requires
 answer_scope-scope-requires c = scope_from_lem c.args.p c.requires.asking.ask.scope
@@ -56,9 +60,7 @@ pub slice_bounds-write_answer-end : goal.slice_bounds-write_answer-end
 slice_bounds-write_answer-end c =
     let a = c.args in
     let s = store a.t a.references.now a.coordinates.now a.nodes.now in
-    let f =
-    page_count s a.q a.p a.size _ c.requires
-    _ _ _ c.place_of-place.ensures c.find_page-paged.ensures in
+    let f = page_count s a.q a.p a.size _ c.requires _ _ _ c.place_of-place.ensures c.find_page-paged.ensures in
     let k = c.find_page-paged.auto.scratch in
     sym (length-take-le _ _ (omega arith))
 
@@ -69,5 +71,5 @@ returns c =
     page_written (store a.t a.references.now a.coordinates.now a.nodes.now) a.q a.p a.size _ c.requires
     _ _ _ c.place_of-place.ensures c.find_page-paged.ensures
     _ c.answer_scope-scope.ensures _ c.flag.ensures
-    _ refl (λ i. (c.shared_slice_known-1.given i).fits) long
+    _ refl (λ i. (search rules)) long
     _ _ _ c.requires.asking.is_open.room c.write_answer.ensures

@@ -45,4 +45,7 @@ pub returns : goal.returns
 returns c =
     let l = c.loop-i in
     let e : l.i ≡ c.args.w = omega arith in
-    record { value = rw (← e) l.invariant.1.0; small = rw (← e) l.invariant.1.1 }
+    record {
+      value = rw (← e) l.invariant.1.0;
+      small = rw (← e) l.invariant.1.1;
+    }

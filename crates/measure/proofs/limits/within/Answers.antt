@@ -13,6 +13,7 @@ use Rattle.paper.specs.declared.points.Measure.{Measure}
 use Rattle.measure.proofs.Away.{B, same_args}
 use Rattle.measure.proofs.Joining.{one_more_lem}
 use Rattle.measure.proofs.Limiting.{limited_at, limited_beyond}
+use borrow.Author.Rules.{rules}
 use Rattle.measure.proofs.limits.within.Goals as goal
 
 -- once the coordinate is joined: the sum is the distance of one coordinate more
@@ -31,7 +32,7 @@ returns-then-limit-sum c =
     let g = c.args in
     let l = c.loop-i in
     let m = c.numbered-m in
-    let more = one_more_is m.result l.i g.at g.bt l.sum c.with_one-sum.result g.a.now g.b.now (record { sfits = c.with_one-arg-1.given }) (record { sfits = c.with_one-arg-in-loop-i-1.given }) l.invariant.1 c.with_one-sum.ensures.0 in
+    let more = one_more_is m.result l.i g.at g.bt l.sum c.with_one-sum.result g.a.now g.b.now (search rules) (search rules) l.invariant.1 c.with_one-sum.ensures.0 in
     rw (← m.ensures) (limited_beyond m.result (drop g.at g.a.now) (drop g.bt g.b.now) more c.if-limit-sum.true (omega arith))
 
 pub loop-i-preserved : goal.loop-i-preserved
@@ -39,7 +40,7 @@ loop-i-preserved c =
     let g = c.args in
     let l = c.loop-i in (
       omega arith,
-      one_more_is c.numbered-m.result l.i g.at g.bt l.sum c.with_one-sum.result g.a.now g.b.now (record { sfits = c.with_one-arg-1.given }) (record { sfits = c.with_one-arg-in-loop-i-1.given }) l.invariant.1 c.with_one-sum.ensures.0,
+      one_more_is c.numbered-m.result l.i g.at g.bt l.sum c.with_one-sum.result g.a.now g.b.now (search rules) (search rules) l.invariant.1 c.with_one-sum.ensures.0,
       omega (arith, c.with_one-sum.ensures.1),
       omega arith,
     )

@@ -13,14 +13,20 @@ pub returns-then-why-ne0 : goal.returns-then-why-ne0
 unfolding farthest_call
 returns-then-why-ne0 c =
     let s = store c.args.t c.args.references.now c.args.coordinates.now c.args.nodes.now in
-    record { shown = ask_refused s c.args.probe.now _ c.table_refusal-why.ensures (farthest_of (table_query s.table Near c.args.probe.now 0) (claims_in s)) c.if-why-ne0.true; nothing = c.if-why-ne0.true }
+    record {
+      shown = ask_refused s c.args.probe.now _ c.table_refusal-why.ensures (farthest_of (table_query s.table Near c.args.probe.now 0) (claims_in s)) c.if-why-ne0.true;
+      nothing = c.if-why-ne0.true;
+    }
 
 pub returns-then-probe-t : goal.returns-then-probe-t
 unfolding farthest_call
 returns-then-probe-t c =
     let args = c.args in
     let s = store args.t args.references.now args.coordinates.now args.nodes.now in
-    record { shown = ask_5 s args.probe.now _ c.table_refusal-why.ensures (farthest_of (table_query s.table Near args.probe.now 0) (claims_in s)) c.if-why-ne0.false c.if-probe-t.true; nothing = λ e. omega arith }
+    record {
+      shown = ask_5 s args.probe.now _ c.table_refusal-why.ensures (farthest_of (table_query s.table Near args.probe.now 0) (claims_in s)) c.if-why-ne0.false c.if-probe-t.true;
+      nothing = λ e. omega arith;
+    }
 
 pub farthest-found-requires : goal.farthest-found-requires
 farthest-found-requires c =
@@ -32,4 +38,7 @@ unfolding farthest_call farthest_of
 returns c =
     let args = c.args in
     let s = store args.t args.references.now args.coordinates.now args.nodes.now in
-    record { shown = ask_answered s args.probe.now _ c.table_refusal-why.ensures (farthest_of (table_query s.table Near args.probe.now 0) (claims_in s)) c.if-why-ne0.false c.if-probe-t.false _ c.farthest-found.ensures.found; nothing = c.farthest-found.ensures.nothing }
+    record {
+      shown = ask_answered s args.probe.now _ c.table_refusal-why.ensures (farthest_of (table_query s.table Near args.probe.now 0) (claims_in s)) c.if-why-ne0.false c.if-probe-t.false _ c.farthest-found.ensures.found;
+      nothing = c.farthest-found.ensures.nothing;
+    }

@@ -26,4 +26,8 @@ loop-t-preserved c =
     (going_on _ _ _ _ loop.invariant.0 (goes_is _ _ _ _ goes_on.ensures if1.true) _ answer-next.ensures.batch answer-next.auto.outcomes answer-next.auto.out, answer-next.ensures.refusal)
 
 pub returns : goal.returns
-returns c = record { refusal = c.loop-t.invariant.1; batch = going_done _ _ _ _ c.loop-t.invariant.0 (goes_is _ _ _ _ c.goes_on.ensures c.loop-t-test.false) }
+returns c =
+    record {
+      refusal = c.loop-t.invariant.1;
+      batch = going_done _ _ _ _ c.loop-t.invariant.0 (goes_is _ _ _ _ c.goes_on.ensures c.loop-t-test.false);
+    }

@@ -7,4 +7,8 @@ use Rattle.nearby_c.proofs.questions.nearby_farthest.Goals as goal
 
 pub returns : goal.returns
 returns c =
-    let t = c.args.t in record { shown = c.item_of.ensures ∙ ap item_out c.farthest.ensures.shown; nothing = subst (λ (i : Item). NothingOut t.count i) (sym c.item_of.ensures) (nothing_out t.count c.farthest.result c.farthest.ensures.nothing) }
+    let t = c.args.t in
+    record {
+      shown = c.item_of.ensures ∙ ap item_out c.farthest.ensures.shown;
+      nothing = subst (λ (i : Item). NothingOut t.count i) (sym c.item_of.ensures) (nothing_out t.count c.farthest.result c.farthest.ensures.nothing);
+    }

@@ -20,4 +20,8 @@ loop-i-preserved c =
     (going_on _ _ _ _ _ _ v.0 c.loop-i-test.true e.shown k.outcomes, going_on _ _ _ _ _ _ v.1 c.loop-i-test.true e.filled k.items)
 
 pub returns : goal.returns
-returns c = record { shown = going_done _ _ _ _ _ c.loop-i.invariant.0 c.loop-i-test.false; filled = going_done _ _ _ _ _ c.loop-i.invariant.1 c.loop-i-test.false }
+returns c =
+    record {
+      shown = going_done _ _ _ _ _ c.loop-i.invariant.0 c.loop-i-test.false;
+      filled = going_done _ _ _ _ _ c.loop-i.invariant.1 c.loop-i-test.false;
+    }

@@ -38,4 +38,10 @@ pub returns : goal.returns
 returns c =
     let v = c.loop-references.invariant in
     let stop = stopped _ _ _ _ _ c.loop-references-test.false v.out c.goes_on.ensures.1 in
-    record { moved = v.moved; ready = v.ready; on = going_on _ _ _ _ v.went stop; short = v.short; stops = stop }
+    record {
+      moved = v.moved;
+      ready = v.ready;
+      on = going_on _ _ _ _ v.went stop;
+      short = v.short;
+      stops = stop;
+    }

@@ -8,13 +8,19 @@ pub returns-then-sit-lt1 : goal.returns-then-sit-lt1
 returns-then-sit-lt1 c =
     let a = c.args in
     let s = store a.sit.table a.references.now a.coordinates.now a.nodes.now in
-    record { done = (λ o st. ended_left s a.line.now a.sit o st _ c.if-sit-lt1.true); short = omega (arith, c.requires.1) }
+    record {
+      done = (λ o st. ended_left s a.line.now a.sit o st _ c.if-sit-lt1.true);
+      short = omega (arith, c.requires.1);
+    }
 
 pub returns-then-sit-lt1-2 : goal.returns-then-sit-lt1-2
 returns-then-sit-lt1-2 c =
     let a = c.args in
     let s = store a.sit.table a.references.now a.coordinates.now a.nodes.now in
-    record { done = (λ o st. ended_size s a.line.now a.sit o st _ c.if-sit-lt1-2.true); short = omega (arith, c.requires.1) }
+    record {
+      done = (λ o st. ended_size s a.line.now a.sit o st _ c.if-sit-lt1-2.true);
+      short = omega (arith, c.requires.1);
+    }
 
 pub returns : goal.returns
 returns c =
@@ -25,4 +31,7 @@ returns c =
     let a = args in
     let s = store a.sit.table a.references.now a.coordinates.now a.nodes.now in
     let v = serve-cut.ensures in
-    record { done = (λ o st. ended_line s a.line.now a.sit o st _ if1.false if2.false _ _ _ v.served); short = v.short }
+    record {
+      done = (λ o st. ended_line s a.line.now a.sit o st _ if1.false if2.false _ _ _ v.served);
+      short = v.short;
+    }

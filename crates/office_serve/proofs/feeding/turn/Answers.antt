@@ -13,7 +13,12 @@ returns-then-not-c c =
     let a = c.args in
     let s = store a.sit.table a.references.now a.coordinates.now a.nodes.now in
     let p = c.requires in
-    let k = c.cut-c in record { moved = (λ o st. moved_part a.sit s a.line.now _ a.chunk.now _ p.0.line k.ensures o p.1.left (not-true _ c.if-not-c.true) _ st); ready = record { ready = p.0.ready; line = k.auto.line ∙ p.0.line }; on = (turn_on a.sit s a.line.now _ a.chunk.now _ p.0.line k.ensures p.1.unread, omega (arith, p.1.room)) }
+    let k = c.cut-c in
+    record {
+      moved = (λ o st. moved_part a.sit s a.line.now _ a.chunk.now _ p.0.line k.ensures o p.1.left (not-true _ c.if-not-c.true) _ st);
+      ready = record { ready = p.0.ready; line = k.auto.line ∙ p.0.line };
+      on = (turn_on a.sit s a.line.now _ a.chunk.now _ p.0.line k.ensures p.1.unread, omega (arith, p.1.room));
+    }
 
 pub serve_cut-s-requires : goal.serve_cut-s-requires
 serve_cut-s-requires c =
@@ -31,4 +36,9 @@ returns c =
     let p = c.requires in
     let k = c.cut-c in
     let v = c.serve_cut-s.ensures in
-    let len : length k.new.line ≡ longest_answer = k.auto.line ∙ p.0.line in record { moved = (λ o st. moved_line a.sit s a.line.now _ a.chunk.now _ p.0.line k.ensures o p.1.left (not-false _ c.if-not-c.false) _ _ _ _ v.served len st); ready = record { ready = v.ready; line = len }; on = (turn_on a.sit s a.line.now _ a.chunk.now _ p.0.line k.ensures p.1.unread, v.short) }
+    let len : length k.new.line ≡ longest_answer = k.auto.line ∙ p.0.line in
+    record {
+      moved = (λ o st. moved_line a.sit s a.line.now _ a.chunk.now _ p.0.line k.ensures o p.1.left (not-false _ c.if-not-c.false) _ _ _ _ v.served len st);
+      ready = record { ready = v.ready; line = len };
+      on = (turn_on a.sit s a.line.now _ a.chunk.now _ p.0.line k.ensures p.1.unread, v.short);
+    }

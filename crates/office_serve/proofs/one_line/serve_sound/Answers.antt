@@ -6,7 +6,10 @@ use Rattle.office_serve.proofs.one_line.serve_sound.Goals as goal
 pub take_claim-requires : goal.take_claim-requires
 take_claim-requires c =
     let pre = c.requires in
-    record { serving = pre.0; range = claim_range _ _ c.claim_in-as_claim.ensures c.if-as_claim-eq0.true }
+    record {
+      serving = pre.0;
+      range = claim_range _ _ c.claim_in-as_claim.ensures c.if-as_claim-eq0.true;
+    }
 
 pub returns-then-as_claim-eq0 : goal.returns-then-as_claim-eq0
 returns-then-as_claim-eq0 c =
@@ -20,7 +23,10 @@ returns-then-as_claim-eq0 c =
 pub take_ask-end-requires : goal.take_ask-end-requires
 take_ask-end-requires c =
     let pre = c.requires in
-    record { serving = pre.0; ask = ask_fields _ _ c.ask_in-as_ask.ensures c.if-as_ask-eq0.true }
+    record {
+      serving = pre.0;
+      ask = ask_fields _ _ c.ask_in-as_ask.ensures c.if-as_ask-eq0.true;
+    }
 
 pub returns-then-as_ask-eq0 : goal.returns-then-as_ask-eq0
 returns-then-as_ask-eq0 c =

@@ -20,7 +20,10 @@ pub returns-then-used-eq0 : goal.returns-then-used-eq0
 returns-then-used-eq0 c =
     let a = c.args in
     let e = entered_first (apart a.measure a.d a.coordinates.now) a.used a.k a.nodes.now c.if-used-eq0.true in
-    record { nodes = c.make.ensures ∙ sym (ap (λ (x : Grown). x.nodes) e); used = sym (ap (λ (x : Grown). x.used) e) }
+    record {
+      nodes = c.make.ensures ∙ sym (ap (λ (x : Grown). x.nodes) e);
+      used = sym (ap (λ (x : Grown). x.used) e);
+    }
 
 pub loop-nodes-init : goal.loop-nodes-init
 loop-nodes-init c = going_start _ _ _ _ c.if-used-eq0.false c.requires.linked
@@ -34,7 +37,10 @@ store-requires c = (lit< tt, inside c.loop-nodes.invariant c.requires)
 pub returns-then-field-eq0 : goal.returns-then-field-eq0
 returns-then-field-eq0 c =
     let e = going_stop c.loop-nodes.invariant (sym c.field.ensures ∙ c.if-field-eq0.true) in
-    record { nodes = c.store.ensures ∙ sym (ap (λ (x : Grown). x.nodes) e); used = sym (ap (λ (x : Grown). x.used) e) }
+    record {
+      nodes = c.store.ensures ∙ sym (ap (λ (x : Grown). x.nodes) e);
+      used = sym (ap (λ (x : Grown). x.used) e);
+    }
 
 pub field-left-requires : goal.field-left-requires
 field-left-requires c = (lit< tt, inside c.loop-nodes.invariant c.requires)
@@ -46,13 +52,15 @@ pub overflow_sub-left : goal.overflow_sub-left
 overflow_sub-left c = (going_claim c.loop-nodes.invariant {s = 0} (lit< tt) (λ z. c.if-field-eq0.false (c.field.ensures ∙ z)) c.field-left.ensures).0
 
 pub overflow_mul-left : goal.overflow_mul-left
-overflow_mul-left c = record { fits = omega (arith, (going_two c.loop-nodes.invariant (λ z. c.if-field-eq0.false (c.field.ensures ∙ z)) c.field-left.ensures c.field-right.ensures c.requires.located).left_at) }
+overflow_mul-left c =
+    record { fits = omega (arith, (going_two c.loop-nodes.invariant (λ z. c.if-field-eq0.false (c.field.ensures ∙ z)) c.field-left.ensures c.field-right.ensures c.requires.located).left_at) }
 
 pub overflow_sub-right : goal.overflow_sub-right
 overflow_sub-right c = (going_claim c.loop-nodes.invariant {s = 1} (lit< tt) (λ z. c.if-field-eq0.false (c.field.ensures ∙ z)) c.field-right.ensures).0
 
 pub overflow_mul-right : goal.overflow_mul-right
-overflow_mul-right c = record { fits = omega (arith, (going_two c.loop-nodes.invariant (λ z. c.if-field-eq0.false (c.field.ensures ∙ z)) c.field-left.ensures c.field-right.ensures c.requires.located).right_at) }
+overflow_mul-right c =
+    record { fits = omega (arith, (going_two c.loop-nodes.invariant (λ z. c.if-field-eq0.false (c.field.ensures ∙ z)) c.field-left.ensures c.field-right.ensures c.requires.located).right_at) }
 
 pub overflow_mul-k : goal.overflow_mul-k
 overflow_mul-k c = record { fits = omega (arith, located_at _ (c.args.k + 1) c.args.k _ c.requires.located (omega arith)) }
@@ -84,7 +92,10 @@ unfolding apart
 returns-then-below-eq0 c =
     let a = c.args in
     let e = going_new (below_left c.loop-nodes.invariant (λ z. c.if-field-eq0.false (c.field.ensures ∙ z)) c.field-left.ensures c.field-right.ensures c.from_both-to.ensures.left_is.exact c.from_both-to.ensures.right_is.exact c.if-to.true) c.field-below.ensures c.widen.ensures c.if-below-eq0.true in
-    record { nodes = c.make-then-below-eq0.ensures ∙ ap (λ (x : List ℕ). new_node x a.used a.k) c.store-then-below-eq0.ensures ∙ sym (ap (λ (x : Grown). x.nodes) e); used = sym (ap (λ (x : Grown). x.used) e) }
+    record {
+      nodes = c.make-then-below-eq0.ensures ∙ ap (λ (x : List ℕ). new_node x a.used a.k) c.store-then-below-eq0.ensures ∙ sym (ap (λ (x : Grown). x.nodes) e);
+      used = sym (ap (λ (x : Grown). x.used) e);
+    }
 
 pub loop-nodes-smaller-then-to : goal.loop-nodes-smaller-then-to
 unfolding apart
@@ -118,7 +129,10 @@ unfolding apart
 returns-then-below-eq0-2 c =
     let a = c.args in
     let e = going_new (below_right c.loop-nodes.invariant (λ z. c.if-field-eq0.false (c.field.ensures ∙ z)) c.field-left.ensures c.field-right.ensures c.from_both-to.ensures.left_is.exact c.from_both-to.ensures.right_is.exact c.if-to.false) c.field-below-in-loop-nodes.ensures c.widen-in-loop-nodes.ensures c.if-below-eq0-2.true in
-    record { nodes = c.make-then-below-eq0-2.ensures ∙ ap (λ (x : List ℕ). new_node x a.used a.k) c.store-then-below-eq0-2.ensures ∙ sym (ap (λ (x : Grown). x.nodes) e); used = sym (ap (λ (x : Grown). x.used) e) }
+    record {
+      nodes = c.make-then-below-eq0-2.ensures ∙ ap (λ (x : List ℕ). new_node x a.used a.k) c.store-then-below-eq0-2.ensures ∙ sym (ap (λ (x : Grown). x.nodes) e);
+      used = sym (ap (λ (x : Grown). x.used) e);
+    }
 
 pub loop-nodes-smaller : goal.loop-nodes-smaller
 unfolding apart

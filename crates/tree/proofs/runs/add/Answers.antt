@@ -12,7 +12,9 @@ inside : (s : Store) → Roomy s 1 → s.table.count * s.table.d + s.table.d ≤
 inside s p = good_end s p.good (omega (arith, p.free))
 
 pub overflow_mul-k : goal.overflow_mul-k
-overflow_mul-k c = let a = c.args in record { fits = omega (arith, inside (store a.t a.references.now a.coordinates.now a.nodes.now) c.requires.0) }
+overflow_mul-k c =
+    let a = c.args in
+    record { fits = omega (arith, inside (store a.t a.references.now a.coordinates.now a.nodes.now) c.requires.0) }
 
 pub copy-requires : goal.copy-requires
 copy-requires c = (inside _ c.requires.0, c.requires.1)

@@ -9,6 +9,7 @@ use lib.ListN.{length, get_or, set, drop, length-set, length-drop}
 use lib.Seq.{paste, paste-zero, paste-suc, get_or-drop}
 use mir.Facts.{to_z-of_z}
 use mir.Syntax.{w32}
+use borrow.Author.Rules.{rules}
 use Rattle.tree.proofs.runs.copy.Goals as goal
 
 -- one coordinate more
@@ -29,7 +30,7 @@ pub loop-i-preserved : goal.loop-i-preserved
 loop-i-preserved c =
     let v = c.loop-i.invariant in
     let a = c.args in
-    (omega arith, simp length-set v.1, one_more_lem a.coordinates.now a.at a.points.now a.from c.loop-i.i _ _ v.2 (to_z-of_z {w = w32} (record { sfits = c.coordinates-1.given })) (omega arith) (omega arith))
+    (omega arith, simp length-set v.1, one_more_lem a.coordinates.now a.at a.points.now a.from c.loop-i.i _ _ v.2 (to_z-of_z {w = w32} (search rules)) (omega arith) (omega arith))
 
 pub returns : goal.returns
 returns c = let l = c.loop-i in let q : l.i ≡ c.args.n = omega arith in rw q at l.invariant.2

@@ -27,7 +27,8 @@ pub overflow_mul-c : goal.overflow_mul-c
 overflow_mul-c c =
     let args = c.args in
     let in-range = c.in_range in
-    let t = args.t in record { fits = omega (arith, few_points t.capacity t.d (omega arith) (range_is t.measure t.d (sym in-range.ensures ∙ c.if-not-in_range.false)).narrow) }
+    let t = args.t in
+    record { fits = omega (arith, few_points t.capacity t.d (omega arith) (range_is t.measure t.d (sym in-range.ensures ∙ c.if-not-in_range.false)).narrow) }
 
 pub returns-then-coordinates-c : goal.returns-then-coordinates-c
 unfolding fits

@@ -53,4 +53,7 @@ returns c =
     let v = c.loop-i.invariant in
     let a = c.args in
     let end : c.loop-i.i ≡ length a.given.now = omega (arith, v.1.0.inside) in
-    record { differ = below_all (AtEarlier _) _ _ v.1.1 end; indexed = λ t. rw (← end) v.1.0 }
+    record {
+      differ = below_all (AtEarlier _) _ _ v.1.1 end;
+      indexed = λ t. rw (← end) v.1.0;
+    }

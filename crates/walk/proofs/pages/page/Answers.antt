@@ -12,4 +12,7 @@ pub returns : goal.returns
 returns c =
     let node = c.node in
     let give = c.give in
-    record { filled = (λ q is. page_filled _ _ _ _ _ _ c.requires _ node.ensures.walked q is _ _ (give.ensures q is)); bounded = node.ensures.bounded }
+    record {
+      filled = (λ q is. page_filled _ _ _ _ _ _ c.requires _ node.ensures.walked q is _ _ (give.ensures q is));
+      bounded = node.ensures.bounded;
+    }

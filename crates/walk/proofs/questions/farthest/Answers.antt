@@ -9,4 +9,7 @@ returns c =
     let a = c.args in
     let s = store a.t a.references.now a.coordinates.now a.nodes.now in
     let is = farthest_is s a.probe.now _ _ _ c.numbered.ensures c.greatest-greatest.ensures c.first.ensures.found in
-    record { found = is; nothing = farthest_just s a.probe.now c.requires c.first.ensures.bounded _ is }
+    record {
+      found = is;
+      nothing = farthest_just s a.probe.now c.requires c.first.ensures.bounded _ is;
+    }

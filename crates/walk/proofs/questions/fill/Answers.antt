@@ -7,7 +7,10 @@ pub returns-then-used-eq0 : goal.returns-then-used-eq0
 returns-then-used-eq0 c =
     let a = c.args in
     let p = c.requires in
-    record { filled = fill_none (store a.t a.references.now a.coordinates.now a.nodes.now) a.probe.now p.answerable _ _ _ _ _ c.if-used-eq0.true p.pageable; bounded = λ some. absurd (some c.if-used-eq0.true) }
+    record {
+      filled = fill_none (store a.t a.references.now a.coordinates.now a.nodes.now) a.probe.now p.answerable _ _ _ _ _ c.if-used-eq0.true p.pageable;
+      bounded = λ some. absurd (some c.if-used-eq0.true);
+    }
 
 pub page-requires : goal.page-requires
 page-requires c =
@@ -26,4 +29,8 @@ returns c =
     let page = c.page in
     let a = c.args in
     let p = c.requires in
-    let s = store a.t a.references.now a.coordinates.now a.nodes.now in record { filled = fill_done s a.probe.now p.answerable _ _ if1.false _ padded.ensures _ _ _ asked.ensures _ p.pageable _ _ page.ensures.filled; bounded = root_told s a.probe.now p.answerable _ _ if1.false _ padded.ensures _ _ _ asked.ensures _ p.pageable page.ensures.bounded }
+    let s = store a.t a.references.now a.coordinates.now a.nodes.now in
+    record {
+      filled = fill_done s a.probe.now p.answerable _ _ if1.false _ padded.ensures _ _ _ asked.ensures _ p.pageable _ _ page.ensures.filled;
+      bounded = root_told s a.probe.now p.answerable _ _ if1.false _ padded.ensures _ _ _ asked.ensures _ p.pageable page.ensures.bounded;
+    }

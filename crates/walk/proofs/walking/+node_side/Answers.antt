@@ -20,7 +20,11 @@ node-field-requires t c = let p = c.requires.walk in omega arith
 pub node-returns-then-field-eq0 : goal.node-returns-then-field-eq0
 node-returns-then-field-eq0 t c =
     let a = c.args in
-    let v = c.visit-v.ensures in record { walked = (λ q is. node_one q a.coordinates.now a.probe.now a.nodes.now a.m _ _ (v q is).walked (sym c.field.ensures ∙ c.if-field-eq0.true)); bounded = (λ q is. (v q is).left_is.bounded) }
+    let v = c.visit-v.ensures in
+    record {
+      walked = (λ q is. node_one q a.coordinates.now a.probe.now a.nodes.now a.m _ _ (v q is).walked (sym c.field.ensures ∙ c.if-field-eq0.true));
+      bounded = (λ q is. (v q is).left_is.bounded);
+    }
 
 pub node-way_down-way-requires : goal.node-way_down-way-requires
 node-way_down-way-requires t c =

@@ -11,7 +11,9 @@ pub overflow_sub-j : goal.overflow_sub-j
 overflow_sub-j c = some_both _ _ _ _ _ c.requires _ _ _ c.field-left.ensures c.field-right.ensures c.either-j.ensures
 
 pub overflow_cast-ask : goal.overflow_cast-ask
-overflow_cast-ask c = let p = c.requires.lent in record { fits = omega (arith, measure_told _ _ p.is, p.measure) }
+overflow_cast-ask c =
+    let p = c.requires.lent in
+    record { fits = omega (arith, measure_told _ _ p.is, p.measure) }
 
 pub overflow_mul-k : goal.overflow_mul-k
 overflow_mul-k c =
