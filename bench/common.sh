@@ -32,7 +32,7 @@ find_archive() {
     archive=${NEARBY_ARCHIVE:-}
     if [ -z "$archive" ]; then
         printf 'bench: making the archive (this proves what is below it, once)\n' >&2
-        (cd "$root" && rt staticlib nearby_c) >"$out/archive.log" 2>&1 || stop "the archive could not be made: see $out/archive.log"
+        "$root/build" archive >"$out/archive.log" 2>&1 || stop "the archive could not be made: see $out/archive.log"
         archive=$root/target/staticlib
     fi
     use_archive "$archive"

@@ -1,7 +1,7 @@
 /*
  * The nearby-claims cursor for C and C++.
  *
- * The archive libnearby_c.a has these calls; `rt staticlib nearby_c` writes it to target/staticlib. It needs nothing but memcpy
+ * The archive libnearby_c.a has these calls; `./build archive` writes it to target/staticlib. It needs nothing but memcpy
  * and memset.
  *
  * Numbers in brackets are rules of docs/RULES.md.

@@ -1,4 +1,4 @@
-//! Finds the archive `libnearby_c.a`: in the folder that `NEARBY_ARCHIVE` names, or where `rt staticlib nearby_c` puts it.
+//! Finds the archive `libnearby_c.a`: in the folder that `NEARBY_ARCHIVE` names, or where `./build archive` puts it.
 
 use std::env;
 use std::path::{Path, PathBuf};
@@ -19,7 +19,7 @@ fn main() {
     println!("cargo:rerun-if-changed={}", archive.display());
     if !archive.is_file() {
         eprintln!("there is no {}", archive.display());
-        eprintln!("run `rt staticlib nearby_c` at the repository's root, or set NEARBY_ARCHIVE to the folder that has {ARCHIVE}");
+        eprintln!("run `./build archive` at the repository's root, or set NEARBY_ARCHIVE to the folder that has {ARCHIVE}");
         std::process::exit(1);
     }
     println!("cargo:rustc-link-search=native={}", folder.display());
