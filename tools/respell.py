@@ -123,7 +123,7 @@ def main():
             return word
         # Behind a dot stands a field, a name of one of our modules, or a name that Rattle makes.
         owner = re.search(r"([^\s(){}\[\];,.`\"|⌜⌝@:]+)\.$", text[max(0, at - 80) : at])
-        if owner and word not in fields and not (owner.group(1)[0].isupper() and word not in LEMMAS):
+        if owner and word not in fields and (word in LEMMAS or not (owner.group(1)[0].isupper() or owner.group(1) in aliases)):
             return word
         return new[word]
 
@@ -131,6 +131,8 @@ def main():
         before = read(path) if path.endswith((".antt", ".rt", ".edit")) else None
         # Functions of src/ keep their names.
         code = not path.endswith(".antt")
+        # Names under which a file of laws has our modules.
+        aliases = set() if in_function(path) else set(re.findall(r"^use Rattle\.\S+ as ([^\s;]+)", before, re.M))
         if before is None:
             continue
         after = TOKEN.sub(turned, before) if path.endswith(".antt") else "".join(

@@ -19,8 +19,7 @@ pub returns : goal.returns
 returns c =
     let args = c.args in
     let if1 = c.if-out-lt-LONGEST_ANSWER in
-    let table_refusal_lem = c.table_refusal-why in
     let if2 = c.if-why-ne0 in
     let a = args in
     let s = store a.t a.references.now a.coordinates.now a.nodes.now in
-    all_answered s a.asks.now a.outcomes.now a.out.now _ if1.false _ table_refusal_lem.ensures if2.false _ _ c.answer_lines.ensures
+    all_answered s a.asks.now a.outcomes.now a.out.now _ if1.false _ c.table_refusal-why.ensures if2.false _ _ c.answer_lines.ensures

@@ -10,15 +10,13 @@ returns-then-not-size_holds c = sym (page_out c.args.p c.args.size (sym c.scope_
 pub returns-then-p-eq1 : goal.returns-then-p-eq1
 returns-then-p-eq1 c =
     let args = c.args in
-    let scope_ok_lem = c.scope_ok in
-    sym (placed args.p args.size (sym scope_ok_lem.ensures ∙ c.if-scope_ok.true) _ c.size_holds.ensures c.if-not-size_holds.false c.if-p-eq1.true)
+    sym (placed args.p args.size (sym c.scope_ok.ensures ∙ c.if-scope_ok.true) _ c.size_holds.ensures c.if-not-size_holds.false c.if-p-eq1.true)
 
 pub returns-then-scope_ok : goal.returns-then-scope_ok
 returns-then-scope_ok c =
     let args = c.args in
-    let scope_ok_lem = c.scope_ok in
     let if1 = c.if-scope_ok in
-    sym (unplaced args.p args.size (sym scope_ok_lem.ensures ∙ if1.true) _ c.size_holds.ensures c.if-not-size_holds.false c.if-p-eq1.false)
+    sym (unplaced args.p args.size (sym c.scope_ok.ensures ∙ if1.true) _ c.size_holds.ensures c.if-not-size_holds.false c.if-p-eq1.false)
 
 pub returns : goal.returns
 unfolding ask_ranges

@@ -20,5 +20,4 @@ pub returns : goal.returns
 returns c =
     let args = c.args in
     let if1 = c.if-out-lt-LONGEST_ANSWER in
-    let table_refusal_lem = c.table_refusal-why in
-    office_answers (store args.t args.references.now args.coordinates.now args.nodes.now) args.out.now args.line.now if1.false _ table_refusal_lem.ensures c.if-why-ne0.false _ _ c.answer_line.ensures
+    office_answers (store args.t args.references.now args.coordinates.now args.nodes.now) args.out.now args.line.now if1.false _ c.table_refusal-why.ensures c.if-why-ne0.false _ _ c.answer_line.ensures

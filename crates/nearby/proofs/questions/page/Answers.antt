@@ -20,18 +20,16 @@ returns-then-probe-t c =
 pub returns-then-not-size_holds : goal.returns-then-not-size_holds
 returns-then-not-size_holds c =
     let a = c.args in
-    let table_refusal_lem = c.table_refusal-why in
     let s = store a.t a.references.now a.coordinates.now a.nodes.now in
     page_refusal a.order s a.probe.now a.reach a.place a.size a.room.now _
-    (page_6 a.order s a.probe.now a.reach a.place a.size (length a.room.now) _ table_refusal_lem.ensures c.if-why-ne0.false c.if-probe-t.false _ c.size_holds.ensures c.if-not-size_holds.true)
+    (page_6 a.order s a.probe.now a.reach a.place a.size (length a.room.now) _ c.table_refusal-why.ensures c.if-why-ne0.false c.if-probe-t.false _ c.size_holds.ensures c.if-not-size_holds.true)
 
 pub page_here-requires : goal.page_here-requires
 page_here-requires c =
     let a = c.args in
-    let table_refusal_lem = c.table_refusal-why in
     let if1 = c.if-why-ne0 in
     page_askable a.order (store a.t a.references.now a.coordinates.now a.nodes.now) a.probe.now a.reach a.place a.size
-    (length a.room.now) _ table_refusal_lem.ensures if1.false c.if-probe-t.false _ c.size_holds.ensures
+    (length a.room.now) _ c.table_refusal-why.ensures if1.false c.if-probe-t.false _ c.size_holds.ensures
     c.if-not-size_holds.false
 
 pub returns : goal.returns

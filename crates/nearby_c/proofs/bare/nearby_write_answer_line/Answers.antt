@@ -29,11 +29,10 @@ returns c =
     let a = c.args in
     let placeable = c.placeable in
     let if1 = c.if-not-placeable in
-    let query_of_lem = c.query_of-query in
     let order-in = c.order_in-own in
     let scope-in = c.scope_in-scope in
     line_from
     (λ (q : Query) (p : Scope). bare_line (answer_fits q p a.last a.count a.items.now) longest_answer (answer_frame q p a.last a.count a.items.now) (length a.out.now))
     (query_from a.order a.table a.measure a.d a.probe.now a.p.reach) _ (scope_from a.p) _ _ _ _ _
-    (placed_query (query_from a.order a.table a.measure a.d a.probe.now a.p.reach) (scope_from a.p) _ placeable.ensures if1.false _ (query_of_lem.ensures ∙ rw order-in.ensures))
+    (placed_query (query_from a.order a.table a.measure a.d a.probe.now a.p.reach) (scope_from a.p) _ placeable.ensures if1.false _ (c.query_of-query.ensures ∙ rw order-in.ensures))
     scope-in.ensures c.write_answer_line-wrote.ensures c.line_of-2.ensures

@@ -15,10 +15,9 @@ pub returns-then-as_claim-eq0 : goal.returns-then-as_claim-eq0
 returns-then-as_claim-eq0 c =
     let a = c.args in
     let sure = c.requires.1 in
-    let claim_in_lem = c.claim_in-as_claim in
     let if1 = c.if-as_claim-eq0 in
     let take-claim = c.take_claim in
-    line_claim (store a.t a.references.now a.coordinates.now a.nodes.now) _ a.out.now a.at _ _ sure _ claim_in_lem.ensures _ if1.true take-claim.ensures
+    line_claim (store a.t a.references.now a.coordinates.now a.nodes.now) _ a.out.now a.at _ _ sure _ c.claim_in-as_claim.ensures _ if1.true take-claim.ensures
 
 pub take_ask-end-requires : goal.take_ask-end-requires
 take_ask-end-requires c =
@@ -32,18 +31,16 @@ pub returns-then-as_ask-eq0 : goal.returns-then-as_ask-eq0
 returns-then-as_ask-eq0 c =
     let a = c.args in
     let pre = c.requires in
-    let claim_in_lem = c.claim_in-as_claim in
     let if1 = c.if-as_claim-eq0 in
     let ask_in = c.ask_in-as_ask in
-    line_ask (store a.t a.references.now a.coordinates.now a.nodes.now) _ a.out.now a.at _ _ pre.1 _ claim_in_lem.ensures if1.false pre.0.ready _ ask_in.ensures c.if-as_ask-eq0.true
+    line_ask (store a.t a.references.now a.coordinates.now a.nodes.now) _ a.out.now a.at _ _ pre.1 _ c.claim_in-as_claim.ensures if1.false pre.0.ready _ ask_in.ensures c.if-as_ask-eq0.true
     c.take_ask-end.ensures
 
 pub returns : goal.returns
 returns c =
     let a = c.args in
     let pre = c.requires in
-    let claim_in_lem = c.claim_in-as_claim in
     let if1 = c.if-as_claim-eq0 in
     let ask_in = c.ask_in-as_ask in
-    line_none (store a.t a.references.now a.coordinates.now a.nodes.now) _ a.out.now a.at _ _ pre.1 _ claim_in_lem.ensures if1.false pre.0.ready _ ask_in.ensures c.if-as_ask-eq0.false
+    line_none (store a.t a.references.now a.coordinates.now a.nodes.now) _ a.out.now a.at _ _ pre.1 _ c.claim_in-as_claim.ensures if1.false pre.0.ready _ ask_in.ensures c.if-as_ask-eq0.false
     c.refuse-end.ensures
