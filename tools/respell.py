@@ -131,10 +131,10 @@ def main():
         before = read(path) if path.endswith((".antt", ".rt", ".edit")) else None
         # Functions of src/ keep their names.
         code = not path.endswith(".antt")
-        # Names under which a file of laws has our modules.
-        aliases = set() if in_function(path) else set(re.findall(r"^use Rattle\.\S+ as ([^\s;]+)", before, re.M))
         if before is None:
             continue
+        # Names under which a file of laws has our modules.
+        aliases = set() if in_function(path) else set(re.findall(r"^use Rattle\.\S+ as ([^\s;]+)", before, re.M))
         after = TOKEN.sub(turned, before) if path.endswith(".antt") else "".join(
             part if i % 2 else TOKEN.sub(turned, part) for i, part in enumerate(re.split(r'("(?:[^"\\\n]|\\.)*")', before))
         )
