@@ -114,8 +114,8 @@ static size_t untouched(const unsigned char *stack)
     return i;
 }
 
-/* The last 64 KiB of the promised stack stay untouched, so there is room for the caller's own. Over 256 KiB are not: the soundness test has
- * 192 of them, and the walk went down behind it. */
+/* The last 64 KiB of the promised stack stay untouched, so there is room for the caller's own. Over 128 KiB are not: the soundness test has
+ * 192 of them, which it gives back before the walk goes down, and the walk takes some 160. */
 static void deepest_tree_on_the_promised_stack(void)
 {
     seeded from = seed(67);
@@ -133,7 +133,7 @@ static void deepest_tree_on_the_promised_stack(void)
     pthread_attr_destroy(&attributes);
     CHECK(w.wrong == 0);
     CHECK(untouched(stack) >= 65536);
-    CHECK(untouched(stack) < NEARBY_STACK - 262144);
+    CHECK(untouched(stack) < NEARBY_STACK - 131072);
     free(stack);
     free_store(&s);
 }

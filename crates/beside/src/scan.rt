@@ -1,205 +1,112 @@
 // The plain scan: every claim is measured, and the first one in order behind the last one taken is looked for anew for each item.
-ghost use Rattle.std.specs.Prelude.{◌≡◌, ◌<◌, ◌≤◌};
-ghost use Rattle.paper.specs.Limits.{most_page};
+ghost use Rattle.std.specs.Prelude.{◌<◌, ◌≤◌, length};
 
-use super::tables::{above, reference};
-use paper::limits::{ITEM_ROOM, MOST_PAGE};
-use std::num::wrapping_add_u64;
+use super::tables::{Point, reference};
+use paper::limits::{ITEM_ROOM, MOST_COORDINATES};
+use paper::orders::{Item, Order, Paged};
+use paper::points::Measure;
+use std::cmp::Ordering;
 
-// A question, as the scan knows it. Where `after` is set, only what comes after the mark counts.
+// A question about the first `snapshot` claims, as the scan knows it. Where there is an item to come after, only what does counts.
 #[derive(Clone, Copy)]
 pub struct Asking {
-    pub far: bool,
-    pub measure: u64,
-    pub d: usize,
+    pub order: Order,
     pub reach: u64,
     pub snapshot: usize,
-    pub after: bool,
-    pub distance: u64,
-    pub number: u64,
+    pub after: Option<Item>,
     pub size: usize,
 }
 
-// The best claim so far.
+impl Asking {
+    fn compare(&self, a: &Item, b: &Item) -> Ordering {
+        let by_distance = match self.order {
+            Order::Near => a.distance.cmp(&b.distance),
+            Order::Far => b.distance.cmp(&a.distance),
+        };
+        by_distance.then(a.number.cmp(&b.number))
+    }
+
+    fn lets_in(&self, item: &Item) -> bool {
+        item.distance <= self.reach
+            && self
+                .after
+                .is_none_or(|mark| self.compare(&mark, item).is_lt())
+    }
+}
+
+// What is measured. A measure takes as many of a point's coordinates as the probe has.
 #[derive(Clone, Copy)]
-pub struct Best {
-    pub found: bool,
-    pub number: u64,
-    pub distance: u64,
+pub struct Scan<'a> {
+    pub measure: Measure,
+    pub points: &'a [Point],
+    pub probe: &'a [i32],
 }
 
-fn gap(a: u64, b: u64) -> u64 {
-    if a < b { b - a } else { a - b }
-}
-
-fn joined(measure: u64, sum: u64, g: u64) -> u64 {
-    if measure == 1 {
-        return wrapping_add_u64(sum, g);
-    }
-    if measure == 2 {
-        if sum < g {
-            return g;
-        }
-        return sum;
-    }
-    if g == 0 {
-        return sum;
-    }
-    wrapping_add_u64(sum, 1)
-}
-
-pub fn distance(measure: u64, d: usize, points: &[u64; 384], k: usize, codes: &[u64; 8]) -> u64
-    requires { (k < 48) × (d ≤ 8) }
-{
-    let mut sum: u64 = 0;
-    let mut i: usize = 0;
-    while i < d {
-        sum = joined(measure, sum, gap(above(points[k * 8 + i]), above(codes[i])));
-        i += 1;
-    }
-    sum
-}
-
-// Whether distance x and number k come before distance y and number j.
-fn comes(far: bool, x: u64, k: u64, y: u64, j: u64) -> bool {
-    if x == y {
-        return k < j;
-    }
-    if far {
-        return y < x;
-    }
-    x < y
-}
-
-// Whether the question lets claim k in, at distance x.
-fn lets_in(a: Asking, k: u64, x: u64) -> bool {
-    let reach = a.reach;
-    if reach < x {
-        return false;
-    }
-    let after = a.after;
-    if after {
-        return comes(a.far, a.distance, a.number, x, k);
-    }
-    true
-}
-
-// The better one of the best so far and claim k, at distance x.
-fn better(a: Asking, best: Best, k: u64, x: u64) -> Best {
-    if !lets_in(a, k, x) {
-        return best;
-    }
-    let found = best.found;
-    if found {
-        if !comes(a.far, x, k, best.distance, best.number) {
-            return best;
+impl Scan<'_> {
+    fn distance(&self, point: &[i32]) -> u64
+        requires { length point.now ≤ MOST_COORDINATES }
+    {
+        let gaps = point
+            .iter()
+            .zip(self.probe)
+            .map(|(a, b)| u64::from(a.abs_diff(*b)));
+        match self.measure {
+            Measure::CityBlock => gaps.sum(),
+            Measure::Maximum => gaps.max().unwrap_or(0),
+            Measure::Hamming => gaps.filter(|gap| *gap != 0).count() as u64,
         }
     }
-    Best {
-        found: true,
-        number: k,
-        distance: x,
-    }
-}
 
-// How many claims the question lets in.
-pub fn all(points: &[u64; 384], codes: &[u64; 8], a: Asking) -> u64
-    requires { (a.snapshot ≤ 48) × (a.d ≤ 8) }
-{
-    let snapshot = a.snapshot;
-    let mut n: u64 = 0;
-    let mut k: usize = 0;
-    while k < snapshot {
-        let x = distance(a.measure, a.d, points, k, codes);
-        n = wrapping_add_u64(n, lets_in(a, k as u64, x) as u64);
-        k += 1;
-    }
-    n
-}
-
-// The first claim in order of those that the question lets in.
-pub fn first(points: &[u64; 384], codes: &[u64; 8], a: Asking) -> Best
-    requires { (a.snapshot ≤ 48) × (a.d ≤ 8) }
-{
-    let snapshot = a.snapshot;
-    let mut best = Best {
-        found: false,
-        number: 0,
-        distance: 0,
-    };
-    let mut k: usize = 0;
-    while k < snapshot {
-        let x = distance(a.measure, a.d, points, k, codes);
-        best = better(a, best, k as u64, x);
-        k += 1;
-    }
-    best
-}
-
-// The question after an item.
-fn behind(a: Asking, best: Best) -> Asking
-    ensures { (result.snapshot ≡ a.snapshot) × (result.d ≡ a.d) }
-{
-    Asking {
-        far: a.far,
-        measure: a.measure,
-        d: a.d,
-        reach: a.reach,
-        snapshot: a.snapshot,
-        after: true,
-        distance: best.distance,
-        number: best.number,
-        size: a.size,
-    }
-}
-
-// Whether item i of the room is the scan's.
-fn same_item(room: &[u64; ITEM_ROOM], i: usize, best: Best) -> bool
-    requires { i < most_page }
-{
-    if room[i * 3] != best.number {
-        return false;
-    }
-    if room[i * 3 + 1] != reference(best.number) as u64 {
-        return false;
-    }
-    room[i * 3 + 2] == best.distance
-}
-
-// Whether the rooms from item i on hold what they held.
-fn untouched(room: &[u64; ITEM_ROOM], i: usize) -> bool
-    requires { i ≤ most_page }
-{
-    let mut j = i * 3;
-    while j < ITEM_ROOM {
-        if room[j] != 7777777 {
-            return false;
+    fn item(&self, k: usize, point: &Point) -> Item {
+        Item {
+            number: k as u64,
+            reference: u64::from(reference(k)),
+            distance: self.distance(point),
         }
-        j += 1;
     }
-    true
-}
 
-// How many items of the room's front are the scan's, one after another; 99 where one is not, or one is written behind them.
-pub fn agreed(points: &[u64; 384], codes: &[u64; 8], a: Asking, room: &[u64; ITEM_ROOM]) -> usize
-    requires { (a.snapshot ≤ 48) × (a.d ≤ 8) }
-{
-    let size = a.size;
-    let mut rest = a;
-    let mut i: usize = 0;
-    while i < MOST_PAGE {
-        if size <= i {
-            return if untouched(room, i) { i } else { 99 };
-        }
-        let best = first(points, codes, rest);
-        if !best.found {
-            return if untouched(room, i) { i } else { 99 };
-        }
-        if !same_item(room, i, best) {
-            return 99;
-        }
-        rest = behind(rest, best);
-        i += 1;
+    // Claim k.
+    pub fn claim(&self, k: usize) -> Item
+        requires { k < length self.now.points.now }
+    {
+        self.item(k, &self.points[k])
     }
-    i
+
+    // How many claims the question lets in.
+    pub fn count(&self, q: &Asking) -> usize {
+        self.points
+            .iter()
+            .enumerate()
+            .take(q.snapshot)
+            .filter(|(k, point)| q.lets_in(&self.item(*k, point)))
+            .count()
+    }
+
+    // The first item in order of those that the question lets in.
+    pub fn first(&self, q: &Asking) -> Option<Item> {
+        self.points
+            .iter()
+            .enumerate()
+            .take(q.snapshot)
+            .map(|(k, point)| self.item(k, point))
+            .filter(|item| q.lets_in(item))
+            .min_by(|a, b| q.compare(a, b))
+    }
+
+    // The page: its items stand at the front of the room, and what is behind them stays.
+    pub fn page(&self, q: Asking, room: &mut [u64; ITEM_ROOM]) -> Paged {
+        let all = self.count(&q);
+        let mut rest = q;
+        for slot in room.chunks_exact_mut(3).take(q.size) {
+            let Some(item) = self.first(&rest) else {
+                break;
+            };
+            slot.copy_from_slice(&[item.number, item.reference, item.distance]);
+            rest.after = Some(item);
+        }
+        Paged {
+            count: all.min(q.size),
+            last: all <= q.size,
+        }
+    }
 }

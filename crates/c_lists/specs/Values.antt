@@ -1,20 +1,24 @@
 -- Lists, asks and answers as C has them. Definitions only.
-use Rattle.std.specs.Prelude.{ℕ, Bool, not, List, eqb, ℤ}
+use Rattle.std.specs.Prelude.{ℕ, Bool, not, List, eqb, ℤ, pos, replicate}
 use Rattle.paper.specs.declared.lines.Scope.{Scope}
-use Rattle.paper.specs.declared.lines.AskRead.{AskRead}
-use Rattle.paper.specs.declared.lines.AnswerRead.{AnswerRead}
+use Rattle.paper.specs.declared.lines.Ask.{Ask}
+use Rattle.paper.specs.declared.lines.Answer.{Answer}
+use Rattle.paper.specs.declared.lines.ClaimLine.{ClaimLine}
 use Rattle.paper.specs.declared.lists.List as lists
-use Rattle.paper.specs.declared.lists.Opened.{Opened}
-use Rattle.paper.specs.declared.lists.Taken.{Taken}
 use Rattle.paper.specs.declared.orders.Order.{Order}
 use Rattle.paper.specs.Orders.{Query, is_far, order_by}
-use Rattle.paper.specs.Outcomes.{Outcome, Promise}
+use Rattle.paper.specs.Outcomes.{Outcome, refused, gives, Promise}
 use Rattle.paper.specs.Fields.{flag_of}
-use Rattle.paper.specs.Lists.{taken_shown, put_items}
+use Rattle.paper.specs.Lists.{no_list, taken_shown, put_items}
+use Rattle.paper.specs.Lines.{no_query, no_scope}
+use Rattle.paper.specs.Limits.{item_room, most_coordinates}
 use Rattle.paper.specs.Ends as Ends
 use Rattle.c_lists.specs.declared.Extent.{Extent}
+use Rattle.c_lists.specs.declared.AskFields.{AskFields}
 use Rattle.c_lists.specs.declared.AskShown.{AskShown}
+use Rattle.c_lists.specs.declared.AnswerFields.{AnswerFields}
 use Rattle.c_lists.specs.declared.AnswerShown.{AnswerShown}
+use Rattle.c_lists.specs.declared.ClaimShown.{ClaimShown}
 use Rattle.c_lists.specs.declared.Listing.{Listing}
 use Rattle.c_lists.specs.declared.Listed.{Listed}
 
@@ -73,43 +77,61 @@ abbrev pub extent_out : ℕ → Scope → Extent
 extent_out reach p =
     record { reach = reach; from = p.from; snapshot = p.snapshot; distance = p.distance; number = p.number }
 
-abbrev pub ask_out : AskRead → AskShown
-ask_out x =
+abbrev pub ask_fields : Ask → AskFields
+ask_fields a =
     record {
-      refusal = x.refusal;
-      ask = record {
-        table = x.ask.query.table;
-        order = order_out x.ask.query.order;
-        measure = x.ask.query.measure;
-        d = x.ask.query.d;
-        probe = x.ask.query.probe;
-        scope = extent_out x.ask.query.reach x.ask.scope;
-        size = x.ask.size;
-      };
+      table = a.query.table;
+      order = order_out a.query.order;
+      measure = a.query.measure;
+      d = a.query.d;
+      probe = a.query.probe;
+      scope = extent_out a.query.reach a.scope;
+      size = a.size;
     }
 
-abbrev pub answer_out : AnswerRead → AnswerShown
-answer_out x =
+abbrev pub ask_out : Outcome Ask → AskShown
+ask_out (refused n) = record { refusal = n; ask = ask_fields (record { query = no_query; scope = no_scope; size = 0 }) }
+ask_out (gives a) = record { refusal = 0; ask = ask_fields a }
+
+abbrev pub answer_fields : Answer → AnswerFields
+answer_fields y =
     record {
-      refusal = x.refusal;
-      answer = record {
-        table = x.answer.query.table;
-        order = order_out x.answer.query.order;
-        measure = x.answer.query.measure;
-        d = x.answer.query.d;
-        probe = x.answer.query.probe;
-        scope = extent_out x.answer.query.reach x.answer.scope;
-        last = x.answer.last;
-        count = x.answer.count;
-        items = x.answer.items;
-      };
+      table = y.query.table;
+      order = order_out y.query.order;
+      measure = y.query.measure;
+      d = y.query.d;
+      probe = y.query.probe;
+      scope = extent_out y.query.reach y.scope;
+      last = y.last;
+      count = y.count;
+      items = y.items;
     }
 
-abbrev pub opened_out : Opened → Listed
-opened_out o = record { refusal = o.refusal; list = list_out o.list }
+abbrev pub answer_out : Outcome Answer → AnswerShown
+answer_out (refused n) =
+    record {
+      refusal = n;
+      answer = answer_fields (record { query = no_query; scope = no_scope; last = 0; count = 0; items = replicate item_room 0 });
+    }
+answer_out (gives y) = record { refusal = 0; answer = answer_fields y }
 
-abbrev pub taken_out : Taken → Listed
-taken_out t = record { refusal = t.refusal; list = list_out t.list }
+abbrev pub claim_out : Outcome ClaimLine → ClaimShown
+claim_out (refused n) =
+    record {
+      refusal = n;
+      claim = record { table = 0; measure = 0; d = 0; reference = 0; coordinates = replicate most_coordinates (pos 0) };
+    }
+claim_out (gives c) = record { refusal = 0; claim = c }
+
+-- [9.11] a list of zeros stands beside a refusal
+abbrev pub opened_out : Outcome lists.List → Listed
+opened_out (refused n) = record { refusal = n; list = list_out no_list }
+opened_out (gives l) = record { refusal = 0; list = list_out l }
+
+-- [9.13] beside a refusal stands the list as it came
+abbrev pub taken_out : lists.List → Outcome lists.List → Listed
+taken_out l (refused n) = record { refusal = n; list = list_out l }
+taken_out l (gives t) = record { refusal = 0; list = list_out t }
 
 abbrev pub TakesOut : lists.List → Outcome Ends.Listing → List ℕ → Listed → List ℕ → Type 0
-TakesOut l o before r after = Promise (λ u. taken_out (taken_shown l u)) put_items o before r after
+TakesOut l o before r after = Promise (λ u. taken_out l (taken_shown l u)) put_items o before r after

@@ -1,15 +1,18 @@
 // What goes to C and comes back: numbers, and structs of numbers. [9.19] A refusal's number stands beside the values, 0 where nothing was
 // refused; where a case is not given its values are 0. A flag from C is off when it is 0 and on otherwise; a flag to C is 0 or 1.
+// The structs are C's, so flags and refusals are numbers in them.
 // This is a crate of its own so that wrong conversions are tried in seconds, apart from the exports.
 #![tactic(auto)]
 
 ghost use Rattle.std.specs.Prelude.{◌≡◌};
-ghost use Rattle.c_values.specs.Values.{no_table, made_out, entered_out, item_out, filled_out, written_out, place_of};
+ghost use Rattle.paper.specs.Outcomes.{number, told};
+ghost use Rattle.c_values.specs.Values.{table_out, item_out, filled_out, written_out, answered_out, place_of};
 
 use checks::flag;
-use paper::lines::Wrote;
-use paper::orders::{Found, Mark, Nearest, Page, Place};
-use paper::tables::{Entered, Made, Table};
+use paper::lines::Answered;
+use paper::orders::{Item, Mark, Paged, Place};
+use paper::refusals::Refusal;
+use paper::tables::Table;
 
 // A table after making or entering.
 #[repr(C)]
@@ -21,8 +24,8 @@ pub struct Tabled {
 
 // What nearest and farthest found.
 #[repr(C)]
-#[derive(Clone, Copy)]
-pub struct Item {
+#[derive(Clone, Copy, Default)]
+pub struct FoundItem {
     pub refusal: u8,
     pub found: u8,
     pub number: u64,
@@ -42,7 +45,7 @@ pub struct Start {
 
 // How many items stand at the front of the room, and whether they are the last.
 #[repr(C)]
-#[derive(Clone, Copy)]
+#[derive(Clone, Copy, Default)]
 pub struct Filled {
     pub refusal: u8,
     pub last: u8,
@@ -51,120 +54,135 @@ pub struct Filled {
 
 // The length of the line at the front of the output room.
 #[repr(C)]
-#[derive(Clone, Copy)]
+#[derive(Clone, Copy, Default)]
 pub struct Written {
     pub refusal: u8,
     pub length: usize,
 }
 
-// A table of zeros stands beside a refusal.
-fn no_table(n: u8) -> Tabled
-    ensures { result ≡ no_table n }
-{
-    Tabled {
-        refusal: n,
-        table: Table {
-            number: 0,
-            measure: 0,
-            d: 0,
-            capacity: 0,
-            count: 0,
-            used: 0,
-        },
-    }
+// [9.18] How far a call with many lines came.
+#[repr(C)]
+#[derive(Clone, Copy, Default)]
+pub struct LinesAnswered {
+    pub refusal: u8,
+    pub lines: usize,
+    pub used: usize,
+    pub written: usize,
 }
 
-pub fn table_made(m: Made) -> Tabled
-    ensures { result ≡ made_out m }
-{
-    match m {
-        Made::Table(t) => Tabled {
-            refusal: 0,
-            table: t,
-        },
-        Made::Refused(n) => no_table(n),
-    }
-}
+impl From<Result<Table, Refusal>> for Tabled {
+    ghost from_gives = { λ r t. t ≡ table_out (told r) };
 
-pub fn table_entered(e: Entered) -> Tabled
-    ensures { result ≡ entered_out e }
-{
-    match e {
-        Entered::Table(t) => Tabled {
-            refusal: 0,
-            table: t,
-        },
-        Entered::Refused(n) => no_table(n),
-    }
-}
-
-pub fn item_of(a: Nearest) -> Item
-    ensures { result ≡ item_out a }
-{
-    match a {
-        Nearest::Refused(n) => Item {
-            refusal: n,
-            found: 0,
-            number: 0,
-            reference: 0,
-            distance: 0,
-        },
-        Nearest::Answer(f) => match f {
-            Found::Nothing => Item {
-                refusal: 0,
-                found: 0,
-                number: 0,
-                reference: 0,
-                distance: 0,
+    fn from(made: Result<Table, Refusal>) -> Tabled {
+        match made {
+            Ok(table) => Tabled { refusal: 0, table },
+            Err(why) => Tabled {
+                refusal: why.number(),
+                table: Table {
+                    number: 0,
+                    measure: 0,
+                    d: 0,
+                    capacity: 0,
+                    count: 0,
+                    used: 0,
+                },
             },
-            Found::Item(number, reference, distance) => Item {
+        }
+    }
+}
+
+impl From<Result<Option<Item>, Refusal>> for FoundItem {
+    ghost from_gives = { λ r i. i ≡ item_out (told r) };
+
+    fn from(answer: Result<Option<Item>, Refusal>) -> FoundItem {
+        match answer {
+            Ok(Some(a)) => FoundItem {
                 refusal: 0,
                 found: 1,
-                number,
-                reference,
-                distance,
+                number: a.number,
+                reference: a.reference,
+                distance: a.distance,
             },
-        },
+            Ok(None) => FoundItem::default(),
+            Err(why) => FoundItem {
+                refusal: why.number(),
+                ..FoundItem::default()
+            },
+        }
     }
 }
 
-pub fn place_of(s: Start) -> Place
-    ensures { result ≡ place_of s }
-{
-    if s.from == 0 {
-        return Place::Start;
-    }
-    Place::After(s.snapshot, Mark::at(s.distance, s.number))
-}
+impl From<Start> for Place {
+    ghost from_gives = { λ s p. p ≡ place_of s };
 
-pub fn page_of(p: Page) -> Filled
-    ensures { result ≡ filled_out p }
-{
-    match p {
-        Page::Refused(n) => Filled {
-            refusal: n,
-            last: 0,
-            count: 0,
-        },
-        Page::Filled(paged) => Filled {
-            refusal: 0,
-            last: flag(paged.last),
-            count: paged.count,
-        },
+    fn from(s: Start) -> Place {
+        match s.from {
+            0 => Place::Start,
+            _ => Place::After(s.snapshot, Mark::at(s.distance, s.number)),
+        }
     }
 }
 
-pub fn line_of(w: Wrote) -> Written
-    ensures { result ≡ written_out w }
+impl From<Result<Paged, Refusal>> for Filled {
+    ghost from_gives = { λ r f. f ≡ filled_out (told r) };
+
+    fn from(page: Result<Paged, Refusal>) -> Filled {
+        match page {
+            Ok(paged) => Filled {
+                refusal: 0,
+                last: flag(paged.last),
+                count: paged.count,
+            },
+            Err(why) => Filled {
+                refusal: why.number(),
+                ..Filled::default()
+            },
+        }
+    }
+}
+
+impl From<Result<usize, Refusal>> for Written {
+    ghost from_gives = { λ r w. w ≡ written_out (told r) };
+
+    fn from(wrote: Result<usize, Refusal>) -> Written {
+        match wrote {
+            Ok(n) => Written {
+                refusal: 0,
+                length: n,
+            },
+            Err(why) => Written {
+                refusal: why.number(),
+                ..Written::default()
+            },
+        }
+    }
+}
+
+impl From<Result<Answered, Refusal>> for LinesAnswered {
+    ghost from_gives = { λ r a. a ≡ answered_out (told r) };
+
+    fn from(answered: Result<Answered, Refusal>) -> LinesAnswered {
+        match answered {
+            Ok(a) => LinesAnswered {
+                refusal: 0,
+                lines: a.lines,
+                used: a.used,
+                written: a.written,
+            },
+            Err(why) => LinesAnswered {
+                refusal: why.number(),
+                ..LinesAnswered::default()
+            },
+        }
+    }
+}
+
+// [9.19] The number of a call's refusal, 0 where it refuses nothing.
+pub fn refusal_number(outcome: Result<(), Refusal>) -> u8
+    ensures { result ≡ number (told outcome) }
 {
-    match w {
-        Wrote::Line(n) => Written {
-            refusal: 0,
-            length: n,
-        },
-        Wrote::Refused(n) => Written {
-            refusal: n,
-            length: 0,
-        },
+    match outcome {
+        Ok(()) => 0,
+        Err(why) => why.number(),
     }
 }

@@ -6,5 +6,5 @@ ghost use Rattle.paper.specs.Fields.{flag_of};
 pub fn flag(b: bool) -> u8
     ensures { result ≡ flag_of b }
 {
-    if b { 1 } else { 0 }
+    u8::from(b)
 }

@@ -1,4 +1,4 @@
-// Which kinds of line an order has, and which order a kind.
+// Which kinds of line an order has, and which order a kind. Kinds are numbers: a line's byte may be any, and what is no kind is refused with 10.
 ghost use Rattle.std.specs.Prelude.{◌≡◌};
 ghost use Rattle.paper.specs.Lines.{ask_kind, answer_kind, ask_order, answer_order};
 

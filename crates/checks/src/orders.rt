@@ -8,10 +8,7 @@ use paper::orders::Order;
 pub fn is_far(order: Order) -> bool
     ensures { result ≡ is_far order }
 {
-    match order {
-        Order::Near => false,
-        Order::Far => true,
-    }
+    matches!(order, Order::Far)
 }
 
 pub fn order_by(far: bool) -> Order
@@ -24,8 +21,5 @@ pub fn order_by(far: bool) -> Order
 pub fn same_order(a: Order, b: Order) -> bool
     ensures { result ≡ same_order a b }
 {
-    match a {
-        Order::Near => !is_far(b),
-        Order::Far => is_far(b),
-    }
+    a == b
 }

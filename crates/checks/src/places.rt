@@ -7,6 +7,7 @@ use paper::lines::Scope;
 use paper::orders::{Mark, Place};
 
 // [5.8] Where the page starts that an ask or an answer is about.
+#[tactic(auto, unfolding(paper::specs::Codec::place_in))]
 pub fn place_of(p: Scope) -> Place
     ensures { result ≡ place_in p }
 {

@@ -7,27 +7,16 @@ use paper::limits::{MOST_COORDINATES, MOST_PAGE};
 use paper::points::Measure;
 
 // [1.3] [1.5] Whether there is such a measure, and d is in range: the first part of refusal 1 for tables and lists, and of 10 for lines.
+#[tactic(auto, unfolding(paper::specs::Points::in_range))]
 pub fn in_range(measure: u8, d: usize) -> bool
     ensures { result ≡ in_range measure d }
 {
-    if measure < Measure::FIRST {
-        return false;
-    }
-    if Measure::LAST < measure {
-        return false;
-    }
-    if d < 1 {
-        return false;
-    }
-    d <= MOST_COORDINATES
+    (Measure::FIRST..=Measure::LAST).contains(&measure) && (1..=MOST_COORDINATES).contains(&d)
 }
 
 // [4.3] [8.6] Whether a page may have so many items.
 pub fn size_holds(size: usize) -> bool
     ensures { result ≡ size_holds size }
 {
-    if size < 1 {
-        return false;
-    }
-    size <= MOST_PAGE
+    (1..=MOST_PAGE).contains(&size)
 }

@@ -11,10 +11,6 @@ pub fn padded(probe: &[i32]) -> [i32; MOST_COORDINATES]
     ensures { result ≡ in_slots (length probe.now) probe.now }
 {
     let mut slots = [0i32; MOST_COORDINATES];
-    let mut i: usize = 0;
-    while i < probe.len() {
-        slots[i] = probe[i];
-        i += 1;
-    }
+    slots[..probe.len()].copy_from_slice(probe);
     slots
 }

@@ -7,11 +7,5 @@ use paper::tables::Table;
 pub fn is_ours(t: Table, number: u32, measure: u8, d: usize) -> bool
     ensures { result ≡ eqb number t.number && (eqb measure t.measure && eqb d t.d) }
 {
-    if number != t.number {
-        return false;
-    }
-    if measure != t.measure {
-        return false;
-    }
-    d == t.d
+    number == t.number && measure == t.measure && d == t.d
 }

@@ -8,24 +8,22 @@ use lib.Dec.{leb, eqb}
 use lib.ListN.{take, drop}
 use borrow.Author.Tests.{leb-true}
 use Rattle.paper.specs.declared.lines.Ask as lines-Ask
-use Rattle.paper.specs.declared.lines.AskRead.{AskRead}
 use Rattle.paper.specs.declared.lines.Scope.{Scope}
-use Rattle.paper.specs.declared.lines.Wrote.{Wrote}
-use Rattle.paper.specs.declared.lines.Wrote.TheVariants.{Refused}
 use Rattle.paper.specs.declared.orders.Place.{Place}
 use Rattle.paper.specs.declared.queries.Query as queries
 use Rattle.paper.specs.Orders.{Query, query_in, snapshot_of, snapshot_holds, mark_holds}
 use Rattle.paper.specs.Tree.{Store, claims_in}
-use Rattle.paper.specs.Outcomes.{refused, gives, must, onto}
-use Rattle.paper.specs.Frames.{num, frame_of, is_line}
+use Rattle.paper.specs.Outcomes.{Outcome, refused, gives, must, onto}
+use Rattle.paper.specs.Frames.{num, frame_of}
 use Rattle.paper.specs.Fields.{scope_in, scope_ok}
-use Rattle.paper.specs.Lines.{Writes, behind, query_at, ask_ranges, is_ask, ask_at, an_ask, no_ask, read_as_ask, reading}
+use Rattle.paper.specs.Lines.{Writes, behind, query_at, ask_ranges, is_ask, ask_at, read_as_ask}
 use Rattle.paper.specs.Ends.{Ask, table_of, matches, answer_of, answer_to, line_answered}
 use Rattle.paper.specs.Ends as Ends
-use Rattle.paper.specs.Codec.{place_in, ask_meant, answer_line, read_ask, lines}
+use Rattle.paper.specs.Codec.{place_in, ask_meant, answer_line, lines}
 use Rattle.paper.specs.Program.{reply_to}
+use Rattle.paper.proofs.Reading.{ask_as_read}
 use Rattle.paper.proofs.Tests.{and_first, and_second}
-use Rattle.lines.proofs.WritersReaders.{writes_refused}
+use Rattle.lines.proofs.WritersReaders.{writes_refused, holds}
 use Rattle.lines.proofs.AskTests.{any_ask}
 use Rattle.paper.specs.Calls.{table_query}
 use Rattle.tree.proofs.PointsInMemory.{claims_length}
@@ -44,7 +42,7 @@ module _ (s : Store) (q : queries.Query) (p : Scope) (size : ℕ) (b : Bool) (ho
   unfolding snapshot_holds
   stored_is = rw (claims_length s.table.d s.table.count s.references s.coordinates) (sym holds)
 
-  pub here_7 : (before : List ℕ) → b ≡ false → Writes (page_reply (table_of s) (ask_in q p size)) before (Refused 7) before
+  pub here_7 : (before : List ℕ) → b ≡ false → Writes (page_reply (table_of s) (ask_in q p size)) before (refused 7) before
   unfolding page_reply
   here_7 before t = writes_refused _ 7 before (rw (stored_is, t))
 
@@ -56,11 +54,11 @@ module _ (s : Store) (q : queries.Query) (p : Scope) (size : ℕ) (b : Bool) (ho
     marked_is : mark_holds (query_in q) (claims_in s) (place_in p) ≡ m
     marked_is = subst (λ (x : Query). mark_holds x (claims_in s) (place_in p) ≡ m) (sym (own_query s q p size out h)) (rw (← at) (sym marked))
 
-    pub here_8 : (before : List ℕ) → m ≡ false → Writes (page_reply (table_of s) (ask_in q p size)) before (Refused 8) before
+    pub here_8 : (before : List ℕ) → m ≡ false → Writes (page_reply (table_of s) (ask_in q p size)) before (refused 8) before
     unfolding page_reply
     here_8 before u = writes_refused _ 8 before (rw (stored_is, t, marked_is, u))
 
-    pub here_page : (before : List ℕ) (w : Wrote) (after : List ℕ) → m ≡ true → Writes (page_line (table_of s) (ask_in q p size)) before w after
+    pub here_page : (before : List ℕ) (w : Outcome ℕ) (after : List ℕ) → m ≡ true → Writes (page_line (table_of s) (ask_in q p size)) before w after
         → Writes (page_reply (table_of s) (ask_in q p size)) before w after
     unfolding page_reply
     here_page before w after u x = rw (stored_is, t, marked_is, u) x
@@ -82,12 +80,12 @@ module _ (s : Store) (a : lines-Ask.Ask) (b : Bool)
   unfolding matches
   matches_is = sym is
 
-  pub ask_11 : (before : List ℕ) → b ≡ false → Writes (reply_to (table_of s) (ask_meant a)) before (Refused 11) before
+  pub ask_11 : (before : List ℕ) → b ≡ false → Writes (reply_to (table_of s) (ask_meant a)) before (refused 11) before
   unfolding reply_to answer_to ask_meant
   ask_11 before t = writes_refused _ 11 before (rw (matches_is, t))
 
   module _ (t : b ≡ true) where
-    pub ask_here : (before : List ℕ) (w : Wrote) (after : List ℕ) → Writes (page_reply (table_of s) (ask_in a.query a.scope a.size)) before w after
+    pub ask_here : (before : List ℕ) (w : Outcome ℕ) (after : List ℕ) → Writes (page_reply (table_of s) (ask_in a.query a.scope a.size)) before w after
         → Writes (reply_to (table_of s) (ask_meant a)) before w after
     unfolding ask_meant
     ask_here before w after x = rw (reply_here (table_of s) (ask_meant a) (matches_is ∙ t)) x
@@ -112,27 +110,17 @@ ask_given f e =
       most = leb-true n most_page (and_second (leb 1 n) (leb n most_page) b);
     }
 
--- a reader's answer: the line's ask, or the number of its refusal
-pub record Reads (line : List ℕ) (r : AskRead) : Type 0 where
-  pub refuses : (r.refusal ≡ 0 → ⊥) → read_ask line ≡ refused r.refusal
-  pub given : r.refusal ≡ 0 → Given r.ask
-  pub reads : r.refusal ≡ 0 → read_ask line ≡ gives (ask_meant r.ask)
+module _ (line : List ℕ) where
+  pub line_given : (a : lines-Ask.Ask) → read_as_ask line ≡ gives a → Given a
+  unfolding read_as_ask
+  line_given a e = let p = holds is_ask ask_at line a e in subst Given (sym p.1) (ask_given (frame_of line) p.0)
 
-pub read_is : (line : List ℕ) (r : AskRead) → r ≡ read_as_ask line → Reads line r
-unfolding read_as_ask reading an_ask no_ask read_ask
-read_is line r e = rw e (go (is_line line) (is_ask (frame_of line)) refl refl)
-  where
-    go : (b c : Bool) → is_line line ≡ b → is_ask (frame_of line) ≡ c → Reads line (read_as_ask line)
-    go true true p q = rw (p, q) (record { refuses = λ n. absurd (n refl); given = λ z. ask_given (frame_of line) q; reads = λ z. rw (p, q) })
-    go true false p q = rw (p, q) (record { refuses = λ n. rw (p, q); given = λ z. absurd (omega arith); reads = λ z. absurd (omega arith) })
-    go false c p q = rw p (record { refuses = λ n. rw p; given = λ z. absurd (omega arith); reads = λ z. absurd (omega arith) })
+  module _ (s : Store) (before : List ℕ) where
+    pub line_refused : (n : ℕ) → read_as_ask line ≡ refused n → Writes (line_answered lines (table_of s) line) before (refused n) before
+    unfolding line_answered
+    line_refused n e = writes_refused _ n before (rw (ask_as_read line, e))
 
-module _ (s : Store) (line : List ℕ) (r : AskRead) (is : Reads line r) where
-  pub line_refused : (before : List ℕ) → (r.refusal ≡ 0 → ⊥) → Writes (line_answered lines (table_of s) line) before (Refused r.refusal) before
-  unfolding line_answered
-  line_refused before n = writes_refused _ r.refusal before (rw (is.refuses n))
-
-  pub line_answered_lem : (before : List ℕ) (w : Wrote) (after : List ℕ) → r.refusal ≡ 0
-      → Writes (reply_to (table_of s) (ask_meant r.ask)) before w after → Writes (line_answered lines (table_of s) line) before w after
-  unfolding line_answered reply_to
-  line_answered_lem before w after z x = rw (is.reads z) x
+    pub line_answered_lem : (a : lines-Ask.Ask) (w : Outcome ℕ) (after : List ℕ) → read_as_ask line ≡ gives a
+        → Writes (reply_to (table_of s) (ask_meant a)) before w after → Writes (line_answered lines (table_of s) line) before w after
+    unfolding line_answered reply_to
+    line_answered_lem a w after e x = rw (ask_as_read line, e) x

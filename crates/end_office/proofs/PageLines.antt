@@ -8,15 +8,15 @@ use lib.Dec.{leb, eqb}
 use lib.ListN.{length, get_or, take, length-take}
 use borrow.Author.Tests.{eq-eqb, le-leb, lt-ltb, leb-true, eqb-true}
 use Rattle.paper.specs.declared.lines.Scope.{Scope}
-use Rattle.paper.specs.declared.lines.Wrote.{Wrote}
 use Rattle.paper.specs.declared.orders.Order.{Order}
 use Rattle.paper.specs.declared.orders.Paged.{Paged}
 use Rattle.paper.specs.declared.orders.Place.{Place}
 use Rattle.paper.specs.declared.queries.Query as queries
 use Rattle.paper.specs.Points.{Claim}
-use Rattle.paper.specs.Orders.{Item, Query, query_in, snapshot_of, earlier, insert, item_of, listed, follows, rest, following, page_of, flat}
+use Rattle.paper.specs.declared.orders.Item.{Item}
+use Rattle.paper.specs.Orders.{Query, query_in, snapshot_of, earlier, insert, item_of, listed, follows, rest, following, page_of, flat}
 use Rattle.paper.specs.Tree.{Store, claims_in}
-use Rattle.paper.specs.Outcomes.{gives}
+use Rattle.paper.specs.Outcomes.{Outcome, gives}
 use Rattle.paper.specs.Frames.{line_of}
 use Rattle.lines.proofs.WritersReaders.{bare_fits}
 use Rattle.paper.specs.Fields.{flag_of, scope_ok, numbers_ok, references_ok}
@@ -153,7 +153,7 @@ module _ (s : Store) (q : queries.Query) (p : Scope) (size out : ℕ) (h : AskOu
 
 -- ---- the page, written
 
-line_written : (fits : Bool) (f before : List ℕ) (w : Wrote) (after : List ℕ) → fits ≡ true → longest_answer ≤ length before
+line_written : (fits : Bool) (f before : List ℕ) (w : Outcome ℕ) (after : List ℕ) → fits ≡ true → longest_answer ≤ length before
     → Writes (bare_line fits longest_answer f (length before)) before w after → Writes (gives (line_of f)) before w after
 line_written fits f before w after e h x = rw (bare_fits fits longest_answer f (length before) e h) at x
 
@@ -217,7 +217,7 @@ module _ (s : Store) (q : queries.Query) (p : Scope) (size out : ℕ) (h : Pagin
       unfolding answer_line answer_of
       line_is = rw (claims_length s.table.d s.table.count s.references s.coordinates, is_page.last)
 
-      pub page_written : (before : List ℕ) (w : Wrote) (after : List ℕ) → longest_answer ≤ length before
+      pub page_written : (before : List ℕ) (w : Outcome ℕ) (after : List ℕ) → longest_answer ≤ length before
           → Writes (bare_line (answer_fits (query_in q) scope last r.count (take n room)) longest_answer
           (answer_frame (query_in q) scope last r.count (take n room)) (length before)) before w after
           → Writes (page_line (table_of s) (ask_in q p size)) before w after

@@ -1,34 +1,30 @@
 -- The three calls of a tablet, with their refusals in order: opening, writing an ask, taking a line. Assumes nothing.
 use Prim.Native.Nat.{ℕ, ◌<◌, ◌≤◌}
 use mathlib.Core.Path.{◌≡◌, refl, sym, ap, ◌∙◌}
-use mathlib.Core.Bool.{Bool, true, false, not, cond}
+use mathlib.Core.Bool.{Bool, true, false, not}
 use mathlib.Core.List.{List}
 use native.Mathlib.Omega.{arith}
-use lib.Dec.{leb, eqb}
+use lib.Dec.{leb}
 use lib.ListN.{length}
 use lib.Seq.{length-take-le}
 use borrow.Author.Tests.{le-leb, lt-leb, leb-true, eq-eqb, ne_eqb}
-use Rattle.paper.specs.declared.lines.AnswerRead.{AnswerRead}
+use Rattle.paper.specs.declared.lines.Answer as lines-Answer
 use Rattle.paper.specs.declared.lines.Scope.{Scope}
-use Rattle.paper.specs.declared.lines.Wrote.{Wrote}
-use Rattle.paper.specs.declared.lines.Wrote.TheVariants.{Refused}
 use Rattle.paper.specs.declared.lists.List as lists
-use Rattle.paper.specs.declared.lists.Opened.{Opened}
 use Rattle.paper.specs.declared.queries.Query as queries
 use Rattle.paper.specs.declared.orders.Place.{Place}
 use Rattle.paper.specs.Orders.{Query, query_in, same_order, snapshot_of}
 use Rattle.paper.specs.Outcomes.{Outcome, refused, gives, must, onto}
 use Rattle.paper.specs.Points.{in_range}
 use Rattle.paper.specs.Frames.{line_of, frame_of}
-use Rattle.paper.specs.Frames as frames
 use Rattle.paper.specs.Fields.{query_in_slots, scope_ok}
-use Rattle.paper.specs.Lines.{query_fits, Writes, bare_line, reading, ask_frame, ask_ranges, ask_fits, is_answer, answer_at, an_answer, no_answer, read_as_answer}
+use Rattle.paper.specs.Lines.{query_fits, Writes, bare_line, ask_frame, ask_ranges, ask_fits, is_answer, answer_at, read_as_answer}
 use Rattle.paper.specs.Ends.{Answer, Listing, size_holds, opening, present_place, present_ask, sound_in, asking, taken, own_kind, taking}
-use Rattle.paper.specs.Lists.{Takes, Held, held, listing, room_for, held_well, sound_held, no_list, opened_as, opening_held, opened_shown, asking_held, taking_held}
-use Rattle.lines.proofs.WritersReaders.{writes_refused, bare_fits}
+use Rattle.paper.specs.Lists.{Takes, Held, held, listing, room_for, held_well, sound_held, opened_as, opening_held, asking_held, taking_held}
+use Rattle.lines.proofs.WritersReaders.{writes_refused, bare_fits, holds}
 use Rattle.paper.specs.Codec.{scope_of, ask_line, answer_meant, lines}
 use Rattle.paper.proofs.Tests.{and_first, and_second, and_both}
-use Rattle.paper.proofs.Reading.{answer_by_refusal}
+use Rattle.paper.proofs.Reading.{answer_as_read}
 use Rattle.lines.proofs.AnswerTests.{any_answer}
 use Rattle.end_tablet.specs.Holding.{AskReady}
 use Rattle.paper.proofs.Ranges.{range_is}
@@ -51,50 +47,37 @@ module _ (s : Held) (sound : sound_held s ≡ true) where
   abbrev onward : Answer → Outcome Listing
   onward y = must (own_kind (listing s) y) 10 (taken (room_for s) (listing s) y)
 
-  module _ (line : List ℕ) (x : AnswerRead) (xe : x ≡ read_as_answer line) where
-    reads : taking_held lines s line ≡ onto (must (eqb x.refusal 0) x.refusal (gives (answer_meant x.answer))) onward
+  module _ (line : List ℕ) where
+    reads : taking_held lines s line ≡ onto (onto (read_as_answer line) (λ y. gives (answer_meant y))) onward
     unfolding taking_held taking
     reads =
         must_go (held_well s.list.query) 2 _ held_go
         ∙ must_go (sound_in (room_for s) (listing s)) 2 _ in_go
-        ∙ ap (λ r. onto r onward)
-        (answer_by_refusal line ∙ sym (ap (λ (u : AnswerRead). must (eqb u.refusal 0) u.refusal (gives (answer_meant u.answer))) xe))
+        ∙ ap (λ r. onto r onward) (answer_as_read line)
 
-    pub take_unread : (x.refusal ≡ 0 → ⊥) → taking_held lines s line ≡ refused x.refusal
-    take_unread h = reads ∙ ap (λ r. onto r onward) (must_stop (eqb x.refusal 0) x.refusal _ (ne_eqb x.refusal 0 h))
+    pub take_unread : (n : ℕ) → read_as_answer line ≡ refused n → taking_held lines s line ≡ refused n
+    take_unread n e = reads ∙ rw e
 
-    module _ (h : x.refusal ≡ 0) (b : Bool) (be : b ≡ same_order s.list.query.order x.answer.query.order) where
-      take_any : taking_held lines s line ≡ must b 10 (taken (room_for s) (listing s) (answer_meant x.answer))
+    module _ (y : lines-Answer.Answer) (e : read_as_answer line ≡ gives y) (b : Bool) (be : b ≡ same_order s.list.query.order y.query.order) where
+      take_any : taking_held lines s line ≡ must b 10 (taken (room_for s) (listing s) (answer_meant y))
       unfolding listing answer_meant
-      take_any =
-          reads ∙ ap (λ r. onto r onward) (must_go (eqb x.refusal 0) x.refusal _ (eq-eqb x.refusal 0 h))
-          ∙ ap (λ (u : Bool). must u 10 (taken (room_for s) (listing s) (answer_meant x.answer))) (sym be)
+      take_any = reads ∙ rw (e, be)
 
       pub take_other : b ≡ false → taking_held lines s line ≡ refused 10
       take_other o = take_any ∙ must_stop b 10 _ o
 
-      pub take_read : b ≡ true → taking_held lines s line ≡ taken (room_for s) (listing s) (answer_meant x.answer)
+      pub take_read : b ≡ true → taking_held lines s line ≡ taken (room_for s) (listing s) (answer_meant y)
       take_read o = take_any ∙ must_go b 10 _ o
 
 -- what reads has at most a page of items
-pub read_few : (line : List ℕ) (x : AnswerRead) → x ≡ read_as_answer line → x.refusal ≡ 0 → x.answer.count ≤ most_page
-unfolding read_as_answer reading
-read_few line x xe h =
-    few (go (frames.is_line line) (is_answer (frame_of line)) refl (sym (ap (λ (u : AnswerRead). u.refusal) xe) ∙ h)) (ap (λ (u : AnswerRead). u.answer.count) xe)
-  where
-    few : {m n : ℕ} → n ≤ most_page → m ≡ n → m ≤ most_page
-    few p q = omega arith
-
-    read : Bool → Bool → AnswerRead
-    read a b = cond a (cond b (an_answer (answer_at (frame_of line))) (no_answer 10)) (no_answer 9)
-
-    go : (a b : Bool) → is_answer (frame_of line) ≡ b → (read a b).refusal ≡ 0 → (read a b).answer.count ≤ most_page
-    go true true e z = unfold an_answer in unfold answer_at in (any_answer (frame_of line) e).few
-    go true false e z = absurd (let w : ◌≡◌ {A = ℕ} 10 0 = unfold no_answer in z in omega arith)
-    go false b e z = absurd (let w : ◌≡◌ {A = ℕ} 9 0 = unfold no_answer in z in omega arith)
+pub read_few : (line : List ℕ) (y : lines-Answer.Answer) → read_as_answer line ≡ gives y → y.count ≤ most_page
+unfolding read_as_answer answer_at
+read_few line y e =
+    let p = holds is_answer answer_at line y e in
+    rw p.1 (any_answer (frame_of line) p.0).few
 
 -- a taking that is equal to another promises the same
-pub taken_same : (l : lists.List) {x y : Outcome Listing} (before : List ℕ) (r : _) (after : List ℕ) → x ≡ y → Takes l y before r after → Takes l x before r after
+pub taken_same : (l : lists.List) {x y : Outcome Listing} (before : List ℕ) (r : Outcome lists.List) (after : List ℕ) → x ≡ y → Takes l y before r after → Takes l x before r after
 taken_same l before r after e t = rw e t
 
 -- ---- writing an ask
@@ -139,7 +122,7 @@ module _ (l : lists.List) (mem : List ℕ) (size : ℕ) (asks : AskReady l mem) 
     unfolding ask_line listing
     line_is = rw e
 
-    pub ask_written_lem : (r : Wrote) (left : List ℕ) → Writes (bare_line (ask_fits query p size) longest_ask (ask_frame query p size) (length out)) out r left
+    pub ask_written_lem : (r : Outcome ℕ) (left : List ℕ) → Writes (bare_line (ask_fits query p size) longest_ask (ask_frame query p size) (length out)) out r left
         → Writes (gives (ask_line (present_ask (listing (held l mem)) size))) out r left
     ask_written_lem r left w = rw (bare_fits _ longest_ask (ask_frame query p size) (length out) fits_all long, line_is) at w
 
@@ -151,7 +134,7 @@ module _ (l : lists.List) (mem : List ℕ) (size : ℕ) (out : List ℕ) (sound 
   abbrev ask : Outcome (List ℕ)
   ask = asking_held lines (held l mem) size (length out)
 
-  abbrev Promised : Wrote → List ℕ → Type 0
+  abbrev Promised : Outcome ℕ → List ℕ → Type 0
   Promised r left = Writes ask out r left
 
   past_2 : ask ≡ must (not l.complete) 16 (must (size_holds size) 6 (must (leb longest_ask (length out)) 12 (gives (ask_line (present_ask L size)))))
@@ -160,7 +143,7 @@ module _ (l : lists.List) (mem : List ℕ) (size : ℕ) (out : List ℕ) (sound 
       must_go (held_well l.query) 2 _ (held_go (held l mem) sound)
       ∙ must_go (sound_in (room_for (held l mem)) L) 2 _ (in_go (held l mem) sound)
 
-  pub ask_16 : l.complete ≡ true → Promised (Refused 16) out
+  pub ask_16 : l.complete ≡ true → Promised (refused 16) out
   ask_16 h = writes_refused ask 16 out (past_2 ∙ must_stop (not l.complete) 16 _ (ap not h))
 
   module _ (hc : l.complete ≡ false) where
@@ -168,23 +151,23 @@ module _ (l : lists.List) (mem : List ℕ) (size : ℕ) (out : List ℕ) (sound 
     past_16 = past_2 ∙ must_go (not l.complete) 16 _ (ap not hc)
 
     module _ (b : Bool) (be : b ≡ size_holds size) where
-      pub ask_6 : b ≡ false → Promised (Refused 6) out
+      pub ask_6 : b ≡ false → Promised (refused 6) out
       ask_6 h = writes_refused ask 6 out (past_16 ∙ must_stop (size_holds size) 6 _ (sym be ∙ h))
 
       module _ (hb : b ≡ true) where
-        holds : size_holds size ≡ true
-        holds = sym be ∙ hb
+        sized : size_holds size ≡ true
+        sized = sym be ∙ hb
 
         pub ask_some : (1 ≤ size) × (size ≤ most_page)
-        ask_some = (leb-true 1 size (and_first (leb 1 size) (leb size most_page) holds), leb-true size most_page (and_second (leb 1 size) (leb size most_page) holds))
+        ask_some = (leb-true 1 size (and_first (leb 1 size) (leb size most_page) sized), leb-true size most_page (and_second (leb 1 size) (leb size most_page) sized))
 
         past_6 : ask ≡ must (leb longest_ask (length out)) 12 (gives (ask_line (present_ask L size)))
-        past_6 = past_16 ∙ must_go (size_holds size) 6 _ holds
+        past_6 = past_16 ∙ must_go (size_holds size) 6 _ sized
 
-        pub ask_12 : length out < longest_ask → Promised (Refused 12) out
+        pub ask_12 : length out < longest_ask → Promised (refused 12) out
         ask_12 h = writes_refused ask 12 out (past_6 ∙ must_stop (leb longest_ask (length out)) 12 _ (lt-leb longest_ask (length out) h))
 
-        pub ask_put : longest_ask ≤ length out → (r : Wrote) (left : List ℕ) → Writes (gives (ask_line (present_ask L size))) out r left → Promised r left
+        pub ask_put : longest_ask ≤ length out → (r : Outcome ℕ) (left : List ℕ) → Writes (gives (ask_line (present_ask L size))) out r left → Promised r left
         ask_put h r left w = rw (past_6 ∙ must_go (leb longest_ask (length out)) 12 _ (le-leb longest_ask (length out) h)) w
 
 -- ---- opening
@@ -193,18 +176,18 @@ module _ (q : Query) (a : Bool) (ae : a ≡ in_range q.measure q.d) where
   abbrev opens : Outcome lists.List
   opens = opening_held q
 
-  pub open_1 : a ≡ false → (r : Opened) → r ≡ record { refusal = 1; list = no_list } → r ≡ opened_shown opens
-  unfolding opening_held opening opened_shown
-  open_1 h r e = e ∙ rw (← ae, h)
+  pub open_1 : a ≡ false → refused 1 ≡ opens
+  unfolding opening_held opening
+  open_1 h = rw (← ae, h)
 
   module _ (ha : a ≡ true) where
-    pub open_5 : (length q.probe ≡ q.d → ⊥) → (r : Opened) → r ≡ record { refusal = 5; list = no_list } → r ≡ opened_shown opens
-    unfolding opening_held opening opened_shown
-    open_5 h r e = e ∙ rw (← ae, ha, ne_eqb (length q.probe) q.d h)
+    pub open_5 : (length q.probe ≡ q.d → ⊥) → refused 5 ≡ opens
+    unfolding opening_held opening
+    open_5 h = rw (← ae, ha, ne_eqb (length q.probe) q.d h)
 
     pub open_list : length q.probe ≡ q.d → (x : queries.Query) → x ≡ query_in_slots q
-        → record { refusal = 0; list = record { query = x; started = false; snapshot = 0; count = 0; complete = false } } ≡ opened_shown opens
-    unfolding opening_held opening opened_shown opened_as
+        → gives (record { query = x; started = false; snapshot = 0; count = 0; complete = false }) ≡ opens
+    unfolding opening_held opening opened_as
     open_list h x e = rw (← ae, ha, eq-eqb (length q.probe) q.d h, e)
 
     pub open_narrow : q.d ≤ most_coordinates

@@ -1,20 +1,24 @@
--- The fields of a list: what each way through its soundness test gives, and that the test is the definition. Assumes nothing.
-use Prim.Native.Nat.{ℕ, zero, suc, ◌+◌, ◌-◌, ◌*◌, ◌/◌, ◌<◌, ◌≤◌}
-use mathlib.Core.Path.{◌≡◌, refl, sym, ap, ◌∙◌}
+-- The probe and the fields of a list: what each way through its soundness test gives, and that the test is the definition. Assumes nothing.
+use Prim.Native.Nat.{ℕ, zero, suc, ◌*◌, ◌/◌, ◌<◌, ◌≤◌}
+use mathlib.Core.Path.{◌≡◌, refl, sym, ◌∙◌}
 use mathlib.Core.Bool.{Bool, true, false, ◌&&◌}
-use mathlib.Core.List.{List}
+use mathlib.Core.List.{List, [], ◌∷◌}
 use native.Mathlib.Omega.{arith}
-use native.Mathlib.Numerals.{add-one}
 use lib.Dec.{leb, eqb}
-use lib.IntN.{ℤ, pos, negsuc, ◌-ℤ◌, nat_abs}
-use lib.ListN.{length, get_or, take, drop}
-use lib.Seq.{drop-cons, drop-length, length-take-le, get_or-take}
-use borrow.Author.Tests.{le-leb, lt-leb, leb-true, eq-eqb, ne_eqb, eqb-true}
-use Rattle.measure.proofs.Away.{away, abs_away}
+use lib.IntN.{ℤ, pos, negsuc}
+use lib.ListN.{length, take}
+use lib.Seq.{length-take-le, get_or-take}
+use borrow.Author.Tests.{le-leb, lt-leb, leb-true, eq-eqb}
+use Rattle.std.specs.List.{list_all}
+use Rattle.std.specs.Cmp.Lexicographic.{pointwise}
+use Rattle.std.specs.Ordering.{int_eq}
+use Rattle.std.proofs.Math.Bool.{and-true, and_assoc}
+use Rattle.std.proofs.lemmas.Bool.Decides.{nat_tests}
 use Rattle.paper.specs.declared.lists.List as lists
 use Rattle.paper.specs.declared.orders.Order.{Order}
 use Rattle.paper.specs.declared.orders.Place.TheVariants.{Start}
-use Rattle.paper.specs.Orders.{Item, follows}
+use Rattle.paper.specs.declared.orders.Item.{Item}
+use Rattle.paper.specs.Orders.{follows}
 use Rattle.paper.specs.Points.{in_range}
 use Rattle.paper.proofs.Ranges.{range_is}
 use Rattle.paper.specs.Ends.{same_z, same_probe, every, rising, fitting, started_well, sound_in}
@@ -25,38 +29,37 @@ use Rattle.end_tablet.specs.Holding.{items_hold, started_by, fields_hold}
 use Rattle.end_tablet.proofs.ItemLaws.{pass_means, every_start}
 use Rattle.paper.specs.Limits.{most_claims}
 
--- ---- coordinates
-
-sum_zero : (a b : ℕ) → eqb ((a - b) + (b - a)) 0 ≡ eqb a b
-sum_zero a b =
-    alike (eqb ((a - b) + (b - a)) 0) (eqb a b)
-    (λ h. let z : (a - b) + (b - a) ≡ 0 = eqb-true _ _ h in eq-eqb a b (omega arith))
-    (λ h. let z : a ≡ b = eqb-true _ _ h in eq-eqb ((a - b) + (b - a)) 0 (omega arith))
-
-pub same_gap : (x y : ℤ) → eqb (nat_abs (x -ℤ y)) 0 ≡ same_z x y
-same_gap x y = ap (λ (n : ℕ). eqb n 0) (abs_away x y) ∙ go x y
-  where
-    go : (x y : ℤ) → eqb (away x y) 0 ≡ same_z x y
-    go (pos a) (pos b) = sum_zero a b
-    go (pos a) (negsuc b) = ne_eqb (a + b + 1) 0 (λ e. omega arith)
-    go (negsuc a) (pos b) = ne_eqb (a + b + 1) 0 (λ e. omega arith)
-    go (negsuc a) (negsuc b) = sum_zero a b
-
 -- ---- the probe
 
-pub unused_start : (probe : List ℤ) → true ≡ every (same_z (pos 0)) (drop (length probe) probe)
-unfolding every
-unused_start probe = rw (drop-length probe)
+same_int : (x y : ℤ) → int_eq x y ≡ same_z x y
+same_int (pos a) (pos b) = grind (arith, nat_tests)
+same_int (pos a) (negsuc b) = refl
+same_int (negsuc a) (pos b) = refl
+same_int (negsuc a) (negsuc b) = grind (arith, nat_tests)
 
-pub unused_more : (probe : List ℤ) (i : ℕ) (a b r : Bool) → i < length probe → a ≡ same_z (pos 0) (get_or probe i (pos 0))
-    → b ≡ every (same_z (pos 0)) (drop (i + 1) probe) → r ≡ a && b → r ≡ every (same_z (pos 0)) (drop i probe)
-unfolding every
-unused_more probe i a b r h ae be re = re ∙ rw (ae, be, add-one i, drop-cons probe i (pos 0) h)
+-- `==` goes from the first coordinate, and the definition from the last
 
-pub same_more : (p q : List ℤ) (i : ℕ) (a b r : Bool) → b ≡ same_probe i p q → a ≡ same_z (get_or p i (pos 0)) (get_or q i (pos 0)) → r ≡ b && a
-    → r ≡ same_probe (i + 1) p q
+same_front : (d : ℕ) (x y : ℤ) (p q : List ℤ) → same_probe (suc d) (x ∷ p) (y ∷ q) ≡ same_z x y && same_probe d p q
 unfolding same_probe
-same_more p q i a b r be ae re = re ∙ rw (be, ae, add-one i)
+same_front zero x y p q = sym (and-true (same_z x y))
+same_front (suc d) x y p q = rw (same_front d x y p q, and_assoc)
+
+pub same_pairs : (d : ℕ) (p q : List ℤ) → d ≤ length p → d ≤ length q → pointwise int_eq (take d p) (take d q) ≡ same_probe d p q
+unfolding same_probe
+same_pairs zero p q h k = refl
+same_pairs (suc d) [] q h k = absurd (omega arith)
+same_pairs (suc d) (x ∷ p) [] h k = absurd (omega arith)
+same_pairs (suc d) (x ∷ p) (y ∷ q) h k =
+    rw (same_int x y, same_pairs d p q (omega arith) (omega arith)) (sym (same_front d x y p q))
+
+zero_int : (z : ℤ) → int_eq z (pos 0) ≡ same_z (pos 0) z
+zero_int (pos a) = grind (arith, nat_tests)
+zero_int (negsuc a) = refl
+
+pub all_zero : (l : List ℤ) → list_all (λ z. int_eq z (pos 0)) l ≡ every (same_z (pos 0)) l
+unfolding every
+all_zero [] = refl
+all_zero (z ∷ l) = rw (zero_int z, all_zero l)
 
 -- the first d slots are all that is looked at
 pub same_take : (d n m : ℕ) (p q : List ℤ) → d ≤ n → d ≤ m → same_probe d (take n p) (take m q) ≡ same_probe d p q

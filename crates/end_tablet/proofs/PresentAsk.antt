@@ -1,7 +1,7 @@
--- Whether an answer is to the present ask of a list: slots and queries compared, and what the present ask is. Assumes nothing.
+-- Whether an answer is to the present ask of a list: queries compared, and what the present ask is. Assumes nothing.
 use Prim.Native.Nat.{ℕ, ◌+◌, ◌-◌, ◌*◌, ◌≤◌}
 use mathlib.Core.Path.{◌≡◌, refl, sym, ap, ◌∙◌}
-use mathlib.Core.Bool.{Bool, true, false, cond}
+use mathlib.Core.Bool.{Bool, true, false}
 use mathlib.Core.List.{List}
 use native.Mathlib.Omega.{arith}
 use lib.Dec.{eqb}
@@ -11,7 +11,6 @@ use Rattle.paper.specs.declared.lines.Answer.{Answer}
 use Rattle.paper.specs.declared.lines.Scope.{Scope}
 use Rattle.paper.specs.declared.lists.List as lists
 use Rattle.paper.specs.declared.queries.Query as queries
-use Rattle.paper.specs.declared.orders.Mark.{Mark}
 use Rattle.paper.specs.declared.orders.Place.{Place}
 use Rattle.paper.specs.declared.orders.Place.TheVariants.{Start, After}
 use Rattle.paper.specs.Orders.{query_in, snapshot_of}
@@ -22,37 +21,7 @@ use Rattle.orders.proofs.Rooms.{length_in}
 use Rattle.end_tablet.proofs.ItemLaws.{item_at, item_get}
 use Rattle.end_tablet.proofs.ListLaws.{same_take}
 
--- ---- slots
-
-start_cond : (b : Bool) (n : ℕ) (m : Mark) → b ≡ same_place Start (cond b Start (After n m))
-unfolding same_place
-start_cond true n m = refl
-start_cond false n m = refl
-
-module _ (p q : Scope) where
-  pub place_start : p.from ≡ 0 → eqb q.from 0 ≡ same_place (place_in p) (place_in q)
-  unfolding place_in
-  place_start h = rw (eq-eqb p.from 0 h) (start_cond (eqb q.from 0) q.snapshot (record { distance = q.distance; number = q.number }))
-
-  module _ (hp : p.from ≡ 0 → ⊥) where
-    pub place_from : q.from ≡ 0 → false ≡ same_place (place_in p) (place_in q)
-    unfolding place_in same_place
-    place_from h = rw (ne_eqb p.from 0 hp, eq-eqb q.from 0 h)
-
-    module _ (hq : q.from ≡ 0 → ⊥) where
-      pub place_snapshot : (p.snapshot ≡ q.snapshot → ⊥) → false ≡ same_place (place_in p) (place_in q)
-      unfolding place_in same_place
-      place_snapshot h = rw (ne_eqb p.from 0 hp, ne_eqb q.from 0 hq, ne_eqb p.snapshot q.snapshot h)
-
-      pub place_distance : p.snapshot ≡ q.snapshot → (p.distance ≡ q.distance → ⊥) → false ≡ same_place (place_in p) (place_in q)
-      unfolding place_in same_place
-      place_distance e h =
-          rw (ne_eqb p.from 0 hp, ne_eqb q.from 0 hq, eq-eqb p.snapshot q.snapshot e, ne_eqb p.distance q.distance h)
-
-      pub place_number : p.snapshot ≡ q.snapshot → p.distance ≡ q.distance → eqb p.number q.number ≡ same_place (place_in p) (place_in q)
-      unfolding place_in same_place
-      place_number e f =
-          rw (ne_eqb p.from 0 hp, ne_eqb q.from 0 hq, eq-eqb p.snapshot q.snapshot e, eq-eqb p.distance q.distance f)
+-- ---- places
 
 -- what was written reads back
 pub place_back : (p : Place) → place_in (scope_of p (snapshot_of p 0)) ≡ p

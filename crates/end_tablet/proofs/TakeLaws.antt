@@ -11,10 +11,10 @@ use lib.Seq.{paste}
 use borrow.Author.Tests.{le-leb, lt-leb, leb-true, ltb-true}
 use Rattle.paper.specs.declared.lines.Answer.{Answer}
 use Rattle.paper.specs.declared.lists.List as lists
-use Rattle.paper.specs.declared.lists.Taken.{Taken}
 use Rattle.paper.specs.declared.orders.Order.{Order}
 use Rattle.paper.specs.declared.orders.Place.{Place}
-use Rattle.paper.specs.Orders.{Item, no_item, follows, flat, fronted}
+use Rattle.paper.specs.declared.orders.Item.{Item}
+use Rattle.paper.specs.Orders.{no_item, follows, flat, fronted}
 use Rattle.paper.specs.Ends.{every, rising, fitting, to_present, page_holds, started_well, sound_in, joined_to, taken, Listing}
 use Rattle.paper.specs.Lists.{Takes, taken_shown, put_items, held, items_in, listing, held_well, sound_held}
 use Rattle.paper.specs.Codec.{place_in, answer_meant}
@@ -133,8 +133,8 @@ module _ (l : lists.List) (room : List ℕ) (sound : sound_held (held l room) �
 -- ---- the ways through `take_answer`
 
 -- a refusal leaves the list and its room
-pub takes_refused : (l : lists.List) (x : Outcome Listing) (n : ℕ) (room : List ℕ) (r : Taken) → x ≡ refused n → r ≡ record { refusal = n; list = l } → Takes l x room r room
-takes_refused l x n room r e q = promise_refused (taken_shown l) put_items x room n r e q
+pub takes_refused : (l : lists.List) (x : Outcome Listing) (n : ℕ) (room : List ℕ) → x ≡ refused n → Takes l x room (refused n) room
+takes_refused l x n room e = promise_refused (taken_shown l) put_items x room n (refused n) e refl
 
 module _ (l : lists.List) (room : List ℕ) (y : Answer) where
   abbrev L : Listing
@@ -185,11 +185,11 @@ module _ (l : lists.List) (room : List ℕ) (y : Answer) where
   pub joined_is : (x : Outcome Listing) (t : lists.List) (after : List ℕ) → x ≡ gives (joined_to L (answer_meant y))
       → l.count * 3 + y.count * 3 ≤ length room → y.count * 3 ≤ length y.items
       → t ≡ joined_fields l y y.count → after ≡ paste room (l.count * 3) y.items (y.count * 3)
-      → Takes l x room (record { refusal = 0; list = t }) after
+      → Takes l x room (gives t) after
   unfolding joined_to listing answer_meant
   joined_is x t after e h k te ae =
       let n : length (items_in l.count room ++ items_in y.count y.items) ≡ l.count + y.count =
       omega (arith, length-append (items_in l.count room) (items_in y.count y.items), length_in l.count room, length_in y.count y.items) in
-      promise_given (taken_shown l) put_items x room (joined_to L (answer_meant y)) (record { refusal = 0; list = t }) after e
-      (ap (λ (u : lists.List). record { refusal = 0; list = u }) te ∙ rw (← n))
+      promise_given (taken_shown l) put_items x room (joined_to L (answer_meant y)) (gives t) after e
+      (ap (λ (u : lists.List). gives u) te ∙ rw (← n))
       (ae ∙ sym (join_front room y.items l.count y.count h k))

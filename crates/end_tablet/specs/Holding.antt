@@ -4,7 +4,8 @@ use Rattle.paper.specs.declared.lines.Answer.{Answer}
 use Rattle.paper.specs.declared.lists.List as lists
 use Rattle.paper.specs.declared.orders.Order.{Order}
 use Rattle.paper.specs.declared.orders.Place.{Place}
-use Rattle.paper.specs.Orders.{Item, follows}
+use Rattle.paper.specs.declared.orders.Item.{Item}
+use Rattle.paper.specs.Orders.{follows}
 use Rattle.paper.specs.Points.{in_range}
 use Rattle.paper.specs.Ends.{fitting, leads}
 use Rattle.paper.specs.Lists.{unused_zero}

@@ -3,7 +3,7 @@ ghost use Rattle.std.specs.Prelude.{◌≡◌, true, ◌≤◌, length};
 ghost use Rattle.paper.specs.Orders.{snapshot_of};
 ghost use Rattle.paper.specs.Ends.{present_place, present_ask};
 ghost use Rattle.paper.specs.Lists.{held, listing, sound_held, asking_held};
-ghost use Rattle.paper.specs.Outcomes.{gives};
+ghost use Rattle.paper.specs.Outcomes.{gives, told};
 ghost use Rattle.paper.specs.Lines.{Writes};
 ghost use Rattle.paper.specs.Codec.{scope_of, ask_line, lines};
 ghost use Rattle.end_tablet.specs.Holding.{AskReady};
@@ -11,8 +11,9 @@ ghost use Rattle.paper.specs.Limits.{longest_ask, most_page};
 
 use checks::size_holds;
 use paper::limits::LONGEST_ASK;
-use paper::lines::{Scope, Wrote};
+use paper::lines::Scope;
 use paper::lists::List;
+use paper::refusals::Refusal;
 
 // [7.4] Where the next page starts, as lines write it.
 pub fn present(l: List, room: &[u64]) -> Scope
@@ -28,36 +29,29 @@ pub fn present(l: List, room: &[u64]) -> Scope
             number: room[n * 3 - 3] as u16,
         };
     }
-    Scope {
-        from: 0,
-        snapshot: 0,
-        distance: 0,
-        number: 0,
-    }
+    Scope::NONE
 }
 
 // [9.12] Writes the present ask of a sound list.
-pub fn write_ask(l: List, room: &[u64], size: usize, out: &mut [u8]) -> Wrote
+pub fn write_ask(l: List, room: &[u64], size: usize, out: &mut [u8]) -> Result<usize, Refusal>
     requires { sound_held (held l room.now) ≡ true }
-    ensures { Writes (asking_held lines (held l room.now) size (length out.old)) out.old result out.new }
+    ensures { Writes (asking_held lines (held l room.now) size (length out.old)) out.old (told result) out.new }
 {
     if l.complete {
-        return Wrote::Refused(16);
+        return Err(Refusal::Complete);
     }
     if !size_holds(size) {
-        return Wrote::Refused(6);
+        return Err(Refusal::PageSize);
     }
     if out.len() < LONGEST_ASK {
-        return Wrote::Refused(12);
+        return Err(Refusal::RoomTooShort);
     }
     put_ask(l, room, size, out)
 }
 
-fn put_ask(l: List, room: &[u64], size: usize, out: &mut [u8]) -> Wrote
+fn put_ask(l: List, room: &[u64], size: usize, out: &mut [u8]) -> Result<usize, Refusal>
     requires { AskReady l room.now × ((1 ≤ size) × ((size ≤ most_page) × (longest_ask ≤ length out.old))) }
-    ensures { Writes (gives (ask_line (present_ask (listing (held l room.now)) size))) out.old result out.new }
+    ensures { Writes (gives (ask_line (present_ask (listing (held l room.now)) size))) out.old (told result) out.new }
 {
-    let p = present(l, room);
-    let query = l.query;
-    lines::write_ask(query, p, size as u8, out)
+    lines::write_ask(l.query, present(l, room), size as u8, out)
 }

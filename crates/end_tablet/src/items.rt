@@ -6,16 +6,8 @@ ghost use Rattle.end_tablet.specs.Holding.{item_holds, items_hold};
 
 use paper::orders::{Order, Place};
 
-pub fn both(a: bool, b: bool) -> bool
-    ensures { result ≡ a && b }
-{
-    if a {
-        return b;
-    }
-    false
-}
-
 // [2.7] Whether distance x and number k come after the place; what reference they have does not matter.
+#[tactic(auto, unfolding(paper::specs::Orders::follows))]
 fn is_after(order: Order, place: Place, x: u64, k: u64) -> bool
     ensures { (y : ℕ) → result ≡ follows order place (record { number = k; reference = y; distance = x }) }
 {
@@ -26,6 +18,7 @@ fn is_after(order: Order, place: Place, x: u64, k: u64) -> bool
 }
 
 // Whether item i of `count` is in its place.
+#[tactic(auto, using(crate::proofs::ItemLaws::opening), unfolding(crate::specs::Holding::item_holds))]
 fn item_holds(
     order: Order,
     place: Place,
@@ -40,19 +33,10 @@ fn item_holds(
 {
     let k = room[i * 3];
     let x = room[i * 3 + 2];
-    if reach < x {
-        return false;
-    }
-    if snapshot <= k {
-        return false;
-    }
-    if !is_after(order, place, x, k) {
-        return false;
-    }
-    if i + 1 < count {
-        return order.before(x, k, room[i * 3 + 5], room[i * 3 + 3]);
-    }
-    true
+    x <= reach
+        && k < snapshot
+        && is_after(order, place, x, k)
+        && (i + 1 == count || order.before(x, k, room[i * 3 + 5], room[i * 3 + 3]))
 }
 
 // [7.6] Whether the first `count` items of a room rise, follow the place, and are within reach and below the snapshot.
@@ -67,14 +51,5 @@ pub fn items_hold(
     requires { count * 3 ≤ length room.now }
     ensures { result ≡ items_hold order place reach snapshot (items_in count room.now) }
 {
-    let mut ok = true;
-    let mut i = count;
-    while 0 < i {
-        i -= 1;
-        ok = both(
-            item_holds(order, place, reach, snapshot, room, i, count),
-            ok,
-        );
-    }
-    ok
+    (0..count).all(|i| item_holds(order, place, reach, snapshot, room, i, count))
 }

@@ -10,7 +10,8 @@ use borrow.Author.Tests.{ltb-true, leb-true, lt-ltb, le-leb, eq-eqb}
 use Rattle.paper.specs.declared.orders.Place.{Place}
 use Rattle.paper.specs.declared.orders.Place.TheVariants.{Start, After}
 use Rattle.paper.specs.Points.{zero_claim}
-use Rattle.paper.specs.Orders.{Item, no_item, Query, item_of, listed, snapshot_of, following, page_of, last_of, snapshot_holds, mark_holds}
+use Rattle.paper.specs.declared.orders.Item.{Item}
+use Rattle.paper.specs.Orders.{no_item, Query, item_of, listed, snapshot_of, following, page_of, last_of, snapshot_holds, mark_holds}
 use Rattle.paper.specs.Points.{in_range}
 use Rattle.paper.specs.Outcomes.{gives}
 use Rattle.paper.specs.Ends.{Ask, Answer, Table, count, matches, answer_of, answer_to, Listing, last_item, mark_of, present_place, present_ask, rising, every, fitting, started_well, sound_in, to_present, page_holds, joined_to, taken}

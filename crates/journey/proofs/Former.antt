@@ -8,7 +8,8 @@ use native.Mathlib.Omega.{arith}
 use lib.ListN.{length, take, drop, length-take}
 use lib.Seq.{take-nil, drop-length}
 use borrow.Author.Tests.{ltb-true, ltb-false, le-leb}
-use Rattle.paper.specs.Orders.{Item, snapshot_of, following, page_of, last_of, listed}
+use Rattle.paper.specs.declared.orders.Item.{Item}
+use Rattle.paper.specs.Orders.{snapshot_of, following, page_of, last_of, listed}
 use Rattle.paper.specs.Outcomes.{gives}
 use Rattle.paper.specs.Ends.{Ask, Codec, Table, count, answer_of, Listing, present_place, present_ask, joined_to, taking}
 use Rattle.paper.proofs.Outcomes.{same_given}

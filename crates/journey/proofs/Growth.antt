@@ -7,7 +7,8 @@ use native.Mathlib.Omega.{arith}
 use lib.ListN.{length, take, drop, length-append}
 use lib.Seq.{get_or-set_same}
 use borrow.Author.Tests.{le-leb}
-use Rattle.paper.specs.Orders.{Item, listed, snapshot_of, following, page_of, last_of}
+use Rattle.paper.specs.declared.orders.Item.{Item}
+use Rattle.paper.specs.Orders.{listed, snapshot_of, following, page_of, last_of}
 use Rattle.paper.specs.Outcomes.{Outcome, gives, must, onto}
 use Rattle.paper.specs.Ends.{Ask, Answer, Codec, Table, count, matches, answer_of, answer_to, line_answered, office, Listing, present_place, present_ask, asking, joined_to, taken, own_kind, taking}
 use Rattle.paper.proofs.Tests.{and_both, false_not}

@@ -10,7 +10,8 @@ use lib.Dec.{leb, eqb}
 use borrow.Author.Tests.{lt-ltb, le-leb, eq-eqb}
 use Rattle.paper.specs.declared.orders.Place.{Place}
 use Rattle.paper.specs.Points.{Claim}
-use Rattle.paper.specs.Orders.{Item, no_item, Query, listed, rest}
+use Rattle.paper.specs.declared.orders.Item.{Item}
+use Rattle.paper.specs.Orders.{no_item, Query, listed, rest}
 use Rattle.paper.specs.Ends.{Answer, Table, count, matches, Listing, fresh, present_place, fitting, started_well, sound_in, joined_to}
 use Rattle.paper.proofs.Tests.{no_way, and_both, or_right}
 use Rattle.orders.proofs.Lists.{All, all_map, all_take, every_true, front_length, join_front, last_of_front}

@@ -1,6 +1,7 @@
 -- What is promised of a world: lists over a link. Definitions only.
 use Rattle.std.specs.Prelude.{ℕ, ◌+◌, ◌≤◌, ◌≡◌, true, false, cond, List, ◌∷◌, ◌++◌, ltb, length, take, drop}
-use Rattle.paper.specs.Orders.{Item, listed, snapshot_of, page_of, last_of}
+use Rattle.paper.specs.declared.orders.Item.{Item}
+use Rattle.paper.specs.Orders.{listed, snapshot_of, page_of, last_of}
 use Rattle.paper.specs.Ends.{Ask, Answer, Codec, Table, count, matches, answer_of, Listing, present_ask, sound_in}
 use Rattle.journey.specs.World.{World, the_list, asks, receives, takes, next}
 use Rattle.paper.specs.Limits.{longest_answer, longest_ask, most_page}

@@ -10,20 +10,16 @@ use lib.IntN.{ℤ}
 use lib.ListN.{length, drop}
 use lib.Seq.{take_at}
 use borrow.Author.Tests.{le-leb}
-use Rattle.paper.specs.declared.lines.Wrote.{Wrote}
-use Rattle.paper.specs.declared.lists.Opened.{Opened}
-use Rattle.paper.specs.declared.lists.Taken.{Taken}
-use Rattle.paper.specs.declared.tables.Entered.{Entered}
-use Rattle.paper.specs.declared.tables.Made.{Made}
+use Rattle.paper.specs.declared.lists.List as lists
 use Rattle.paper.specs.declared.tables.Table.{Table}
-use Rattle.paper.specs.Lines.{Writes, wrote_shown}
+use Rattle.paper.specs.Lines.{Writes}
 use Rattle.paper.specs.Orders.{Query}
-use Rattle.paper.specs.Outcomes.{Outcome, refused, gives, must, onto, leaves, Promise, Shows}
+use Rattle.paper.specs.Outcomes.{Outcome, refused, gives, must, onto, leaves, Promise}
 use Rattle.paper.specs.Points.{in_range}
 use Rattle.paper.specs.Tree.{built, Store, store, Memory, fits, same_front, afresh, sound}
-use Rattle.paper.specs.Runs.{empty_table, make_call, made_shown, enter_call, entered_shown, put_store}
+use Rattle.paper.specs.Runs.{empty_table, make_call, enter_call, entered_shown, put_store}
 use Rattle.paper.specs.Ends.{Listing, fresh, opening}
-use Rattle.paper.specs.Lists.{held, Takes, opened_as, opening_held, opened_shown, asking_held, taking_held, held_after}
+use Rattle.paper.specs.Lists.{held, Takes, opened_as, opening_held, asking_held, taking_held, held_after}
 use Rattle.paper.specs.Calls.{table_refusal, office_call}
 use Rattle.paper.specs.Codec.{lines}
 use Rattle.journey_lent.specs.World.{LentWorld, enters, opens, asks, receives, takes, the_held, put_table, put_list, put_in_air, next_lent}
@@ -31,22 +27,20 @@ use Rattle.journey_lent.specs.After.{lent_to, after_enter, after_open, after_lin
 
 -- ---- one call that enters, opens, writes or takes, whatever its outcome
 
-entered_step : (w : LentWorld) (o : Outcome Store) (r : Entered) (after : Memory) → Promise entered_shown put_store o (lent_to w.store) r after
+entered_step : (w : LentWorld) (o : Outcome Store) (r : Outcome Table) (after : Memory) → Promise entered_shown put_store o (lent_to w.store) r after
     → after_enter w r after ≡ leaves put_table o w
 entered_step w (refused n) r after p = rw (p.result, p.memory)
 entered_step w (gives s) r after p = rw (p.result, p.memory)
 
-written_step : (w : LentWorld) (o : Outcome (List ℕ)) (before : List ℕ) (r : Wrote) (after : List ℕ) → Writes o before r after
+written_step : (w : LentWorld) (o : Outcome (List ℕ)) (before : List ℕ) (r : Outcome ℕ) (after : List ℕ) → Writes o before r after
     → after_line w r after ≡ leaves put_in_air o w
-unfolding wrote_shown
 written_step w (refused n) before r after p = rw p.result
 written_step w (gives line) before r after p =
     rw (p.result, p.memory) (ap (λ (x : List ℕ). put_in_air x w) (take_at line (drop (length line) before) (length line) refl))
 
 opened_step : (w : LentWorld) (room : List ℕ) (q : Query) (a b : Bool)
-    → after_open w room (opened_shown (onto (must a 1 (must b 5 (gives (fresh q)))) (λ (L : Listing). gives (opened_as q))))
+    → after_open w room (onto (must a 1 (must b 5 (gives (fresh q)))) (λ (L : Listing). gives (opened_as q)))
     ≡ leaves (put_list room) (onto (must a 1 (must b 5 (gives (fresh q)))) (λ (L : Listing). gives (opened_as q))) w
-unfolding after_open opened_shown
 opened_step w room q false b = refl
 opened_step w room q true false = refl
 opened_step w room q true true = refl
@@ -55,31 +49,31 @@ opened_step w room q true true = refl
 
 module _ (w : LentWorld) where
   -- [9.6] `enter`
-  pub entering_steps : (given : List ℕ) (points : List ℤ) (r : Entered) (after : Memory)
+  pub entering_steps : (given : List ℕ) (points : List ℤ) (r : Outcome Table) (after : Memory)
       → Promise entered_shown put_store (enter_call w.store given points) (lent_to w.store) r after → after_enter w r after ≡ next_lent w (enters given points)
   unfolding next_lent
   entering_steps given points r after p = entered_step w _ r after p
 
   -- [9.11] `open_list`
-  pub opening_steps : (q : Query) (room : List ℕ) (r : Opened) → r ≡ opened_shown (opening_held q) → after_open w room r ≡ next_lent w (opens q room)
+  pub opening_steps : (q : Query) (room : List ℕ) (r : Outcome lists.List) → r ≡ opening_held q → after_open w room r ≡ next_lent w (opens q room)
   unfolding next_lent opening_held opening
   opening_steps q room r p = ap (after_open w room) p ∙ opened_step w room q (in_range q.measure q.d) (eqb (length q.probe) q.d)
 
   -- [9.12] `write_ask`
-  pub asking_steps : (i size : ℕ) (out : List ℕ) (r : Wrote) (after : List ℕ)
+  pub asking_steps : (i size : ℕ) (out : List ℕ) (r : Outcome ℕ) (after : List ℕ)
       → Writes (asking_held lines (held (the_held w i).list (the_held w i).room) size (length out)) out r after
       → after_line w r after ≡ next_lent w (asks i size (length out))
   unfolding next_lent
   asking_steps i size out r after p = written_step w _ out r after p
 
   -- [9.10] `answer`
-  pub answering_steps : (line out : List ℕ) (r : Wrote) (after : List ℕ) → Writes (office_call w.store (length out) line) out r after
+  pub answering_steps : (line out : List ℕ) (r : Outcome ℕ) (after : List ℕ) → Writes (office_call w.store (length out) line) out r after
       → after_line w r after ≡ next_lent w (receives line (length out))
   unfolding next_lent
   answering_steps line out r after p = written_step w _ out r after p
 
   -- [9.13] `take`
-  pub taking_steps : (i : ℕ) (line : List ℕ) (r : Taken) (after : List ℕ)
+  pub taking_steps : (i : ℕ) (line : List ℕ) (r : Outcome lists.List) (after : List ℕ)
       → Takes (the_held w i).list (taking_held lines (held (the_held w i).list (the_held w i).room) line) (the_held w i).room r after
       → after_take w i r after ≡ next_lent w (takes i line)
   unfolding next_lent held_after
@@ -91,11 +85,11 @@ module _ (number measure d capacity : ℕ) (references : List ℕ) (coordinates 
   abbrev made : Store
   made = store (empty_table number measure d capacity) references coordinates nodes
 
-  pub a_made_table_may_begin : (t : Table) → Shows made_shown (make_call made) (Made.Table t) → table_refusal (store t references coordinates nodes) ≡ 0
+  pub a_made_table_may_begin : (t : Table) → gives t ≡ make_call made → table_refusal (store t references coordinates nodes) ≡ 0
   unfolding make_call
   a_made_table_may_begin t p = go (fits made) refl p
     where
-      go : (b : Bool) → fits made ≡ b → Made.Table t ≡ made_shown (must b 1 (gives made.table)) → table_refusal (store t references coordinates nodes) ≡ 0
+      go : (b : Bool) → fits made ≡ b → gives t ≡ must b 1 (gives made.table) → table_refusal (store t references coordinates nodes) ≡ 0
       go true e q =
           let is : t ≡ made.table = cc in
           rw is (unfold table_refusal sound afresh built same_front in rw (e, le-leb 0 capacity (omega arith)))

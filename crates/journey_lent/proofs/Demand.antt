@@ -7,7 +7,8 @@ use mathlib.Core.List.{List, [], ◌∷◌, map, Memᴰ}
 use lib.ListN.{length, take}
 use Rattle.paper.specs.declared.lists.List as lists
 use Rattle.paper.specs.Points.{Claim}
-use Rattle.paper.specs.Orders.{Item, Query, item_of, listed, query_in}
+use Rattle.paper.specs.declared.orders.Item.{Item}
+use Rattle.paper.specs.Orders.{Query, item_of, listed, query_in}
 use Rattle.paper.specs.Outcomes.{gives}
 use Rattle.paper.specs.Tree.{claims_in}
 use Rattle.paper.specs.Ends.{table_of}

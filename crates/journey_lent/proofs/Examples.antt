@@ -9,7 +9,8 @@ use lib.ListN.{length, take, drop, replicate}
 use lib.Signed.{mag}
 use Rattle.paper.specs.declared.orders.Order.{Order}
 use Rattle.paper.specs.Points.{measure_of, weigh, joined, distance, point, in_range}
-use Rattle.paper.specs.Orders.{Item, Query, insert, item_of, listed, last_of}
+use Rattle.paper.specs.declared.orders.Item.{Item}
+use Rattle.paper.specs.Orders.{Query, insert, item_of, listed, last_of}
 use Rattle.paper.specs.Tree.{new_node, entered_from, entered, built, claims_from, claims_in, fits, same_front, afresh, sound}
 use Rattle.paper.specs.References.{references_of, is_among, anew}
 use Rattle.paper.specs.Runs.{added, added_run, enter_call}

@@ -16,7 +16,8 @@ use Rattle.paper.specs.declared.orders.Place.{Place}
 use Rattle.paper.specs.declared.orders.Place.TheVariants.{Start, After}
 use Rattle.paper.specs.Frames.{num}
 use Rattle.paper.specs.Fields.{coords_in, scope_ok, item_numbers, numbers_ok, references_ok}
-use Rattle.paper.specs.Orders.{Item, Query, snapshot_of, flat}
+use Rattle.paper.specs.declared.orders.Item.{Item}
+use Rattle.paper.specs.Orders.{Query, snapshot_of, flat}
 use Rattle.paper.specs.Lists as lists
 use Rattle.paper.specs.Codec.{scope_of, place_in}
 use Rattle.line_digits.proofs.NumbersAndFrames.{Bytes, bytes_drop, num_lt}

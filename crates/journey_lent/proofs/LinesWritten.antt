@@ -9,12 +9,12 @@ use borrow.Author.Tests.{eq-eqb, le-leb}
 use Rattle.paper.specs.declared.lines.Scope.{Scope}
 use Rattle.paper.specs.Frames.{num, frame_of}
 use Rattle.paper.specs.Fields.{query_in_slots, flag_of, item_slots}
-use Rattle.paper.specs.Lines.{ask_kind, query_fits, ask_frame, ask_ranges, ask_fits, an_ask, answer_ranges, answer_fits, an_answer}
+use Rattle.paper.specs.Lines.{ask_kind, query_fits, ask_frame, ask_ranges, ask_fits, answer_ranges, answer_fits}
 use Rattle.paper.specs.Orders.{Query, snapshot_of, flat}
 use Rattle.paper.specs.Outcomes.{gives}
 use Rattle.paper.specs.Ends.{Ask, Answer}
 use Rattle.paper.specs.Codec.{scope_of, ask_line, answer_line, ask_meant, answer_meant, read_ask, read_answer}
-use Rattle.paper.proofs.Reading.{ask_by_refusal, answer_by_refusal}
+use Rattle.paper.proofs.Reading.{ask_as_read, answer_as_read}
 use Rattle.line_digits.proofs.LinesAndFrames.{frame_line}
 use Rattle.line_fields.proofs.Round.{ScopeFit, front_read}
 use Rattle.paper.proofs.LineKinds.{ask_small}
@@ -72,9 +72,9 @@ module _ (a : Ask) (ok : AskInRange a) where
       λ i. record { query = q i; place = p i; size = a.size }
 
   pub ask_back : read_ask (ask_line a) ≡ gives a
-  unfolding ask_line an_ask
+  unfolding ask_line
   ask_back =
-      ask_by_refusal (ask_line a)
+      ask_as_read (ask_line a)
       ∙ rw (ask_reads_back a.query scope a.size ask_fits_lem (query_fit a.query ok.query) scope_fits) (ap gives ask_same)
 
   pub ask_begins : num 1 (frame_of (ask_line a)) ≡ ask_kind a.query.order
@@ -118,7 +118,7 @@ module _ (y : Answer) (ok : AnswerInRange y) where
       λ i. record { query = q i; place = p i; snapshot = s i; last = l i; items = m i }
 
   pub answer_back : read_answer (answer_line y) ≡ gives y
-  unfolding answer_line an_answer
+  unfolding answer_line
   answer_back =
-      answer_by_refusal (answer_line y)
+      answer_as_read (answer_line y)
       ∙ rw (answer_reads_back y.query around (flag_of y.last) pages (flat y.items) answer_fits_lem (query_fit y.query ok.query) around_fits (flat_distances y.items all_ok)) (ap gives answer_same)

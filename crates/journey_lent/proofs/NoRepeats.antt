@@ -11,7 +11,8 @@ use lib.Seq.{get_or-take}
 use borrow.Author.Tests.{ltb-true, ltb-false}
 use Rattle.paper.specs.declared.lists.List as lists
 use Rattle.paper.specs.Points.{Claim, zero_claim}
-use Rattle.paper.specs.Orders.{Item, no_item, Query, item_of, listed}
+use Rattle.paper.specs.declared.orders.Item.{Item}
+use Rattle.paper.specs.Orders.{no_item, Query, item_of, listed}
 use Rattle.paper.specs.Outcomes.{Outcome, refused, gives, leaves}
 use Rattle.paper.specs.Tree.{Store, claims_in}
 use Rattle.paper.specs.References.{references_of, in_force, anew}

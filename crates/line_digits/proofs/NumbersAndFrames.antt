@@ -1,12 +1,14 @@
 -- A number is read back at every width, and so is a field of a frame, there and back. No contract cites this file. Assumes nothing.
 use Prim.Native.Nat.{ℕ, zero, suc, ◌+◌, ◌*◌, ◌/◌, ◌%◌, ◌^◌, ◌≤◌, ◌<◌}
-use native.Mathlib.Nat.{pow-suc}
+use native.Mathlib.Nat.{pow-le-pow_right, pow-suc}
+use native.Mathlib.Numerals.{add-one}
 use native.Mathlib.Omega.{arith}
 use mathlib.Core.Path.{◌≡◌, refl, sym, ap, ◌∙◌}
 use mathlib.Core.List.{List, [], ◌∷◌, ◌++◌, append_assoc}
 use lib.ListN.{length, get_or, take, drop, length-append, length-drop, take-append-drop}
-use lib.Seq.{take-suc, get_or_at, drop_at, drop-drop}
-use Rattle.paper.specs.Frames.{be, num}
+use lib.Seq.{take-suc, get_or-drop, get_or_at, drop_at, drop-drop}
+use Rattle.paper.specs.Frames.{be, num, frame_of}
+use Rattle.line_digits.specs.FrameBytes.{Field}
 
 -- ---- bytes
 
@@ -71,6 +73,20 @@ num_lt (suc w) f p =
     rw pow-suc (omega arith)
 
 -- ---- fields of a frame, there and back
+
+-- a field is read byte by byte, in at most eight turns
+pub field_none : (line : List ℕ) (at : ℕ) → Field line at 0 0
+unfolding num
+field_none line at = record { value = refl; small = omega arith }
+
+pub field_more : (line : List ℕ) (at w r b : ℕ) → Field line at w r → b ≡ get_or (frame_of line) (at + w) 0 → b < 256 → Field line at (w + 1) (r * 256 + b)
+unfolding num
+field_more line at w r b h e k = record { value = rw (h.value, e, add-one, get_or-drop); small = let p : r < 256 ^ w = h.small in rw (add-one, pow-suc) (omega arith) }
+
+pub seven : (w : ℕ) → w < 8 → 256 ^ w ≤ 72057594037927936
+seven w h = pow-le-pow_right {n = 256} (omega arith) {i = w} {j = 7} (omega arith)
+
+pub ruleset bytewise = (field_none, field_more, seven)
 
 -- a field that was written is read, and what stands behind it is known
 pub field_read : (f : List ℕ) (at w n : ℕ) (g : List ℕ) → drop at f ≡ be w n ++ g → n < 256 ^ w → (num w (drop at f) ≡ n) × (drop (at + w) f ≡ g)

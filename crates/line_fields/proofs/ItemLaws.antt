@@ -7,14 +7,18 @@ use mathlib.Core.Bool.{Bool, true, false, ◌&&◌}
 use mathlib.Core.List.{List, [], ◌∷◌, ◌++◌, append_assoc}
 use lib.ListN.{length, get_or, drop, set, replicate, length-append, length-drop}
 use lib.Dec.{ltb, leb}
-use borrow.Author.Tests.{ltb-true, leb-true, le-leb, lt-leb, lt-ltb, le-ltb}
+use borrow.Author.Tests.{ltb-true, leb-true, lt-ltb}
 use lib.Seq.{drop-cons, drop-drop}
 use Rattle.paper.specs.Frames.{be, num}
 use Rattle.line_digits.specs.FrameBytes.{overlaid}
-use Rattle.line_digits.proofs.LinesAndFrames.{and-false, and_both}
+use Rattle.std.specs.List.{list_all, range_with_len}
+use Rattle.std.specs.Simd.{first_chunks}
+use Rattle.std.proofs.Math.Bool.{and-false}
+use Rattle.std.proofs.lemmas.Bool.{and_parts}
+use Rattle.std.proofs.lemmas.List.{drop_all}
+use Rattle.line_digits.proofs.WritingOver.{over_nil, over_append}
 use Rattle.line_digits.proofs.NumbersAndFrames.{num_lt, Bytes, bytes_append, bytes_be, bytes_drop, length_be, field_read, field_back}
 use Rattle.paper.specs.Fields.{item_frame, item_bytes, item_numbers, numbers_ok, references_ok}
-use Rattle.line_fields.proofs.PartLaws.{over_to}
 use Rattle.paper.specs.Limits.{item_room, most_number, most_page}
 
 -- ---- the bytes of items
@@ -47,20 +51,27 @@ bytes_items (n ∷ r ∷ x ∷ ns) = bytes_append (item_frame n r x) (item_bytes
 
 -- ---- items written one by one
 
--- one item of those that are left to write
-pub item_step : (o o' : List ℕ) (at i : ℕ) (ns : List ℕ) → 3 * i + 2 < length ns → 2 * (at + 14 * (i + 1)) ≤ length o
-    → o' ≡ overlaid o (at + 14 * i) (item_frame (get_or ns (3 * i) 0) (get_or ns (3 * i + 1) 0) (get_or ns (3 * i + 2) 0))
-    → overlaid o (at + 14 * i) (item_bytes (drop (3 * i) ns)) ≡ overlaid o' (at + 14 * (i + 1)) (item_bytes (drop (3 * (i + 1)) ns))
+three_drop : (ns : List ℕ) (j : ℕ) → j + 2 < length ns → drop j ns ≡ get_or ns j 0 ∷ get_or ns (j + 1) 0 ∷ get_or ns (j + 2) 0 ∷ drop (j + 3) ns
+three_drop ns j h =
+    let e1 : j + 1 ≡ suc j = omega arith in
+    let e2 : j + 2 ≡ suc (suc j) = omega arith in
+    let e3 : j + 3 ≡ suc (suc (suc j)) = omega arith in
+    rw (e1, e2, e3, drop-cons ns j 0 (omega arith), drop-cons ns (suc j) 0 (omega arith), drop-cons ns (suc (suc j)) 0 (omega arith))
+
+-- of those that are left to write the first, and none
+
+pub item_step : (o : List ℕ) (p j : ℕ) (ns : List ℕ) → j + 2 < length ns → 2 * (p + 14) ≤ length o
+    → overlaid o p (item_bytes (drop j ns)) ≡ overlaid (overlaid o p (item_frame (get_or ns j 0) (get_or ns (j + 1) 0) (get_or ns (j + 2) 0))) (p + 14) (item_bytes (drop (j + 3) ns))
 unfolding item_bytes
-item_step o o' at i ns h k e =
-    let j = 3 * i in
-    let e1 : 3 * i + 1 ≡ suc (3 * i) = omega arith in
-    let e2 : 3 * i + 2 ≡ suc (suc (3 * i)) = omega arith in
-    let e3 : 3 * (i + 1) ≡ suc (suc (suc (3 * i))) = omega arith in
-    let l = length_item (get_or ns (3 * i) 0) (get_or ns (suc (3 * i)) 0) (get_or ns (suc (suc (3 * i))) 0) in
-    let e' : o' ≡ overlaid o (at + 14 * i) (item_frame (get_or ns (3 * i) 0) (get_or ns (suc (3 * i)) 0) (get_or ns (suc (suc (3 * i))) 0)) = rw (← e2, ← e1) e in
-    rw (e3, drop-cons ns (3 * i) 0 (omega arith), drop-cons ns (suc (3 * i)) 0 (omega arith), drop-cons ns (suc (suc (3 * i))) 0 (omega arith))
-    (over_to o o' (at + 14 * i) (at + 14 * (i + 1)) (item_frame (get_or ns (3 * i) 0) (get_or ns (suc (3 * i)) 0) (get_or ns (suc (suc (3 * i))) 0)) (item_bytes (drop (suc (suc (suc (3 * i)))) ns)) (omega arith) k e')
+item_step o p j ns h k =
+    let l = length_item (get_or ns j 0) (get_or ns (j + 1) 0) (get_or ns (j + 2) 0) in
+    rw (three_drop ns j h) (rw l at (over_append o p (item_frame (get_or ns j 0) (get_or ns (j + 1) 0) (get_or ns (j + 2) 0)) (item_bytes (drop (j + 3) ns)) (omega arith)))
+
+pub items_end : (o : List ℕ) (p j : ℕ) (ns : List ℕ) → length ns ≤ j → overlaid o p (item_bytes (drop j ns)) ≡ o
+unfolding item_bytes
+items_end o p j ns h = rw (drop_all j ns h) (over_nil o p)
+
+pub ruleset one_by_one = (item_step, items_end)
 
 -- ---- items read one by one
 
@@ -135,47 +146,32 @@ items_read (suc k) (n ∷ r ∷ x ∷ ns) g p =
 
 -- ---- tests
 
--- of the items that are left to test, the first is in range, or is not
-module _ (k i : ℕ) (g : List ℕ) (h : i < k) where
-  pub number_more : num 2 (drop (14 * i) g) ≤ most_number
-      → numbers_ok (item_numbers (k - i) (drop (14 * i) g)) ≡ numbers_ok (item_numbers (k - (i + 1)) (drop (14 * (i + 1)) g))
-  unfolding item_numbers numbers_ok
-  number_more q =
-      let e1 : k - i ≡ suc (k - (i + 1)) = omega arith in
-      let e2 : 14 * (i + 1) ≡ 14 * i + 14 = omega arith in
-      rw (e1, e2, le-leb (num 2 (drop (14 * i) g)) most_number q, drop-drop 14 (14 * i) g)
+-- the numbers of k items, one by one
+numbers_from : (k a i : ℕ) (f : List ℕ) → list_all (λ i. leb (num 2 (drop (a + 14 * i) f)) most_number) (range_with_len i k) ≡ numbers_ok (item_numbers k (drop (a + 14 * i) f))
+unfolding item_numbers numbers_ok
+numbers_from zero a i f = refl
+numbers_from (suc k) a i f =
+    let e : a + 14 * (i + 1) ≡ a + 14 * i + 14 = omega arith in
+    rw (numbers_from k a (i + 1) f, e, drop-drop 14 (a + 14 * i) f)
 
-  pub number_bad : most_number < num 2 (drop (14 * i) g) → numbers_ok (item_numbers (k - i) (drop (14 * i) g)) ≡ false
-  unfolding item_numbers numbers_ok
-  number_bad q =
-      let e1 : k - i ≡ suc (k - (i + 1)) = omega arith in
-      rw (e1, lt-leb (num 2 (drop (14 * i) g)) most_number q)
+pub numbers_all : (k a : ℕ) (f : List ℕ) → list_all (λ i. leb (num 2 (drop (a + 14 * i) f)) most_number) (range_with_len 0 k) ≡ numbers_ok (item_numbers k (drop a f))
+numbers_all k a f = let e : a + 14 * 0 ≡ a = omega arith in rw e at (numbers_from k a 0 f)
 
 -- the same of items that a writer is handed
-unfoldable pub fitting : List ℕ → Bool
-fitting ns = references_ok ns && numbers_ok ns
-
-three_drop : (ns : List ℕ) (j : ℕ) → j + 2 < length ns → drop j ns ≡ get_or ns j 0 ∷ get_or ns (j + 1) 0 ∷ get_or ns (j + 2) 0 ∷ drop (j + 3) ns
-three_drop ns j h =
-    let e1 : j + 1 ≡ suc j = omega arith in
-    let e2 : j + 2 ≡ suc (suc j) = omega arith in
-    let e3 : j + 3 ≡ suc (suc (suc j)) = omega arith in
-    rw (e1, e2, e3, drop-cons ns j 0 (omega arith), drop-cons ns (suc j) 0 (omega arith), drop-cons ns (suc (suc j)) 0 (omega arith))
-
-module _ (ns : List ℕ) (j : ℕ) (h : j + 2 < length ns) where
-  pub fit_more : get_or ns j 0 ≤ most_number → get_or ns (j + 1) 0 ≤ 4294967295 → fitting (drop j ns) ≡ fitting (drop (j + 3) ns)
-  unfolding fitting references_ok numbers_ok
-  fit_more p q =
-      rw (three_drop ns j h, le-leb (get_or ns j 0) most_number p, lt-ltb (get_or ns (j + 1) 0) 4294967296 (omega arith))
-
-  pub fit_number : most_number < get_or ns j 0 → fitting (drop j ns) ≡ false
-  unfolding fitting references_ok numbers_ok
-  fit_number p =
-      rw (three_drop ns j h, lt-leb (get_or ns j 0) most_number p) (and-false (ltb (get_or ns (j + 1) 0) 4294967296 && references_ok (drop (j + 3) ns)))
-
-  pub fit_reference : 4294967295 < get_or ns (j + 1) 0 → fitting (drop j ns) ≡ false
-  unfolding fitting references_ok numbers_ok
-  fit_reference p = rw (three_drop ns j h, le-ltb (get_or ns (j + 1) 0) 4294967296 (omega arith))
+pub fit_all : (k : ℕ) (ns : List ℕ) → length ns ≡ 3 * k → list_all (λ t. leb (get_or t 0 0) most_number && ltb (get_or t 1 0) 4294967296) (first_chunks 3 k ns) ≡ references_ok ns && numbers_ok ns
+unfolding references_ok numbers_ok
+fit_all zero [] e = refl
+fit_all (suc k) [] e = absurd (omega arith)
+fit_all k (n ∷ []) e = absurd (omega arith)
+fit_all k (n ∷ r ∷ []) e = absurd (omega arith)
+fit_all zero (n ∷ r ∷ x ∷ ns) e = absurd (omega arith)
+fit_all (suc k) (n ∷ r ∷ x ∷ ns) e =
+    rw (fit_all k ns (omega arith)) (regroup (leb n most_number) (ltb r 4294967296) (references_ok ns) (numbers_ok ns))
+  where
+    regroup : (a b p q : Bool) → (a && b) && (p && q) ≡ (b && p) && (a && q)
+    regroup true true p q = refl
+    regroup true false p q = refl
+    regroup false b p q = simp and-false
 
 -- ---- handed on
 
@@ -194,8 +190,8 @@ items_fitting zero (n ∷ ns) e p q h = absurd (omega arith)
 items_fitting (suc k) (n ∷ []) e p q h = absurd (omega arith)
 items_fitting (suc k) (n ∷ r ∷ []) e p q h = absurd (omega arith)
 items_fitting (suc k) (n ∷ r ∷ x ∷ ns) e p q h =
-    let a = and_both (ltb r 4294967296) (references_ok ns) p in
-    let b = and_both (leb n most_number) (numbers_ok ns) q in
+    let a = and_parts (ltb r 4294967296) (references_ok ns) p in
+    let b = and_parts (leb n most_number) (numbers_ok ns) q in
     let hr : r < 4294967296 = ltb-true r 4294967296 a.0 in
     let hn : n ≤ most_number = leb-true n most_number b.0 in
     (omega arith, (omega arith, (h.0, items_fitting k ns (omega arith) a.1 b.1 h.1)))

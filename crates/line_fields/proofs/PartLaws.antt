@@ -4,7 +4,7 @@ use Prim.Native.Nat.{ℕ, zero, suc, ◌+◌, ◌-◌, ◌*◌, ◌≤◌, ◌<�
 use native.Mathlib.Numerals.{add-one}
 use native.Mathlib.Omega.{arith}
 use mathlib.Core.Path.{◌≡◌, refl, sym, ap, ◌∙◌}
-use mathlib.Core.Bool.{Bool, true, false, ◌&&◌, ◌||◌}
+use mathlib.Core.Bool.{Bool, true, false, ◌&&◌}
 use mathlib.Core.List.{List, [], ◌∷◌, ◌++◌, append_assoc}
 use lib.ListN.{length, get_or, drop, set, replicate, length-append}
 use lib.Seq.{drop-cons, drop-drop, set_at}
@@ -15,16 +15,17 @@ use mir.Val.{of_z, to_z}
 use Rattle.paper.specs.Frames.{be, num, frame_of, is_line}
 use Rattle.line_digits.specs.FrameBytes.{overlaid, HasBytes}
 use Rattle.line_digits.proofs.NumbersAndFrames.{Bytes, bytes_append, bytes_be, length_be}
-use Rattle.line_digits.proofs.WritingOver.{over_append}
-use Rattle.line_digits.proofs.LinesAndFrames.{and_both}
-use borrow.Author.Tests.{le-leb, eqb-true, eq-eqb}
+use Rattle.line_digits.proofs.WritingOver.{over_nil, over_append}
+use Rattle.std.proofs.lemmas.Bool.{and_parts}
+use Rattle.std.proofs.lemmas.List.{drop_all, length-take-le}
+use borrow.Author.Tests.{eqb-true, eq-eqb}
 use Rattle.paper.specs.Points.{in_range, InRange}
 use Rattle.paper.specs.Orders.{Query}
 use Rattle.paper.proofs.Ranges.{range_is}
-use Rattle.paper.specs.Fields.{head, front, coord_bytes, coords_in, scope_bytes, scope_ok}
+use Rattle.paper.specs.Fields.{head, front, coord_bytes, coords_in, scope_bytes}
 use Rattle.paper.specs.Lines.{head_ok}
 use Rattle.paper.specs.declared.lines.Scope.{Scope}
-use Rattle.paper.specs.Limits.{most_claims, most_number, most_coordinates}
+use Rattle.paper.specs.Limits.{most_coordinates}
 use Rattle.line_fields.specs.Layout.{laid_out}
 
 -- ---- writing
@@ -85,13 +86,21 @@ bytes_front k q p =
     bytes_append (head k q.table q.measure q.d) (coord_bytes q.probe ++ scope_bytes q.reach p) (bytes_head k q.table q.measure q.d)
     (bytes_append (coord_bytes q.probe) (scope_bytes q.reach p) (bytes_coord_bytes q.probe) (bytes_scope q.reach p))
 
--- one coordinate of those that are left to write
-pub coord_step : (o : List ℕ) (at i : ℕ) (cs : List ℤ) → i < length cs → 2 * (at + 4 * i + 4) ≤ length o
-    → overlaid o (at + 4 * i) (coord_bytes (drop i cs)) ≡ overlaid (overlaid o (at + 4 * i) (be 4 (of_z w32 (get_or cs i (pos 0))))) (at + 4 * (i + 1)) (coord_bytes (drop (i + 1) cs))
+pub ruleset fronting = (over_append, length_head, length_coord_bytes, length-take-le)
+
+-- coordinates one by one: of those that are left to write the first, and none
+
+pub coord_step : (o : List ℕ) (p i : ℕ) (cs : List ℤ) → i < length cs → 2 * (p + 4) ≤ length o
+    → overlaid o p (coord_bytes (drop i cs)) ≡ overlaid (overlaid o p (be 4 (of_z w32 (get_or cs i (pos 0))))) (p + 4) (coord_bytes (drop (i + 1) cs))
 unfolding coord_bytes
-coord_step o at i cs h k =
-    let e : at + 4 * (i + 1) ≡ at + 4 * i + 4 = omega arith in
-    rw (e, add-one i, drop-cons cs i (pos 0) h) (over_then o (at + 4 * i) 4 (of_z w32 (get_or cs i (pos 0))) (coord_bytes (drop (suc i) cs)) k)
+coord_step o p i cs h k =
+    rw (add-one i, drop-cons cs i (pos 0) h) (over_then o p 4 (of_z w32 (get_or cs i (pos 0))) (coord_bytes (drop (suc i) cs)) k)
+
+pub coords_end : (o : List ℕ) (p i : ℕ) (cs : List ℤ) → length cs ≤ i → overlaid o p (coord_bytes (drop i cs)) ≡ o
+unfolding coord_bytes
+coords_end o p i cs h = rw (drop_all i cs h) (over_nil o p)
+
+pub ruleset one_by_one = (coord_step, coords_end)
 
 -- ---- reading
 
@@ -117,11 +126,6 @@ place_step f i h =
 
 -- ---- ranges
 
--- a scope's ranges, and then its zero rule
-pub scope_rule : (p : Scope) → p.from ≤ 1 → p.snapshot ≤ most_claims → p.number ≤ most_number → scope_ok p ≡ eqb p.from 1 || (eqb p.distance 0 && eqb p.number 0)
-unfolding scope_ok
-scope_rule p a b c = rw (le-leb p.from 1 a, le-leb p.snapshot most_claims b, le-leb p.number most_number c)
-
 -- what a head of kind k is known for
 pub record HeadOk (k : ℕ) (f : List ℕ) : Type 0 where
   pub kind : num 1 f ≡ k
@@ -131,7 +135,7 @@ pub record HeadOk (k : ℕ) (f : List ℕ) : Type 0 where
 pub is_head : (k : ℕ) (f : List ℕ) → head_ok k f ≡ true → HeadOk k f
 unfolding head_ok
 is_head k f e =
-    let p = and_both (eqb (num 1 f) k) (in_range (num 1 (drop 5 f)) (num 1 (drop 6 f))) e in
+    let p = and_parts (eqb (num 1 f) k) (in_range (num 1 (drop 5 f)) (num 1 (drop 6 f))) e in
     record {
       kind = eqb-true (num 1 f) k p.0;
       test = p.1;
@@ -146,7 +150,7 @@ head_rule k m d f a b c e = rw (a, b, c, eq-eqb k k refl) e
 pub laid_is : (k n : ℕ) (f : List ℕ) → laid_out k n f ≡ true → (HeadOk k f) × (length f ≡ n + 4 * num 1 (drop 6 f))
 unfolding laid_out
 laid_is k n f e =
-    let p = and_both (head_ok k f) (eqb (length f) (n + 4 * num 1 (drop 6 f))) e in
+    let p = and_parts (head_ok k f) (eqb (length f) (n + 4 * num 1 (drop 6 f))) e in
     (is_head k f p.0, eqb-true (length f) (n + 4 * num 1 (drop 6 f)) p.1)
 
 -- head and length, and then what is tested behind them

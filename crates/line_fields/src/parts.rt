@@ -15,6 +15,7 @@ use paper::lines::Scope;
 use paper::queries::Query;
 
 // [5.4] The kind of a line: byte 0.
+#[tactic(auto, using(line_digits::proofs::LinesAndFrames::sound_byte))]
 pub fn kind(line: &[u8]) -> u64
     requires { is_line line.now ≡ true }
     ensures { result ≡ num 1 (frame_of line.now) }
@@ -47,32 +48,26 @@ pub fn d(line: &[u8]) -> usize
 }
 
 // [5.4] [8.10] Whether a line begins with a head of this kind, with measure and d in range.
+#[tactic(auto, unfolding(paper::specs::Lines::head_ok))]
 fn head_ok(line: &[u8], wanted: u8) -> bool
     requires { HasBytes line.now 7 }
     ensures { result ≡ head_ok wanted (frame_of line.now) }
 {
-    if kind(line) == wanted as u64 {
-        return in_range(measure(line), d(line));
-    }
-    false
+    kind(line) == wanted as u64 && in_range(measure(line), d(line))
 }
 
 // [8.10] Whether a line begins with a head of this kind, and has the length that its d tells: fixed + 4d bytes.
+#[tactic(auto, using(crate::proofs::PartLaws::laid_is), unfolding(crate::specs::Layout::laid_out))]
 pub fn layout_ok(line: &[u8], kind: u8, fixed: usize) -> bool
     requires { (is_line line.now ≡ true) × ((7 ≤ fixed) × (fixed < 65536)) }
     ensures { result ≡ laid_out kind fixed (frame_of line.now) }
 {
     let size = line_digits::size(line);
-    if size < fixed {
-        return false;
-    }
-    if head_ok(line, kind) {
-        return size == fixed + 4 * d(line);
-    }
-    false
+    fixed <= size && head_ok(line, kind) && size == fixed + 4 * d(line)
 }
 
 // [5.4] Writes a head: byte 0 kind, 1 to 4 table, 5 measure, 6 d.
+#[tactic(auto, using(crate::proofs::PartLaws::over_then), unfolding(paper::specs::Fields::head))]
 pub fn put_head(out: &mut [u8], kind: u8, table: u32, measure: u8, d: u8)
     requires { 14 ≤ length out.old }
     ensures { out.new ≡ overlaid out.old 0 (head kind table measure d) }
@@ -84,54 +79,42 @@ pub fn put_head(out: &mut [u8], kind: u8, table: u32, measure: u8, d: u8)
 }
 
 // [5.3] Writes coordinates from byte `at` on, four bytes for each.
+#[tactic(auto, using(crate::proofs::PartLaws::one_by_one))]
 pub fn put_coords(out: &mut [u8], at: usize, coords: &[i32])
     requires { 2 * (at + 4 * length coords.now) ≤ length out.old }
     ensures { out.new ≡ overlaid out.old at (coord_bytes coords.now) }
 {
-    let mut i = 0;
-    while i < coords.len() {
-        line_digits::put(out, at + 4 * i, 4, line_digits::pattern(coords[i]) as u64);
-        i += 1;
+    for (i, z) in coords.iter().enumerate() {
+        line_digits::put(out, at + 4 * i, 4, line_digits::pattern(*z) as u64);
     }
 }
 
 // [5.3] [5.14] The d coordinates from byte `at` on, four bytes for each, and 0 behind them.
+#[tactic(auto, using(line_digits::proofs::LinesAndFrames::frame_le), unfolding(paper::specs::Fields::in_slots, paper::specs::Fields::coords_in))]
 pub fn coords_at(line: &[u8], at: usize, d: usize) -> [i32; MOST_COORDINATES]
     requires { HasBytes line.now (at + 4 * d) × (d ≤ most_coordinates) }
     ensures { result ≡ in_slots d (coords_in d (drop at (frame_of line.now))) }
 {
-    let mut found = [0i32; MOST_COORDINATES];
-    let mut i = 0;
-    while i < d {
+    let mut found = [0; MOST_COORDINATES];
+    for i in 0..d {
         found[i] = line_digits::signed(line_digits::number(line, at + 4 * i, 4) as u32);
-        i += 1;
     }
     found
 }
 
 // [5.8] [5.9] [5.10] Whether a scope is in range, and its mark 0 at the start.
+#[tactic(auto, unfolding(paper::specs::Fields::scope_ok))]
 pub fn scope_ok(p: Scope) -> bool
     ensures { result ≡ scope_ok p }
 {
-    if 1 < p.from {
-        return false;
-    }
-    if Scope::MOST_SNAPSHOT < p.snapshot {
-        return false;
-    }
-    if Scope::MOST_NUMBER < p.number {
-        return false;
-    }
-    if p.from == 1 {
-        return true;
-    }
-    if p.distance == 0 {
-        return p.number == 0;
-    }
-    false
+    p.from <= 1
+        && p.snapshot <= Scope::MOST_SNAPSHOT
+        && p.number <= Scope::MOST_NUMBER
+        && (p.from == 1 || (p.distance == 0 && p.number == 0))
 }
 
 // [5.5] Writes the reach and the scope behind it.
+#[tactic(auto, using(crate::proofs::PartLaws::over_then), unfolding(paper::specs::Fields::scope_bytes))]
 fn put_scope(out: &mut [u8], at: usize, reach: u64, p: Scope)
     requires { 2 * (at + 21) ≤ length out.old }
     ensures { out.new ≡ overlaid out.old at (scope_bytes reach p) }
@@ -145,6 +128,7 @@ fn put_scope(out: &mut [u8], at: usize, reach: u64, p: Scope)
 
 // [5.5] The scope behind the reach, which has bytes `at` to at + 7: at + 8 from, at + 9 snapshot (2), at + 11 the mark's distance (8) and
 // at + 19 its number (2).
+#[tactic(auto, using(line_digits::proofs::LinesAndFrames::frame_le))]
 pub fn scope_at(line: &[u8], at: usize) -> Scope
     requires { HasBytes line.now (at + 21) }
     ensures { result ≡ scope_in (drop at (frame_of line.now)) }
@@ -158,13 +142,12 @@ pub fn scope_at(line: &[u8], at: usize) -> Scope
 }
 
 // [5.5] [5.6] Writes what an ask and an answer begin with: the head, the probe from byte 7, then reach (8) and scope (13), 28 + 4d in all.
+#[tactic(auto, using(crate::proofs::PartLaws::fronting), unfolding(paper::specs::Fields::front))]
 pub fn put_front(out: &mut [u8], kind: u8, q: Query, p: Scope)
     requires { (q.d ≤ most_coordinates) × (2 * (28 + 4 * q.d) ≤ length out.old) }
     ensures { out.new ≡ overlaid out.old 0 (Fields·front kind (query_in q) p) }
 {
-    let d = q.d;
-    let probe = q.probe;
-    put_head(out, kind, q.table, q.measure, d as u8);
-    put_coords(out, 7, &probe[..d]);
-    put_scope(out, 7 + 4 * d, q.reach, p);
+    put_head(out, kind, q.table, q.measure, q.d as u8);
+    put_coords(out, 7, &q.probe[..q.d]);
+    put_scope(out, 7 + 4 * q.d, q.reach, p);
 }

@@ -10,17 +10,17 @@ use paper::orders::Order;
 use paper::queries::Query;
 
 // [7.1] The query of these parts.
+#[tactic(auto, unfolding(paper::specs::Fields::query_in_slots))]
 pub fn query_of(order: Order, table: u32, measure: u8, d: usize, probe: &[i32], reach: u64) -> Query
     requires { (length probe.now ≡ d) × (d ≤ most_coordinates) }
     ensures { result ≡ query_in_slots (record { order = order; table = table; measure = measure; d = d; probe = probe.now; reach = reach }) }
 {
-    let slots = padded(probe);
     Query {
         order,
         table,
         measure,
         d,
-        probe: slots,
+        probe: padded(probe),
         reach,
     }
 }

@@ -8,13 +8,13 @@ use mathlib.Core.List.{List, [], ◌++◌, append-nil}
 use lib.ListN.{length, drop, take, replicate, length-drop, drop_of_length-le}
 use lib.Seq.{drop-drop, take_at}
 use borrow.Author.Tests.{eq-eqb}
+use Rattle.paper.specs.Outcomes.{gives}
 use Rattle.paper.specs.Frames.{be, num, line_of, frame_of, is_line}
 use Rattle.paper.specs.Orders.{Query, query_in}
 use Rattle.paper.specs.Fields.{front, query_in_slots, scope_in, item_bytes, item_numbers, item_slots}
-use Rattle.paper.specs.Lines.{answer_kind, answer_order, behind, query_at, answer_frame, answer_fits, count_in, answer_ok, is_answer, answer_at, an_answer, no_answer, read_as_answer}
+use Rattle.paper.specs.Lines.{answer_kind, answer_order, behind, query_at, answer_frame, answer_fits, count_in, answer_ok, is_answer, answer_at, read_as_answer}
 use Rattle.paper.specs.declared.lines.Scope.{Scope}
 use Rattle.paper.specs.declared.lines.Answer.{Answer}
-use Rattle.paper.specs.declared.lines.AnswerRead.{AnswerRead}
 use Rattle.paper.specs.declared.orders.Order.{Order}
 use Rattle.paper.proofs.LineKinds.{answer_small, answer_order_back}
 use Rattle.line_digits.proofs.NumbersAndFrames.{Bytes, bytes_drop, field_read, field_back}
@@ -22,7 +22,7 @@ use Rattle.line_digits.proofs.LinesAndFrames.{bytes_frame, frame_line, sound_lin
 use Rattle.line_fields.proofs.PartLaws.{head_rule}
 use Rattle.line_fields.proofs.ItemLaws.{Distances, items_fitting, items_read, items_back, length_items_in, references_in}
 use Rattle.line_fields.proofs.Round.{QueryFit, ScopeFit, Fronts, front_read, front_back}
-use Rattle.lines.proofs.WritersReaders.{reads, accepted}
+use Rattle.lines.proofs.WritersReaders.{reads, accepted, holds}
 use Rattle.lines.proofs.QueryTests.{read_fits, last_at}
 use Rattle.lines.proofs.AnswerTests.{items_from, length_answer, bytes_answer, answer_fits_lem, is_answer_lem}
 use Rattle.paper.specs.Limits.{item_room}
@@ -89,13 +89,13 @@ module _ (q : Query) (p : Scope) (last n : ℕ) (ns : List ℕ) (fit : answer_fi
   unfolding answer_at
   frame_at = rw (order_read, begins.query, begins.scope, last_read.0, count_read.0, count_read.1, items_in_lem)
 
-  pub answer_reads_back : read_as_answer (line_of frame) ≡ an_answer (record { query = query_in_slots q; scope = p; last = last; count = n; items = item_slots n ns })
+  pub answer_reads_back : read_as_answer (line_of frame) ≡ gives (record { query = query_in_slots q; scope = p; last = last; count = n; items = item_slots n ns })
   unfolding read_as_answer
   answer_reads_back =
       let w = answer_fits_lem q p last n ns fit in
       let l = length_answer q p last n ns w.count in
       let b = frame_line frame (bytes_answer q p last n ns) in
-      reads is_answer (λ f. an_answer (answer_at f)) no_answer (line_of frame) (sound_line frame (bytes_answer q p last n ns) (omega arith) (omega arith)) (rw b frame_is)
+      reads is_answer answer_at (line_of frame) (sound_line frame (bytes_answer q p last n ns) (omega arith) (omega arith)) (rw b frame_is)
       ∙ rw (b, frame_at)
 
 -- ---- what is read was written
@@ -158,8 +158,8 @@ answer_back l s e =
     let i = take_items (count_in f) (drop 23 (behind f)) in
     record { fits = rw i (fits_back o f (bytes_frame l) e); line = rw i (ap line_of (frame_back o f (bytes_frame l) e) ∙ line_of_sound l s) }
 
-pub answer_writes_back : (l : List ℕ) → (read_as_answer l).refusal ≡ 0 → AnswerBack l (read_as_answer l).answer
+pub answer_writes_back : (l : List ℕ) (x : Answer) → read_as_answer l ≡ gives x → AnswerBack l x
 unfolding read_as_answer
-answer_writes_back l e =
-    let p = accepted is_answer (λ f. an_answer (answer_at f)) no_answer (λ (x : AnswerRead). x.refusal) l (unfold no_answer in λ n. refl) e in
-    subst (λ (x : AnswerRead). AnswerBack l x.answer) (sym (reads is_answer (λ f. an_answer (answer_at f)) no_answer l p.0 p.1)) (unfold an_answer in answer_back l p.0 p.1)
+answer_writes_back l x e =
+    let p = accepted is_answer answer_at l x e in
+    subst (AnswerBack l) (sym (holds is_answer answer_at l x e).1) (answer_back l p.0 p.1)

@@ -8,13 +8,14 @@ use lib.ListN.{length, drop, length-append}
 use lib.Seq.{drop-drop}
 use lib.Dec.{leb, eqb}
 use borrow.Author.Tests.{leb-true, eqb-true}
+use Rattle.paper.specs.Outcomes.{refused, gives}
 use Rattle.paper.specs.Frames.{be, num, frame_of, is_line}
 use Rattle.paper.specs.Fields.{front, scope_in, scope_ok, item_bytes, item_numbers, item_slots, numbers_ok, references_ok}
 use Rattle.paper.specs.Orders.{Query}
-use Rattle.paper.specs.Lines.{answer_kind, answer_order, head_ok, behind, query_at, query_fits, answer_frame, answer_ranges, answer_fits, count_in, answer_ok, is_answer, answer_at, an_answer, no_answer, read_as_answer}
+use Rattle.paper.specs.Lines.{answer_kind, answer_order, head_ok, behind, query_at, query_fits, answer_frame, answer_ranges, answer_fits, count_in, answer_ok, is_answer, answer_at, read_as_answer}
 use Rattle.paper.specs.declared.lines.Scope.{Scope}
 use Rattle.paper.specs.declared.queries.Query as queries
-use Rattle.line_digits.proofs.LinesAndFrames.{and_both}
+use Rattle.std.proofs.lemmas.Bool.{and_parts}
 use Rattle.line_digits.proofs.NumbersAndFrames.{Bytes, bytes_append, bytes_be, length_be}
 use Rattle.line_digits.specs.FrameBytes.{HasBytes}
 use Rattle.line_fields.specs.Layout.{laid_out}
@@ -55,8 +56,8 @@ pub record AnswerFits (q : Query) (p : Scope) (last n : ℕ) (ns : List ℕ) : T
 pub few_items : (p : Scope) (last n : ℕ) → answer_ranges p last n ≡ true → (last ≤ 1) × (n ≤ most_page)
 unfolding answer_ranges
 few_items p last n e =
-    let a = and_both (scope_ok p) (leb last 1 && leb n most_page) e in
-    let b = and_both (leb last 1) (leb n most_page) a.1 in
+    let a = and_parts (scope_ok p) (leb last 1 && leb n most_page) e in
+    let b = and_parts (leb last 1) (leb n most_page) a.1 in
     (leb-true last 1 b.0, leb-true n most_page b.1)
 
 pub answer_fits_lem : (q : Query) (p : Scope) (last n : ℕ) (ns : List ℕ) → answer_fits q p last n ns ≡ true → AnswerFits q p last n ns
@@ -64,10 +65,10 @@ unfolding answer_fits
 answer_fits_lem q p last n ns e =
     let t5 = references_ok ns && numbers_ok ns in
     let t4 = eqb (length ns) (3 * n) && t5 in
-    let a = and_both (query_fits q) (answer_ranges p last n && t4) e in
-    let r = and_both (answer_ranges p last n) t4 a.1 in
-    let s = and_both (eqb (length ns) (3 * n)) t5 r.1 in
-    let u = and_both (references_ok ns) (numbers_ok ns) s.1 in
+    let a = and_parts (query_fits q) (answer_ranges p last n && t4) e in
+    let r = and_parts (answer_ranges p last n) t4 a.1 in
+    let s = and_parts (eqb (length ns) (3 * n)) t5 r.1 in
+    let u = and_parts (references_ok ns) (numbers_ok ns) s.1 in
     let w = few_items p last n r.0 in
     record {
       query = query_fits_lem q a.0;
@@ -93,9 +94,9 @@ is_answer_lem k f e =
     let numbers = numbers_ok (item_numbers (count_in f) (drop 23 (behind f))) in
     let ranges = answer_ranges (scope_in (behind f)) (num 1 (drop 21 (behind f))) (count_in f) in
     let size = eqb (length f) (30 + 4 * num 1 (drop 6 f) + 14 * count_in f) in
-    let p = and_both (head_ok k f) (size && (ranges && numbers)) e in
-    let q = and_both size (ranges && numbers) p.1 in
-    let r = and_both ranges numbers q.1 in
+    let p = and_parts (head_ok k f) (size && (ranges && numbers)) e in
+    let q = and_parts size (ranges && numbers) p.1 in
+    let r = and_parts ranges numbers q.1 in
     record {
       headed = is_head k f p.0;
       size = eqb-true (length f) (30 + 4 * num 1 (drop 6 f) + 14 * count_in f) q.0;
@@ -134,9 +135,9 @@ answer_rule k f =
 
 -- the ways through the reader of a sound line
 module _ (l : List ℕ) (s : is_line l ≡ true) (b : Bool) (be : b ≡ laid_out (answer_kind (answer_order (num 1 (frame_of l)))) (30 + 14 * count_in (frame_of l)) (frame_of l)) where
-  pub unlaid_answer : b ≡ false → no_answer 10 ≡ read_as_answer l
+  pub unlaid_answer : b ≡ false → refused 10 ≡ read_as_answer l
   unfolding read_as_answer is_answer
-  unlaid_answer h = sym (reads_10 is_answer (λ f. an_answer (answer_at f)) no_answer l s (answer_rule _ (frame_of l) ∙ rw (sym be ∙ h)))
+  unlaid_answer h = sym (reads_10 is_answer answer_at l s (answer_rule _ (frame_of l) ∙ rw (sym be ∙ h)))
 
   module _ (h : b ≡ true) (d : ℕ) (de : d ≡ num 1 (drop 6 (frame_of l))) (at : ℕ) (ate : at ≡ 28 + 4 * d) (n : ℕ) (ne : n ≡ num 1 (drop (at + 1) (frame_of l))) where
     place : at ≡ 28 + 4 * num 1 (drop 6 (frame_of l))
@@ -157,21 +158,21 @@ module _ (l : List ℕ) (s : is_line l ≡ true) (b : Bool) (be : b ≡ laid_out
       unfolding is_answer
       tested = answer_rule _ (frame_of l) ∙ rw (sym be ∙ h, te, pe, le, counted, reach_at, last_at (frame_of l) at place, items_from (frame_of l) at place)
 
-      pub answer_out_lem : t ≡ false → no_answer 10 ≡ read_as_answer l
+      pub answer_out_lem : t ≡ false → refused 10 ≡ read_as_answer l
       unfolding read_as_answer
-      answer_out_lem q = sym (reads_10 is_answer (λ f. an_answer (answer_at f)) no_answer l s (tested ∙ rw q))
+      answer_out_lem q = sym (reads_10 is_answer answer_at l s (tested ∙ rw q))
 
       module _ (v : t ≡ true) (u : Bool) (ue : u ≡ numbers_ok (item_numbers n (drop (at + 2) (frame_of l)))) where
         numbered : is_answer (frame_of l) ≡ u
         numbered = tested ∙ rw (v, ue)
 
-        pub items_out : u ≡ false → no_answer 10 ≡ read_as_answer l
+        pub items_out : u ≡ false → refused 10 ≡ read_as_answer l
         unfolding read_as_answer
-        items_out z = sym (reads_10 is_answer (λ f. an_answer (answer_at f)) no_answer l s (numbered ∙ z))
+        items_out z = sym (reads_10 is_answer answer_at l s (numbered ∙ z))
 
         pub answer_read_lem : u ≡ true → (x : queries.Query) → x ≡ query_at (answer_order (num 1 (frame_of l))) (frame_of l) → (ns : List ℕ) → ns ≡ item_slots n (item_numbers n (drop (at + 2) (frame_of l)))
-            → record { refusal = 0; answer = record { last = last; count = n; scope = p; query = x; items = ns } } ≡ read_as_answer l
-        unfolding read_as_answer an_answer
+            → gives (record { last = last; count = n; scope = p; query = x; items = ns }) ≡ read_as_answer l
+        unfolding read_as_answer
         answer_read_lem z x xe ns q =
-            sym (reads is_answer (λ f. an_answer (answer_at f)) no_answer l s (numbered ∙ z)
+            sym (reads is_answer answer_at l s (numbered ∙ z)
             ∙ (unfold answer_at in rw (xe, q, pe, le, counted, reach_at, last_at (frame_of l) at place, items_from (frame_of l) at place)))

@@ -7,20 +7,20 @@ use mathlib.Core.Bool.{true}
 use mathlib.Core.List.{List, [], ◌++◌, append-nil}
 use lib.ListN.{length, drop, length-drop}
 use borrow.Author.Tests.{eq-eqb}
+use Rattle.paper.specs.Outcomes.{gives}
 use Rattle.paper.specs.Frames.{be, num, line_of, frame_of, is_line}
 use Rattle.paper.specs.Orders.{Query, query_in}
 use Rattle.paper.specs.Fields.{front, query_in_slots, scope_in}
-use Rattle.paper.specs.Lines.{ask_kind, ask_order, behind, query_at, ask_frame, ask_fits, ask_ok, is_ask, ask_at, an_ask, no_ask, read_as_ask}
+use Rattle.paper.specs.Lines.{ask_kind, ask_order, behind, query_at, ask_frame, ask_fits, ask_ok, is_ask, ask_at, read_as_ask}
 use Rattle.paper.specs.declared.lines.Scope.{Scope}
 use Rattle.paper.specs.declared.lines.Ask.{Ask}
-use Rattle.paper.specs.declared.lines.AskRead.{AskRead}
 use Rattle.paper.specs.declared.orders.Order.{Order}
 use Rattle.paper.proofs.LineKinds.{ask_small, ask_order_back}
 use Rattle.line_digits.proofs.NumbersAndFrames.{Bytes, bytes_drop, field_read}
 use Rattle.line_digits.proofs.LinesAndFrames.{bytes_frame, frame_line, sound_line, line_of_sound}
 use Rattle.line_fields.proofs.PartLaws.{head_rule}
 use Rattle.line_fields.proofs.Round.{QueryFit, ScopeFit, Fronts, front_read, front_back, last_field}
-use Rattle.lines.proofs.WritersReaders.{reads, accepted}
+use Rattle.lines.proofs.WritersReaders.{reads, accepted, holds}
 use Rattle.lines.proofs.QueryTests.{read_fits, last_at}
 use Rattle.lines.proofs.AskTests.{page_size, length_ask, bytes_ask, ask_fits_lem, is_ask_lem}
 
@@ -59,14 +59,14 @@ module _ (q : Query) (p : Scope) (s : ℕ) (fit : ask_fits q p s ≡ true) (hq :
   unfolding ask_at
   frame_at = rw (order_read, begins.query, begins.scope, size_read)
 
-  pub ask_reads_back : read_as_ask (line_of (ask_frame q p s)) ≡ an_ask (record { query = query_in_slots q; scope = p; size = s })
+  pub ask_reads_back : read_as_ask (line_of (ask_frame q p s)) ≡ gives (record { query = query_in_slots q; scope = p; size = s })
   unfolding read_as_ask
   ask_reads_back =
       let w = ask_fits_lem q p s fit in
       let f = ask_frame q p s in
       let l = length_ask q p s in
       let b = frame_line f (bytes_ask q p s) in
-      reads is_ask (λ f. an_ask (ask_at f)) no_ask (line_of f) (sound_line f (bytes_ask q p s) (omega arith) (omega arith)) (rw b frame_is)
+      reads is_ask ask_at (line_of f) (sound_line f (bytes_ask q p s) (omega arith) (omega arith)) (rw b frame_is)
       ∙ rw (b, frame_at)
 
 -- ---- what is read was written
@@ -106,8 +106,8 @@ ask_back l s e =
     let o = ask_order (num 1 (frame_of l)) in
     record { fits = fits_back o (frame_of l) e; line = ap line_of (frame_back o (frame_of l) e (bytes_frame l)) ∙ line_of_sound l s }
 
-pub ask_writes_back : (l : List ℕ) → (read_as_ask l).refusal ≡ 0 → AskBack l (read_as_ask l).ask
+pub ask_writes_back : (l : List ℕ) (x : Ask) → read_as_ask l ≡ gives x → AskBack l x
 unfolding read_as_ask
-ask_writes_back l e =
-    let p = accepted is_ask (λ f. an_ask (ask_at f)) no_ask (λ (x : AskRead). x.refusal) l (unfold no_ask in λ n. refl) e in
-    subst (λ (x : AskRead). AskBack l x.ask) (sym (reads is_ask (λ f. an_ask (ask_at f)) no_ask l p.0 p.1)) (unfold an_ask in ask_back l p.0 p.1)
+ask_writes_back l x e =
+    let p = accepted is_ask ask_at l x e in
+    subst (AskBack l) (sym (holds is_ask ask_at l x e).1) (ask_back l p.0 p.1)

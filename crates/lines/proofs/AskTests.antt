@@ -8,14 +8,16 @@ use lib.ListN.{length, drop, length-append}
 use lib.Seq.{drop-drop}
 use lib.Dec.{leb, eqb}
 use borrow.Author.Tests.{leb-true, eqb-true, eq-eqb, ne_eqb}
+use Rattle.paper.specs.Outcomes.{refused, gives}
 use Rattle.paper.specs.Frames.{be, num, frame_of, is_line}
 use Rattle.paper.specs.Ends.{size_holds}
 use Rattle.paper.specs.Fields.{front, scope_in, scope_ok}
 use Rattle.paper.specs.Orders.{Query}
-use Rattle.paper.specs.Lines.{ask_kind, ask_order, head_ok, behind, query_at, query_fits, ask_frame, ask_ranges, ask_fits, ask_ok, is_ask, ask_at, an_ask, no_ask, read_as_ask}
+use Rattle.paper.specs.Lines.{ask_kind, ask_order, head_ok, behind, query_at, query_fits, ask_frame, ask_ranges, ask_fits, ask_ok, is_ask, ask_at, read_as_ask}
 use Rattle.paper.specs.declared.lines.Scope.{Scope}
 use Rattle.paper.specs.declared.queries.Query as queries
-use Rattle.line_digits.proofs.LinesAndFrames.{and-false, and_both}
+use Rattle.std.proofs.lemmas.Bool.{and_parts}
+use Rattle.std.proofs.Math.Bool.{and-false}
 use Rattle.line_digits.proofs.NumbersAndFrames.{Bytes, bytes_append, bytes_be, length_be}
 use Rattle.line_fields.specs.Layout.{laid_out}
 use Rattle.line_fields.proofs.PartLaws.{HeadOk, is_head, laid_then, length_front, bytes_front}
@@ -39,9 +41,9 @@ bytes_ask q p s = bytes_append (front (ask_kind q.order) q p) (be 1 s) (bytes_fr
 pub page_size : (p : Scope) (s : ℕ) → ask_ranges p s ≡ true → s ≤ most_page
 unfolding ask_ranges
 page_size p s e =
-    let a = and_both (scope_ok p) ((eqb p.from 1 || eqb p.snapshot 0) && (leb 1 s && leb s most_page)) e in
-    let b = and_both (eqb p.from 1 || eqb p.snapshot 0) (leb 1 s && leb s most_page) a.1 in
-    leb-true s most_page (and_both (leb 1 s) (leb s most_page) b.1).1
+    let a = and_parts (scope_ok p) ((eqb p.from 1 || eqb p.snapshot 0) && (leb 1 s && leb s most_page)) e in
+    let b = and_parts (eqb p.from 1 || eqb p.snapshot 0) (leb 1 s && leb s most_page) a.1 in
+    leb-true s most_page (and_parts (leb 1 s) (leb s most_page) b.1).1
 
 -- what the writer's test says
 pub record AskFits (q : Query) (p : Scope) (s : ℕ) : Type 0 where
@@ -50,7 +52,7 @@ pub record AskFits (q : Query) (p : Scope) (s : ℕ) : Type 0 where
 
 pub ask_fits_lem : (q : Query) (p : Scope) (s : ℕ) → ask_fits q p s ≡ true → AskFits q p s
 unfolding ask_fits
-ask_fits_lem q p s e = let a = and_both (query_fits q) (ask_ranges p s) e in record { query = query_fits_lem q a.0; rest = a.1 }
+ask_fits_lem q p s e = let a = and_parts (query_fits q) (ask_ranges p s) e in record { query = query_fits_lem q a.0; rest = a.1 }
 
 -- what the reader's test says
 pub record AskOk (k : ℕ) (f : List ℕ) : Type 0 where
@@ -63,8 +65,8 @@ unfolding ask_ok
 is_ask_lem k f e =
     let last = ask_ranges (scope_in (behind f)) (num 1 (drop 21 (behind f))) in
     let size = eqb (length f) (29 + 4 * num 1 (drop 6 f)) in
-    let p = and_both (head_ok k f) (size && last) e in
-    let q = and_both size last p.1 in
+    let p = and_parts (head_ok k f) (size && last) e in
+    let q = and_parts size last p.1 in
     record { headed = is_head k f p.0; size = eqb-true (length f) (29 + 4 * num 1 (drop 6 f)) q.0; rest = q.1 }
 
 pub any_ask : (f : List ℕ) → is_ask f ≡ true → AskOk (ask_kind (ask_order (num 1 f))) f
@@ -102,9 +104,9 @@ ask_rule k f = laid_then k 29 f (ask_ranges (scope_in (behind f)) (num 1 (drop 2
 
 -- the ways through the reader of a sound line
 module _ (l : List ℕ) (s : is_line l ≡ true) (b : Bool) (be : b ≡ laid_out (ask_kind (ask_order (num 1 (frame_of l)))) 29 (frame_of l)) where
-  pub unlaid_ask : b ≡ false → no_ask 10 ≡ read_as_ask l
+  pub unlaid_ask : b ≡ false → refused 10 ≡ read_as_ask l
   unfolding read_as_ask is_ask
-  unlaid_ask h = sym (reads_10 is_ask (λ f. an_ask (ask_at f)) no_ask l s (ask_rule _ (frame_of l) ∙ rw (sym be ∙ h)))
+  unlaid_ask h = sym (reads_10 is_ask ask_at l s (ask_rule _ (frame_of l) ∙ rw (sym be ∙ h)))
 
   module _ (h : b ≡ true) (d : ℕ) (de : d ≡ num 1 (drop 6 (frame_of l))) (at : ℕ) (ate : at ≡ 7 + 4 * d) (p : Scope) (pe : p ≡ scope_in (drop at (frame_of l)))
       (n : ℕ) (ne : n ≡ num 1 (drop (at + 21) (frame_of l))) (t : Bool) (te : t ≡ ask_ranges p n) where
@@ -118,11 +120,11 @@ module _ (l : List ℕ) (s : is_line l ≡ true) (b : Bool) (be : b ≡ laid_out
     unfolding is_ask
     ranged = ask_rule _ (frame_of l) ∙ rw (sym be ∙ h, te, pe, ne, reach_at, size_at)
 
-    pub ask_out_lem : t ≡ false → no_ask 10 ≡ read_as_ask l
+    pub ask_out_lem : t ≡ false → refused 10 ≡ read_as_ask l
     unfolding read_as_ask
-    ask_out_lem q = sym (reads_10 is_ask (λ f. an_ask (ask_at f)) no_ask l s (ranged ∙ q))
+    ask_out_lem q = sym (reads_10 is_ask ask_at l s (ranged ∙ q))
 
     pub ask_read_lem : t ≡ true → (x : queries.Query) → x ≡ query_at (ask_order (num 1 (frame_of l))) (frame_of l)
-        → record { refusal = 0; ask = record { query = x; scope = p; size = n } } ≡ read_as_ask l
-    unfolding read_as_ask an_ask
-    ask_read_lem q x xe = sym (reads is_ask (λ f. an_ask (ask_at f)) no_ask l s (ranged ∙ q) ∙ (unfold ask_at in rw (xe, pe, ne, reach_at, size_at)))
+        → gives (record { query = x; scope = p; size = n }) ≡ read_as_ask l
+    unfolding read_as_ask
+    ask_read_lem q x xe = sym (reads is_ask ask_at l s (ranged ∙ q) ∙ (unfold ask_at in rw (xe, pe, ne, reach_at, size_at)))

@@ -8,16 +8,16 @@ use mathlib.Core.List.{List, [], ◌++◌, append-nil}
 use lib.ListN.{length, drop, take, length-drop, drop_of_length-le}
 use lib.IntN.{ℤ}
 use borrow.Author.Tests.{eq-eqb}
+use Rattle.paper.specs.Outcomes.{gives}
 use Rattle.paper.specs.Frames.{be, num, line_of, frame_of, is_line}
 use Rattle.paper.specs.Fields.{head, coord_bytes, coords_in, in_slots}
-use Rattle.paper.specs.Lines.{claim_frame, claim_fits, claim_ok, claim_at, a_claim, no_claim, read_as_claim}
+use Rattle.paper.specs.Lines.{claim_frame, claim_fits, claim_ok, claim_at, read_as_claim}
 use Rattle.paper.specs.declared.lines.ClaimLine.{ClaimLine}
-use Rattle.paper.specs.declared.lines.ClaimRead.{ClaimRead}
 use Rattle.line_digits.proofs.NumbersAndFrames.{Bytes, bytes_drop, field_read, field_back}
 use Rattle.line_digits.proofs.LinesAndFrames.{bytes_frame, frame_line, sound_line, line_of_sound}
 use Rattle.line_fields.proofs.PartLaws.{length_coords_in, head_rule}
 use Rattle.line_fields.proofs.Round.{Signed32, Heads, head_read, head_back, coords_read, coords_back, take_slots}
-use Rattle.lines.proofs.WritersReaders.{reads, accepted}
+use Rattle.lines.proofs.WritersReaders.{reads, accepted, holds}
 use Rattle.lines.proofs.ClaimTests.{length_claim, bytes_claim, claim_fits_lem, is_claim}
 
 -- ---- what is written is read
@@ -46,14 +46,14 @@ module _ (t m d r : ℕ) (cs : List ℤ) (fit : claim_fits m d cs ≡ true) (ht 
       let e : coords_in d (coord_bytes cs) ≡ cs = rw (← q.count) (ap (coords_in (length cs)) (sym (append-nil (coord_bytes cs))) ∙ coords_read cs [] hc) in
       rw (begins.table, begins.measure, begins.dim, reference.0, reference.1, e)
 
-  pub claim_reads_back : read_as_claim (line_of (claim_frame t m d r cs)) ≡ a_claim (record { table = t; measure = m; d = d; reference = r; coordinates = in_slots d cs })
+  pub claim_reads_back : read_as_claim (line_of (claim_frame t m d r cs)) ≡ gives (record { table = t; measure = m; d = d; reference = r; coordinates = in_slots d cs })
   unfolding read_as_claim
   claim_reads_back =
       let q = claim_fits_lem m d cs fit in
       let f = claim_frame t m d r cs in
       let l = length_claim t m d r cs in
       let b = frame_line f (bytes_claim t m d r cs) in
-      reads claim_ok (λ f. a_claim (claim_at f)) no_claim (line_of f) (sound_line f (bytes_claim t m d r cs) (omega arith) (omega arith)) (rw b frame_ok)
+      reads claim_ok claim_at (line_of f) (sound_line f (bytes_claim t m d r cs) (omega arith) (omega arith)) (rw b frame_ok)
       ∙ rw (b, frame_at)
 
 -- ---- what is read was written
@@ -86,8 +86,8 @@ claim_back l s e =
     let q = take_slots (num 1 (drop 6 f)) (drop 11 f) in
     record { fits = rw q (fits_back f e); line = rw q (ap line_of (frame_back f (bytes_frame l) e) ∙ line_of_sound l s) }
 
-pub claim_writes_back : (l : List ℕ) → (read_as_claim l).refusal ≡ 0 → ClaimBack l (read_as_claim l).claim
+pub claim_writes_back : (l : List ℕ) (x : ClaimLine) → read_as_claim l ≡ gives x → ClaimBack l x
 unfolding read_as_claim
-claim_writes_back l e =
-    let p = accepted claim_ok (λ f. a_claim (claim_at f)) no_claim (λ (x : ClaimRead). x.refusal) l (unfold no_claim in λ n. refl) e in
-    subst (λ (x : ClaimRead). ClaimBack l x.claim) (sym (reads claim_ok (λ f. a_claim (claim_at f)) no_claim l p.0 p.1)) (unfold a_claim in claim_back l p.0 p.1)
+claim_writes_back l x e =
+    let p = accepted claim_ok claim_at l x e in
+    subst (ClaimBack l) (sym (holds claim_ok claim_at l x e).1) (claim_back l p.0 p.1)

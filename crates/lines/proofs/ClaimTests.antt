@@ -8,13 +8,14 @@ use lib.ListN.{length, drop, length-append}
 use lib.Dec.{eqb}
 use lib.IntN.{ℤ}
 use borrow.Author.Tests.{eqb-true}
+use Rattle.paper.specs.Outcomes.{refused, gives}
 use Rattle.paper.specs.Frames.{be, num, frame_of, is_line}
 use Rattle.paper.specs.Points.{in_range, InRange}
 use Rattle.paper.proofs.Ranges.{range_is}
 use Rattle.paper.specs.Fields.{head, coord_bytes}
-use Rattle.paper.specs.Lines.{head_ok, claim_kind, claim_frame, claim_fits, claim_ok, claim_at, a_claim, no_claim, read_as_claim}
+use Rattle.paper.specs.Lines.{head_ok, claim_kind, claim_frame, claim_fits, claim_ok, claim_at, read_as_claim}
 use Rattle.paper.specs.declared.lines.ClaimLine.{ClaimLine}
-use Rattle.line_digits.proofs.LinesAndFrames.{and_both}
+use Rattle.std.proofs.lemmas.Bool.{and_parts}
 use Rattle.line_digits.proofs.NumbersAndFrames.{Bytes, bytes_append, bytes_be, length_be}
 use Rattle.line_fields.specs.Layout.{laid_out}
 use Rattle.line_fields.proofs.PartLaws.{HeadOk, is_head, length_head, bytes_head, length_coord_bytes, bytes_coord_bytes}
@@ -39,7 +40,7 @@ pub record ClaimFits (m d : ℕ) (cs : List ℤ) : Type 0 where
 pub claim_fits_lem : (m d : ℕ) (cs : List ℤ) → claim_fits m d cs ≡ true → ClaimFits m d cs
 unfolding claim_fits
 claim_fits_lem m d cs e =
-    let a = and_both (in_range m d) (eqb (length cs) d) e in
+    let a = and_parts (in_range m d) (eqb (length cs) d) e in
     record { test = a.0; range = range_is m d a.0; count = eqb-true (length cs) d a.1 }
 
 -- what the reader's test says
@@ -50,7 +51,7 @@ pub record ClaimOk (f : List ℕ) : Type 0 where
 pub is_claim : (f : List ℕ) → claim_ok f ≡ true → ClaimOk f
 unfolding claim_ok
 is_claim f e =
-    let p = and_both (head_ok 3 f) (eqb (length f) (11 + 4 * num 1 (drop 6 f))) e in
+    let p = and_parts (head_ok 3 f) (eqb (length f) (11 + 4 * num 1 (drop 6 f))) e in
     record { headed = is_head 3 f p.0; size = eqb-true (length f) (11 + 4 * num 1 (drop 6 f)) p.1 }
 
 -- the ways through the reader of a sound line: a claim is tested by its layout alone
@@ -59,10 +60,10 @@ module _ (l : List ℕ) (s : is_line l ≡ true) (b : Bool) (be : b ≡ laid_out
   unfolding claim_ok laid_out
   layout = sym be
 
-  pub unlaid_claim : b ≡ false → no_claim 10 ≡ read_as_claim l
+  pub unlaid_claim : b ≡ false → refused 10 ≡ read_as_claim l
   unfolding read_as_claim
-  unlaid_claim h = sym (reads_10 claim_ok (λ f. a_claim (claim_at f)) no_claim l s (layout ∙ h))
+  unlaid_claim h = sym (reads_10 claim_ok claim_at l s (layout ∙ h))
 
-  pub claim_read_lem : b ≡ true → (c : ClaimLine) → c ≡ claim_at (frame_of l) → record { refusal = 0; claim = c } ≡ read_as_claim l
-  unfolding read_as_claim a_claim
-  claim_read_lem h c e = ap a_claim e ∙ sym (reads claim_ok (λ f. a_claim (claim_at f)) no_claim l s (layout ∙ h))
+  pub claim_read_lem : b ≡ true → (c : ClaimLine) → c ≡ claim_at (frame_of l) → gives c ≡ read_as_claim l
+  unfolding read_as_claim
+  claim_read_lem h c e = ap (λ (x : ClaimLine). gives x) e ∙ sym (reads claim_ok claim_at l s (layout ∙ h))

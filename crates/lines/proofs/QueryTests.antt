@@ -16,7 +16,7 @@ use Rattle.paper.specs.Orders.{Query, query_in}
 use Rattle.paper.specs.Fields.{in_slots, coords_in}
 use Rattle.paper.specs.Lines.{behind, query_at, query_fits}
 use Rattle.paper.specs.declared.orders.Order.{Order}
-use Rattle.line_digits.proofs.LinesAndFrames.{and_both}
+use Rattle.std.proofs.lemmas.Bool.{and_parts}
 use Rattle.line_fields.proofs.PartLaws.{length_coords_in}
 use Rattle.line_fields.proofs.Round.{take_slots, behind_eq}
 
@@ -33,7 +33,7 @@ pub record QueryFits (q : Query) : Type 0 where
 pub query_fits_lem : (q : Query) → query_fits q ≡ true → QueryFits q
 unfolding query_fits
 query_fits_lem q e =
-    let b = and_both (in_range q.measure q.d) (eqb (length q.probe) q.d) e in
+    let b = and_parts (in_range q.measure q.d) (eqb (length q.probe) q.d) e in
     record { test = b.0; range = range_is q.measure q.d b.0; count = eqb-true (length q.probe) q.d b.1 }
 
 -- a query that was read fits

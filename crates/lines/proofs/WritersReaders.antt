@@ -2,18 +2,17 @@
 use Prim.Native.Nat.{ℕ, suc, ◌+◌, ◌*◌, ◌≤◌, ◌<◌}
 use native.Mathlib.Omega.{arith}
 use mathlib.Core.Path.{◌≡◌, refl, sym, ap, ◌∙◌}
-use mathlib.Core.Bool.{Bool, true, false, cond}
+use mathlib.Core.Bool.{Bool, true, false}
 use mathlib.Core.List.{List, [], ◌∷◌, ◌++◌, append_assoc}
 use lib.ListN.{length, get_or, take, drop, set}
 use lib.Seq.{drop-cons, set_at, take_at}
 use lib.Dec.{leb}
 use borrow.Author.Tests.{le-leb, lt-leb}
 use Rattle.paper.specs.Frames.{hexes, line_of, frame_of, is_line, written}
-use Rattle.paper.specs.Outcomes.{Outcome, refused, gives}
+use Rattle.paper.specs.Outcomes.{Outcome, refused, gives, must}
 use Rattle.paper.specs.Lines.{wrote_shown, put_line, Writes, bare_line, reading}
-use Rattle.paper.proofs.Outcomes.{must_go, must_stop, promise_refused, promise_given}
+use Rattle.paper.proofs.Outcomes.{must_go, must_stop, must_test, must_rest, same_given, given_refused, promise_refused, promise_given}
 use Rattle.paper.proofs.Tests.{refuted}
-use Rattle.paper.specs.declared.lines.Wrote.TheVariants.{Line, Refused}
 use Rattle.line_digits.specs.FrameBytes.{overlaid}
 use Rattle.line_digits.proofs.WritingOver.{over_eq}
 use Rattle.line_digits.proofs.LinesAndFrames.{length_hexes, length_line}
@@ -35,27 +34,26 @@ finish o f n e h =
     (set_at (hexes f) (get_or o n 0) (drop (suc n) o) 10 n (length_hexes f ∙ sym e) ∙ sym (append_assoc (hexes f) (10 ∷ []) (drop (suc n) o)))
 
 -- a refusal, whatever call gives it
-pub writes_refused : (o : Outcome (List ℕ)) (n : ℕ) (before : List ℕ) → o ≡ refused n → Writes o before (Refused n) before
-unfolding wrote_shown
-writes_refused o n before e = promise_refused wrote_shown put_line o before n (Refused n) e refl
+pub writes_refused : (o : Outcome (List ℕ)) (n : ℕ) (before : List ℕ) → o ≡ refused n → Writes o before (refused n) before
+writes_refused o n before e = promise_refused wrote_shown put_line o before n (refused n) e refl
 
 -- a line that was written
 pub writes_line : (o : Outcome (List ℕ)) (line : List ℕ) (n : ℕ) (before after : List ℕ) → o ≡ gives line → n ≡ length line
-    → after ≡ put_line line before → Writes o before (Line n) after
-unfolding wrote_shown
-writes_line o line n before after e q m = promise_given wrote_shown put_line o before line (Line n) after e (ap Line q) m
+    → after ≡ put_line line before → Writes o before (gives n) after
+writes_line o line n before after e q m =
+    promise_given wrote_shown put_line o before line (gives n) after e (ap (λ (k : ℕ). gives k) q) m
 
 module _ (b : Bool) (need : ℕ) (f o : List ℕ) where
   pub wrote_line : (r : ℕ) (x : List ℕ) → b ≡ true → need ≤ length o → r ≡ length (line_of f) → x ≡ written f o
-      → Writes (bare_line b need f (length o)) o (Line r) x
+      → Writes (bare_line b need f (length o)) o (gives r) x
   unfolding bare_line written
   wrote_line r x e h p q = writes_line _ (line_of f) r o x (must_go b 10 _ e ∙ must_go (leb need (length o)) 12 _ (le-leb need (length o) h)) p q
 
-  pub refused_12 : b ≡ true → length o < need → Writes (bare_line b need f (length o)) o (Refused 12) o
+  pub refused_12 : b ≡ true → length o < need → Writes (bare_line b need f (length o)) o (refused 12) o
   unfolding bare_line
   refused_12 e h = writes_refused _ 12 o (must_go b 10 _ e ∙ must_stop (leb need (length o)) 12 _ (lt-leb need (length o) h))
 
-  pub refused_10 : b ≡ false → Writes (bare_line b need f (length o)) o (Refused 10) o
+  pub refused_10 : b ≡ false → Writes (bare_line b need f (length o)) o (refused 10) o
   unfolding bare_line
   refused_10 e = writes_refused _ 10 o (must_stop b 10 _ e)
 
@@ -71,36 +69,35 @@ front_is_line f o = take_at (line_of f) (drop (length (line_of f)) o) (length (l
 
 -- ---- readers
 
-module _ {A : Type 0} (ok : List ℕ → Bool) (value : List ℕ → A) (none : ℕ → A) (l : List ℕ) where
-  pub reads : is_line l ≡ true → ok (frame_of l) ≡ true → reading ok value none l ≡ value (frame_of l)
+module _ {A : Type 0} (ok : List ℕ → Bool) (value : List ℕ → A) (l : List ℕ) where
+  pub reads : is_line l ≡ true → ok (frame_of l) ≡ true → reading ok value l ≡ gives (value (frame_of l))
   unfolding reading
-  reads s k = rw (s, k)
+  reads s k = must_go (is_line l) 9 _ s ∙ must_go (ok (frame_of l)) 10 _ k
 
-  pub reads_10 : is_line l ≡ true → ok (frame_of l) ≡ false → reading ok value none l ≡ none 10
+  pub reads_10 : is_line l ≡ true → ok (frame_of l) ≡ false → reading ok value l ≡ refused 10
   unfolding reading
-  reads_10 s k = rw (s, k)
+  reads_10 s k = must_go (is_line l) 9 _ s ∙ must_stop (ok (frame_of l)) 10 _ k
 
-  pub reads_9 : is_line l ≡ false → reading ok value none l ≡ none 9
+  pub reads_9 : is_line l ≡ false → reading ok value l ≡ refused 9
   unfolding reading
-  reads_9 s = rw s
+  reads_9 s = must_stop (is_line l) 9 _ s
 
--- a reader that refused nothing found both tests true
-accepted_of : {A : Type 0} (s k : Bool) (good : A) (none : ℕ → A) (refusal : A → ℕ) → ((n : ℕ) → refusal (none n) ≡ n) → refusal (cond s (cond k good (none 10)) (none 9)) ≡ 0 → (s ≡ true) × (k ≡ true)
-accepted_of true true good none refusal r e = (refl, refl)
-accepted_of true false good none refusal r e = absurd (omega (arith, r 10))
-accepted_of false k good none refusal r e = absurd (omega (arith, r 9))
+  -- a reader that gave something found both tests true, and gave what the frame holds
+  module _ (x : A) (e : reading ok value l ≡ gives x) where
+    sound_first : is_line l ≡ true
+    unfolding reading
+    sound_first = must_test (is_line l) 9 _ x e
 
-pub accepted : {A : Type 0} (ok : List ℕ → Bool) (value : List ℕ → A) (none : ℕ → A) (refusal : A → ℕ) (l : List ℕ)
-    → ((n : ℕ) → refusal (none n) ≡ n) → refusal (reading ok value none l) ≡ 0 → (is_line l ≡ true) × (ok (frame_of l) ≡ true)
-unfolding reading
-accepted ok value none refusal l r e = accepted_of (is_line l) (ok (frame_of l)) (value (frame_of l)) none refusal r e
+    then_ok : must (ok (frame_of l)) 10 (gives (value (frame_of l))) ≡ gives x
+    unfolding reading
+    then_ok = must_rest (is_line l) 9 _ x e
 
--- what the refusal says that reading a line gave
-module _ {A : Type 0} (ok : List ℕ → Bool) (value : List ℕ → A) (none : ℕ → A) (refusal : A → ℕ) (l : List ℕ) (x : A) (xe : x ≡ reading ok value none l) where
-  pub holds : ((n : ℕ) → refusal (none n) ≡ n) → refusal x ≡ 0 → (ok (frame_of l) ≡ true) × (x ≡ value (frame_of l))
-  holds named h =
-      let p = accepted ok value none refusal l named (ap refusal (sym xe) ∙ h) in
-      (p.1, xe ∙ reads ok value none l p.0 p.1)
+    pub accepted : (is_line l ≡ true) × (ok (frame_of l) ≡ true)
+    accepted = (sound_first, must_test (ok (frame_of l)) 10 _ x then_ok)
 
-  pub holds_none : ((f : List ℕ) → refusal (value f) ≡ 0) → is_line l ≡ true → (refusal x ≡ 0 → ⊥) → ok (frame_of l) ≡ false
-  holds_none given s h = refuted (ok (frame_of l)) (λ e. h (ap refusal (xe ∙ reads ok value none l s e) ∙ given (frame_of l)))
+    pub holds : (ok (frame_of l) ≡ true) × (x ≡ value (frame_of l))
+    holds = (must_test (ok (frame_of l)) 10 _ x then_ok, sym (same_given _ x (must_rest (ok (frame_of l)) 10 _ x then_ok)))
+
+  -- one that refused a sound line found its frame wanting
+  pub holds_none : is_line l ≡ true → (n : ℕ) → reading ok value l ≡ refused n → ok (frame_of l) ≡ false
+  holds_none s n e = refuted (ok (frame_of l)) (λ k. given_refused _ n (sym (reads s k) ∙ e))

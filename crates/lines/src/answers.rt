@@ -3,15 +3,17 @@ ghost use Rattle.std.specs.Prelude.{◌≡◌, true, ◌++◌, ◌+◌, ◌*◌,
 ghost use Rattle.paper.specs.Frames.{be, is_line, line_of, written, frame_of};
 ghost use Rattle.paper.specs.Fields.{item_bytes};
 ghost use Rattle.paper.specs.Orders.{query_in};
-ghost use Rattle.paper.specs.Lines.{Writes, bare_line, answer_frame, answer_ranges, answer_fits, count_in, no_answer, read_as_answer};
+ghost use Rattle.paper.specs.Outcomes.{told};
+ghost use Rattle.paper.specs.Lines.{Writes, bare_line, answer_frame, answer_ranges, answer_fits, count_in, read_as_answer};
 ghost use Rattle.line_digits.specs.FrameBytes.{overlaid};
 ghost use Rattle.line_fields.specs.Layout.{laid_out};
 ghost use Rattle.paper.specs.Limits.{longest_answer, most_page, most_coordinates};
 
 use checks::{answer_kind, answer_order};
 use paper::limits::{ITEM_ROOM, LONGEST_ANSWER, MOST_PAGE};
-use paper::lines::{Answer, AnswerRead, Scope, Wrote};
+use paper::lines::{Answer, Scope};
 use paper::queries::Query;
+use paper::refusals::Refusal;
 
 // [5.8] [5.9] Whether scope, last and item count are in range.
 fn answer_ranges(p: Scope, last: u64, count: u64) -> bool
@@ -64,17 +66,23 @@ fn fill_answer(q: Query, p: Scope, last: u8, count: u8, items: &[u64], out: &mut
 
 // [5.6] [9.14] Writes an answer: the front of 28 + 4d bytes (line_fields::put_front), then last (1), item count (1), and 14 for each item. Refusals
 // 10, 12.
-pub fn write_answer(q: Query, p: Scope, last: u8, count: u8, items: &[u64], out: &mut [u8]) -> Wrote
-    ensures { Writes (bare_line (answer_fits (query_in q) p last count items.now) longest_answer (answer_frame (query_in q) p last count items.now) (length out.old)) out.old result out.new }
+pub fn write_answer(
+    q: Query,
+    p: Scope,
+    last: u8,
+    count: u8,
+    items: &[u64],
+    out: &mut [u8],
+) -> Result<usize, Refusal>
+    ensures { Writes (bare_line (answer_fits (query_in q) p last count items.now) longest_answer (answer_frame (query_in q) p last count items.now) (length out.old)) out.old (told result) out.new }
 {
-    if answer_fits(q, p, last, count, items) {
-        if out.len() < LONGEST_ANSWER {
-            return Wrote::Refused(12);
-        }
-        let n = fill_answer(q, p, last, count, items, out);
-        return Wrote::Line(n);
+    if !answer_fits(q, p, last, count, items) {
+        return Err(Refusal::Fields);
     }
-    Wrote::Refused(10)
+    if out.len() < LONGEST_ANSWER {
+        return Err(Refusal::RoomTooShort);
+    }
+    Ok(fill_answer(q, p, last, count, items, out))
 }
 
 // [8.10] Whether a line begins with a head of this kind, and has the length that its d and its item count tell: 30 + 4d + 14k bytes.
@@ -94,28 +102,15 @@ fn layout_ok(line: &[u8], kind: u8) -> bool
     line_fields::layout_ok(line, kind, 30 + 14 * count)
 }
 
-fn no_answer(n: u8) -> AnswerRead
-    ensures { result ≡ no_answer n }
-{
-    let answer = Answer {
-        last: 0,
-        count: 0,
-        scope: Scope::NONE,
-        query: Query::NONE,
-        items: [0u64; ITEM_ROOM],
-    };
-    AnswerRead { refusal: n, answer }
-}
-
 // [5.6] [8.10] The answer in a sound line, in the order that its kind tells: query, scope behind its reach, last in byte 28 + 4d, then the item
 // count and the items. Refusal 10. As in an ask, query and items are read last.
-fn answer_in(line: &[u8]) -> AnswerRead
+fn answer_in(line: &[u8]) -> Result<Answer, Refusal>
     requires { is_line line.now ≡ true }
-    ensures { result ≡ read_as_answer line.now }
+    ensures { told result ≡ read_as_answer line.now }
 {
     let order = answer_order(line_fields::kind(line));
     if !layout_ok(line, answer_kind(order)) {
-        return no_answer(10);
+        return Err(Refusal::Fields);
     }
     let d = line_fields::d(line);
     let at = 28 + 4 * d;
@@ -123,10 +118,10 @@ fn answer_in(line: &[u8]) -> AnswerRead
     let last = line_digits::number(line, at, 1);
     let count = line_digits::number(line, at + 1, 1);
     if !answer_ranges(scope, last, count) {
-        return no_answer(10);
+        return Err(Refusal::Fields);
     }
     if !line_fields::numbers_ok(line, at + 2, count as usize) {
-        return no_answer(10);
+        return Err(Refusal::Fields);
     }
     let probe = line_fields::coords_at(line, 7, d);
     let query = Query {
@@ -145,15 +140,15 @@ fn answer_in(line: &[u8]) -> AnswerRead
         query,
         items,
     };
-    AnswerRead { refusal: 0, answer }
+    Ok(answer)
 }
 
 // [5.6] [9.15] Reads an answer's line. Refusals 9, 10.
-pub fn read_answer(line: &[u8]) -> AnswerRead
-    ensures { result ≡ read_as_answer line.now }
+pub fn read_answer(line: &[u8]) -> Result<Answer, Refusal>
+    ensures { told result ≡ read_as_answer line.now }
 {
-    if line_digits::is_sound(line) {
-        return answer_in(line);
+    if !line_digits::is_sound(line) {
+        return Err(Refusal::NoLine);
     }
-    no_answer(9)
+    answer_in(line)
 }

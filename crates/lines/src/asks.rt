@@ -1,14 +1,16 @@
 // [5.5] The ask line: a list's order tells its kind, and its kind its order.
 ghost use Rattle.std.specs.Prelude.{◌≡◌, true, ◌≤◌, length};
 ghost use Rattle.paper.specs.Frames.{is_line, line_of, written};
-ghost use Rattle.paper.specs.Lines.{Writes, bare_line, ask_frame, ask_ranges, ask_fits, no_ask, read_as_ask};
+ghost use Rattle.paper.specs.Lines.{Writes, bare_line, ask_frame, ask_ranges, ask_fits, read_as_ask};
 ghost use Rattle.paper.specs.Orders.{query_in};
+ghost use Rattle.paper.specs.Outcomes.{told};
 ghost use Rattle.paper.specs.Limits.{longest_ask, most_coordinates};
 
 use checks::{ask_kind, ask_order, size_holds};
 use paper::limits::LONGEST_ASK;
-use paper::lines::{Ask, AskRead, Scope, Wrote};
+use paper::lines::{Ask, Scope};
 use paper::queries::Query;
+use paper::refusals::Refusal;
 
 // [4.3] [5.10] Whether scope and page size are in range, and the snapshot 0 at the start.
 fn ask_ranges(p: Scope, size: u64) -> bool
@@ -51,46 +53,34 @@ fn fill_ask(q: Query, p: Scope, size: u8, out: &mut [u8]) -> usize
 }
 
 // [5.5] [9.14] Writes an ask: the front of 28 + 4d bytes (line_fields::put_front), then the page size (1). Refusals 10, 12.
-pub fn write_ask(q: Query, p: Scope, size: u8, out: &mut [u8]) -> Wrote
-    ensures { Writes (bare_line (ask_fits (query_in q) p size) longest_ask (ask_frame (query_in q) p size) (length out.old)) out.old result out.new }
+pub fn write_ask(q: Query, p: Scope, size: u8, out: &mut [u8]) -> Result<usize, Refusal>
+    ensures { Writes (bare_line (ask_fits (query_in q) p size) longest_ask (ask_frame (query_in q) p size) (length out.old)) out.old (told result) out.new }
 {
-    if ask_fits(q, p, size) {
-        if out.len() < LONGEST_ASK {
-            return Wrote::Refused(12);
-        }
-        let n = fill_ask(q, p, size, out);
-        return Wrote::Line(n);
+    if !ask_fits(q, p, size) {
+        return Err(Refusal::Fields);
     }
-    Wrote::Refused(10)
-}
-
-fn no_ask(n: u8) -> AskRead
-    ensures { result ≡ no_ask n }
-{
-    let ask = Ask {
-        query: Query::NONE,
-        scope: Scope::NONE,
-        size: 0,
-    };
-    AskRead { refusal: n, ask }
+    if out.len() < LONGEST_ASK {
+        return Err(Refusal::RoomTooShort);
+    }
+    Ok(fill_ask(q, p, size, out))
 }
 
 // [5.5] [8.10] The ask in a sound line, in the order that its kind tells: query, scope behind its reach, and page size in byte 28 + 4d. Refusal 10.
 // The query's fields are read here, and last: a function that gives a query back, or one that is called while it is held, costs a copy of it.
-pub fn ask_in(line: &[u8]) -> AskRead
+pub fn ask_in(line: &[u8]) -> Result<Ask, Refusal>
     requires { is_line line.now ≡ true }
-    ensures { result ≡ read_as_ask line.now }
+    ensures { told result ≡ read_as_ask line.now }
 {
     let order = ask_order(line_fields::kind(line));
     if !line_fields::layout_ok(line, ask_kind(order), 29) {
-        return no_ask(10);
+        return Err(Refusal::Fields);
     }
     let d = line_fields::d(line);
     let at = 7 + 4 * d;
     let scope = line_fields::scope_at(line, at);
     let size = line_digits::number(line, at + 21, 1);
     if !ask_ranges(scope, size) {
-        return no_ask(10);
+        return Err(Refusal::Fields);
     }
     let probe = line_fields::coords_at(line, 7, d);
     let query = Query {
@@ -106,15 +96,15 @@ pub fn ask_in(line: &[u8]) -> AskRead
         scope,
         size: size as u8,
     };
-    AskRead { refusal: 0, ask }
+    Ok(ask)
 }
 
 // [5.5] [9.15] Reads an ask's line. Refusals 9, 10.
-pub fn read_ask(line: &[u8]) -> AskRead
-    ensures { result ≡ read_as_ask line.now }
+pub fn read_ask(line: &[u8]) -> Result<Ask, Refusal>
+    ensures { told result ≡ read_as_ask line.now }
 {
-    if line_digits::is_sound(line) {
-        return ask_in(line);
+    if !line_digits::is_sound(line) {
+        return Err(Refusal::NoLine);
     }
-    no_ask(9)
+    ask_in(line)
 }

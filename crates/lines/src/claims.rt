@@ -1,12 +1,14 @@
 // [5.7] The claim line, kind 03.
 ghost use Rattle.std.specs.Prelude.{◌≡◌, true, ◌≤◌, length};
 ghost use Rattle.paper.specs.Frames.{is_line, line_of, written};
-ghost use Rattle.paper.specs.Lines.{Writes, bare_line, claim_frame, claim_fits, no_claim, read_as_claim};
+ghost use Rattle.paper.specs.Outcomes.{told};
+ghost use Rattle.paper.specs.Lines.{Writes, bare_line, claim_frame, claim_fits, read_as_claim};
 ghost use Rattle.paper.specs.Limits.{longest_claim, most_coordinates};
 
 use checks::in_range;
 use paper::limits::{LONGEST_CLAIM, MOST_COORDINATES};
-use paper::lines::{ClaimLine, ClaimRead, Wrote};
+use paper::lines::ClaimLine;
+use paper::refusals::Refusal;
 
 // [8.10] Whether a claim can have these fields.
 fn claim_fits(measure: u8, d: u8, coords: &[i32]) -> bool
@@ -46,39 +48,25 @@ pub fn write_claim(
     reference: u32,
     coords: &[i32],
     out: &mut [u8],
-) -> Wrote
-    ensures { Writes (bare_line (claim_fits measure d coords.now) longest_claim (claim_frame table measure d reference coords.now) (length out.old)) out.old result out.new }
+) -> Result<usize, Refusal>
+    ensures { Writes (bare_line (claim_fits measure d coords.now) longest_claim (claim_frame table measure d reference coords.now) (length out.old)) out.old (told result) out.new }
 {
-    if claim_fits(measure, d, coords) {
-        if out.len() < LONGEST_CLAIM {
-            return Wrote::Refused(12);
-        }
-        let n = fill_claim(table, measure, d, reference, coords, out);
-        return Wrote::Line(n);
+    if !claim_fits(measure, d, coords) {
+        return Err(Refusal::Fields);
     }
-    Wrote::Refused(10)
-}
-
-fn no_claim(n: u8) -> ClaimRead
-    ensures { result ≡ no_claim n }
-{
-    let claim = ClaimLine {
-        table: 0,
-        measure: 0,
-        d: 0,
-        reference: 0,
-        coordinates: [0i32; MOST_COORDINATES],
-    };
-    ClaimRead { refusal: n, claim }
+    if out.len() < LONGEST_CLAIM {
+        return Err(Refusal::RoomTooShort);
+    }
+    Ok(fill_claim(table, measure, d, reference, coords, out))
 }
 
 // [5.7] [8.10] The claim in a sound line: reference from byte 7, point from byte 11. Refusal 10.
-pub fn claim_in(line: &[u8]) -> ClaimRead
+pub fn claim_in(line: &[u8]) -> Result<ClaimLine, Refusal>
     requires { is_line line.now ≡ true }
-    ensures { result ≡ read_as_claim line.now }
+    ensures { told result ≡ read_as_claim line.now }
 {
     if !line_fields::layout_ok(line, ClaimLine::KIND, 11) {
-        return no_claim(10);
+        return Err(Refusal::Fields);
     }
     let d = line_fields::d(line);
     let coordinates = line_fields::coords_at(line, 11, d);
@@ -89,15 +77,15 @@ pub fn claim_in(line: &[u8]) -> ClaimRead
         reference: line_digits::number(line, 7, 4) as u32,
         coordinates,
     };
-    ClaimRead { refusal: 0, claim }
+    Ok(claim)
 }
 
 // [5.7] [9.15] Reads a claim's line. Refusals 9, 10.
-pub fn read_claim(line: &[u8]) -> ClaimRead
-    ensures { result ≡ read_as_claim line.now }
+pub fn read_claim(line: &[u8]) -> Result<ClaimLine, Refusal>
+    ensures { told result ≡ read_as_claim line.now }
 {
-    if line_digits::is_sound(line) {
-        return claim_in(line);
+    if !line_digits::is_sound(line) {
+        return Err(Refusal::NoLine);
     }
-    no_claim(9)
+    claim_in(line)
 }

@@ -1,52 +1,45 @@
--- Distances joined: the first d coordinates and the e after them. Assumes nothing.
-use Prim.Native.Nat.{ℕ, zero, suc, ◌+◌, ◌≤◌}
-use mathlib.Core.Path.{◌≡◌, sym, ◌∙◌}
+-- A distance of the first i coordinates, and the next one. Assumes nothing.
+use Prim.Native.Nat.{ℕ, ◌+◌, ◌≤◌, ◌<◌, ◌^◌}
+use mathlib.Core.Path.{◌≡◌, ◌∙◌}
 use mathlib.Core.List.{List}
 use native.Mathlib.Omega.{arith}
-use native.Mathlib.Numerals.{add-one, unary_clauses}
+use native.Mathlib.Numerals.{add-one}
 use lib.IntN.{ℤ, pos}
-use lib.ListN.{get_or, drop}
-use lib.Seq.{get_or-drop, drop-drop}
+use lib.ListN.{get_or}
+use mir.Syntax.{w32}
+use mir.Val.{SFits}
+use Rattle.measure.proofs.Away.{B, same_args}
+use Rattle.measure.proofs.Metric.{joined_most, weigh_most}
 use Rattle.paper.specs.Points.{weigh, joined, distance, greatest_of}
 use Rattle.paper.specs.declared.points.Measure.{Measure}
 use Rattle.paper.specs.declared.points.Measure.TheVariants.{CityBlock, Maximum, Hamming}
-use Rattle.measure.specs.Measured.{DistanceIs}
 
-joined_none : (m : Measure) (a : ℕ) → a ≡ joined m a 0
-unfolding joined
-joined_none CityBlock a = omega arith
-joined_none Maximum a = omega arith
-joined_none Hamming a = omega arith
+-- the distance s of the first i coordinates, joined with what the next counts, x and y
+module _ (m : Measure) (i : ℕ) (p q : List ℤ) {s r : ℕ} {x y : ℤ} (x_is : x ≡ get_or p i (pos 0)) (y_is : y ≡ get_or q i (pos 0)) (hx : SFits w32 x) (hy : SFits w32 y) (so_far : s ≡ distance m i p q)
+    (joins : r ≡ joined m s (weigh m (B x) (B y))) where
+  joins_them : r ≡ joined m s (weigh m x y)
+  joins_them = joins ∙ same_args (λ (u v : ℤ). joined m s (weigh m u v)) hx hy
 
-joined_assoc : (m : Measure) (a b c : ℕ) → joined m (joined m a b) c ≡ joined m a (joined m b c)
-unfolding joined
-joined_assoc CityBlock a b c = omega arith
-joined_assoc Maximum a b c = omega arith
-joined_assoc Hamming a b c = omega arith
+  pub one_more : r ≡ distance m (i + 1) p q
+  unfolding distance
+  one_more = joins_them ∙ rw (x_is, y_is, so_far, add-one i)
 
-joined_within : (m : Measure) (d e : ℕ) {a b : ℕ} → a ≤ greatest_of m d → b ≤ greatest_of m e → joined m a b ≤ greatest_of m (d + e)
+  pub bounded_more : s ≤ greatest_of m i → r ≤ greatest_of m (i + 1)
+  bounded_more h = rw (joins_them, add-one i) (joined_most m i h (weigh_most m x y hx hy))
+
+-- all but the last of eight coordinates leave room for it
+pub room_for_one : (m : Measure) {i s : ℕ} → i < 8 → s ≤ greatest_of m i → s ≤ 30064771065
+unfolding greatest_of
+room_for_one CityBlock h k = omega arith
+room_for_one Maximum h k = omega arith
+room_for_one Hamming h k = omega arith
+
+joined_small : (m : Measure) {i s w : ℕ} → i < 8 → s ≤ greatest_of m i → w ≤ greatest_of m 1 → joined m s w < 2 ^ 64
 unfolding joined greatest_of
-joined_within CityBlock d e h k = omega arith
-joined_within Maximum d e h k = omega arith
-joined_within Hamming d e h k = omega arith
+joined_small CityBlock h k l = omega arith
+joined_small Maximum h k l = omega arith
+joined_small Hamming h k l = omega arith
 
-distance_joined : (m : Measure) (d e : ℕ) (p q : List ℤ) → distance m (d + e) p q ≡ joined m (distance m d p q) (distance m e (drop d p) (drop d q))
-unfolding distance
-distance_joined m d zero p q = simp unary_clauses (joined_none m (distance m d p q))
-distance_joined m d (suc e) p q =
-    simp unary_clauses
-    (rw (distance_joined m d e p q, get_or-drop d p e (pos 0), get_or-drop d q e (pos 0)) (joined_assoc m (distance m d p q) (distance m e (drop d p) (drop d q)) (weigh m (get_or p (d + e) (pos 0)) (get_or q (d + e) (pos 0)))))
-
--- the distance s of the first i coordinates, joined with what the next counts
-pub one_more_lem : (m : Measure) (i at bt s : ℕ) (a b : List ℤ) → s ≡ distance m i (drop at a) (drop bt b)
-    → joined m s (weigh m (get_or a (at + i) (pos 0)) (get_or b (bt + i) (pos 0))) ≡ distance m (i + 1) (drop at a) (drop bt b)
-unfolding distance
-one_more_lem m i at bt s a b e = rw (add-one, get_or-drop, get_or-drop, e)
-
--- what joins the distances x, of d coordinates, and y, of the e after them, is the distance of all
-pub joins : (m : Measure) (d e : ℕ) {a b : List ℤ} {at bt at' bt' x y r : ℕ} → DistanceIs m d a at b bt x → DistanceIs m e a at' b bt' y
-    → at' ≡ at + d → bt' ≡ bt + d → r ≡ joined m x y → DistanceIs m (d + e) a at b bt r
-joins m d e {a} {b} {at} {bt} p q h k j = record {
-  exact = j ∙ rw (p.exact, q.exact, h, k, ← drop-drop d at a, ← drop-drop d bt b) (sym (distance_joined m d e (drop at a) (drop bt b)));
-  bounded = rw j (joined_within m d e p.bounded q.bounded);
-}
+-- what the next one counts, w, can be joined to the distance of fewer than eight
+pub joined_fits : (m : Measure) (x y : ℤ) {i s w : ℕ} → i < 8 → s ≤ greatest_of m i → w ≡ weigh m (B x) (B y) → SFits w32 x → SFits w32 y → joined m s w < 2 ^ 64
+joined_fits m x y h k e hx hy = joined_small m h k (rw (e ∙ same_args (weigh m) hx hy) (weigh_most m x y hx hy))

@@ -1,58 +1,29 @@
 -- Distances as far as a limit. Assumes nothing.
 use Prim.Native.Nat.{ℕ, ◌<◌, ◌≤◌}
-use mathlib.Core.Path.{◌≡◌, refl, sym, ap, ◌∙◌}
-use mathlib.Core.Bool.{Bool, true, false, cond}
+use mathlib.Core.Path.{◌≡◌, refl}
+use mathlib.Core.Bool.{Bool, true, false}
 use mathlib.Core.List.{List}
 use native.Mathlib.Omega.{arith}
-use lib.Dec.{leb, eqb}
+use lib.Dec.{leb}
 use lib.IntN.{ℤ}
-use borrow.Author.Tests.{le-leb, lt-leb, leb-true, leb-false, ne_eqb}
+use borrow.Author.Tests.{le-leb, lt-leb, leb-true, leb-false}
 use Rattle.paper.specs.Points.{distance}
 use Rattle.paper.specs.declared.points.Measure.{Measure}
-use Rattle.paper.proofs.Tests.{no_way}
-use Rattle.measure.specs.declared.limits.Apart.{Apart}
-use Rattle.measure.specs.declared.limits.Apart.TheVariants.{At, Beyond}
-use Rattle.measure.specs.Limited.{limited, UpTo}
+use Rattle.std.proofs.Common.{Some, None}
+use Rattle.measure.specs.Measured.{PairIs}
+use Rattle.measure.specs.Limited.{limited, UpTo, NearerIs}
 use Rattle.measure.proofs.Metric.{distance_grows}
 
 -- all coordinates measured, and the limit kept
-pub limited_at : {limit x s : ℕ} → s ≡ x → s ≤ limit → At s ≡ limited limit x
+pub limited_at : {limit x s : ℕ} → s ≡ x → s ≤ limit → Some s ≡ limited limit x
 unfolding limited
 limited_at {limit} {x} {s} e h = rw (← e, le-leb s limit h)
 
 -- the first i coordinates are over the limit already
-pub limited_beyond : {limit i d : ℕ} (m : Measure) (p q : List ℤ) {s : ℕ} → s ≡ distance m i p q → limit < s → i ≤ d → Beyond ≡ limited limit (distance m d p q)
+pub limited_beyond : {limit i d : ℕ} (m : Measure) (p q : List ℤ) {s : ℕ} → s ≡ distance m i p q → limit < s → i ≤ d → None ≡ limited limit (distance m d p q)
 unfolding limited
 limited_beyond {limit} {i} {d} m p q {s} e h k =
     rw (lt-leb (distance m d p q) limit (omega (arith, distance_grows m i d p q k)))
-
--- ---- whether a distance is the limit itself
-
-abbrev number : Apart → ℕ
-number (At y) = y
-number Beyond = 0
-
-abbrev found : Apart → Bool
-found (At y) = true
-found Beyond = false
-
--- x' measured as far as x: what was found is x just where x' is, and what is beyond is not x
-module _ (x x' : ℕ) {r : Apart} (e : r ≡ limited x x') where
-  pub just_at : {y : ℕ} → r ≡ At y → eqb x y ≡ eqb x x'
-  unfolding limited
-  just_at {y} f = go (leb x' x) (sym f ∙ e)
-    where
-      go : (t : Bool) → At y ≡ cond t (At x') Beyond → eqb x y ≡ eqb x x'
-      go true q = ap (eqb x) (ap number q)
-      go false q = absurd (no_way (ap found q))
-
-  pub just_beyond : r ≡ Beyond → false ≡ eqb x x'
-  unfolding limited
-  just_beyond f = go (leb x' x) refl (sym f ∙ e)
-    where
-      go : (t : Bool) → leb x' x ≡ t → Beyond ≡ cond t (At x') Beyond → false ≡ eqb x x'
-      go true h q = absurd (no_way (sym (ap found q)))
-      go false h q = sym (ne_eqb x x' (λ z. omega (arith, leb-false x' x h)))
 
 -- ---- a number that stands for a distance as far as a limit
 
@@ -71,3 +42,9 @@ below_limit {limit} {x} {r} u h = go (leb x limit) refl
     go : (t : Bool) → leb x limit ≡ t → r ≡ x
     go true k = u.exact (leb-true x limit k)
     go false k = absurd (omega (arith, u.above (leb-false x limit k)))
+
+-- a pair of exact distances serves whatever the limit is
+pub nearer : {m : Measure} {d : ℕ} {a b : List ℤ} {left right bt x y : ℕ} → PairIs m d a left right b bt x y → NearerIs m d a left right b bt x y
+nearer p =
+    let e = p.right_is.exact in
+    record { left_is = p.left_is; right_is = record { exact = λ h. e; above = λ h. omega arith } }

@@ -1,14 +1,12 @@
 -- What a distance that was measured as far as a limit is. Definitions only.
-use Rattle.std.specs.Prelude.{ℕ, ◌≤◌, ◌<◌, ◌≡◌, cond, List, leb, ℤ, drop}
+use Rattle.std.specs.Prelude.{ℕ, ◌≤◌, ◌<◌, ◌≡◌, Option, Some, None, cond, List, leb, ℤ, drop}
 use Rattle.paper.specs.Points.{distance}
 use Rattle.paper.specs.declared.points.Measure.{Measure}
 use Rattle.measure.specs.Measured.{DistanceIs}
-use Rattle.measure.specs.declared.limits.Apart.{Apart}
-use Rattle.measure.specs.declared.limits.Apart.TheVariants.{At, Beyond}
 
--- [1.9] distance x as far as a limit: x where it is at most the limit, and beyond where it is more
-unfoldable pub limited : ℕ → ℕ → Apart
-limited limit x = cond (leb x limit) (At x) Beyond
+-- [1.9] distance x as far as a limit: x where it is at most the limit, and nothing where it is more
+unfoldable pub limited : ℕ → ℕ → Option ℕ
+limited limit x = cond (leb x limit) (Some x) None
 
 -- r stands for distance x as far as a limit: it is x where that is at most the limit, and otherwise a number above the limit
 pub record UpTo (limit x r : ℕ) : Type 0 where

@@ -1,5 +1,5 @@
 -- What a distance that was measured in lent memory is. Definitions only.
-use Rattle.std.specs.Prelude.{ℕ, ◌+◌, ◌-◌, ◌≤◌, ◌≡◌, List, ℤ, pos, negsuc, length, drop}
+use Rattle.std.specs.Prelude.{ℕ, ◌+◌, ◌≤◌, ◌≡◌, List, ℤ, length, drop}
 use Rattle.paper.specs.Points.{distance, greatest_of}
 use Rattle.paper.specs.declared.points.Measure.{Measure}
 
@@ -22,8 +22,3 @@ pub record TwoAt (d : ℕ) (a : List ℤ) (left right : ℕ) : Type 0 where
 pub record PairIs (m : Measure) (d : ℕ) (a : List ℤ) (left right : ℕ) (b : List ℤ) (bt x y : ℕ) : Type 0 where
   pub left_is : DistanceIs m d a left b bt x
   pub right_is : DistanceIs m d a right b bt y
-
--- a coordinate raised by 2^31: none is negative then, and their order and differences stay
-abbrev pub up_by31 : ℤ → ℕ
-up_by31 (pos n) = n + 2147483648
-up_by31 (negsuc n) = 2147483647 - n

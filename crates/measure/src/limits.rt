@@ -7,15 +7,8 @@ ghost use Rattle.measure.specs.Limited.{limited};
 use super::with_one;
 use paper::points::Measure;
 
-// How far two points are apart, as far as a limit: their distance, or that it is more than the limit.
-#[derive(Clone, Copy)]
-pub enum Apart {
-    At(u64),
-    Beyond,
-}
-
-// [1.9] How far the points at `at` of a and at `bt` of b are apart, as far as the limit. No coordinate lessens a distance, so the first
-// that brings the sum over the limit is the last that is read.
+// [1.9] How far the points at `at` of a and at `bt` of b are apart, as far as the limit: nothing where it is more. No coordinate lessens a
+// distance, so the first that brings the sum over the limit is the last that is read.
 pub fn within(
     measure: u8,
     d: usize,
@@ -24,30 +17,26 @@ pub fn within(
     b: &[i32],
     bt: usize,
     limit: u64,
-) -> Apart
+) -> Option<u64>
     requires { (d ≤ most_coordinates) × ((at + d ≤ length a.now) × (bt + d ≤ length b.now)) }
     ensures { result ≡ limited limit (distance (measure_of measure) d (drop at a.now) (drop bt b.now)) }
 {
     let m = Measure::numbered(measure);
-    let mut sum: u64 = 0;
-    let mut i: usize = 0;
-    while i < d {
-        sum = with_one(m, sum, a[at + i], b[bt + i]);
+    let mut sum = 0;
+    for (x, y) in a[at..at + d].iter().zip(&b[bt..bt + d]) {
+        sum = with_one(m, sum, *x, *y);
         if limit < sum {
-            return Apart::Beyond;
+            return None;
         }
-        i += 1;
     }
-    Apart::At(sum)
+    Some(sum)
 }
 
 // [1.9] Whether these points are just x apart. They are measured as far as x: what is beyond it is not x.
+#[tactic(auto, unfolding(crate::specs::Limited::limited))]
 pub fn is_apart(measure: u8, d: usize, a: &[i32], at: usize, b: &[i32], bt: usize, x: u64) -> bool
     requires { (d ≤ most_coordinates) × ((at + d ≤ length a.now) × (bt + d ≤ length b.now)) }
     ensures { result ≡ eqb x (distance (measure_of measure) d (drop at a.now) (drop bt b.now)) }
 {
-    match within(measure, d, a, at, b, bt, x) {
-        Apart::At(y) => x == y,
-        Apart::Beyond => false,
-    }
+    within(measure, d, a, at, b, bt, x) == Some(x)
 }

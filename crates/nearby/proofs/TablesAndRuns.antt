@@ -9,12 +9,10 @@ use lib.IntN.{ℤ}
 use lib.ListN.{length, take}
 use borrow.Author.Tests.{le-leb, lt-leb}
 use Rattle.paper.specs.declared.tables.Table.{Table}
-use Rattle.paper.specs.declared.tables.Made.{Made}
-use Rattle.paper.specs.declared.tables.Entered.{Entered}
-use Rattle.paper.specs.Outcomes.{Outcome, gives, must, number, Promise}
+use Rattle.paper.specs.Outcomes.{Outcome, refused, gives, must, number, Promise}
 use Rattle.paper.specs.Tree.{Store, store, memory, claims_in, fits}
 use Rattle.paper.specs.References.{in_force, anew}
-use Rattle.paper.specs.Runs.{make_call, made_shown, added_run, enter_call, entered_shown, put_store}
+use Rattle.paper.specs.Runs.{make_call, added_run, enter_call, entered_shown, put_store}
 use Rattle.paper.specs.Calls.{table_refusal}
 use Rattle.paper.proofs.Outcomes.{must_stop, must_go, number_is, promise_refused, promise_given}
 use Rattle.tree.specs.Soundness.{Good}
@@ -25,13 +23,13 @@ use Rattle.walk_tested.proofs.TableLaws.{fit_stops, fit_goes, table_refused, tab
 -- ---- [9.4] making
 
 module _ (s : Store) (a : Bool) (ae : a ≡ fits s) where
-  pub made_1 : a ≡ false → Made.Refused 1 ≡ made_shown (make_call s)
+  pub made_1 : a ≡ false → refused 1 ≡ make_call s
   unfolding make_call
-  made_1 h = sym (ap made_shown (fit_stops s a ae _ h))
+  made_1 h = sym (fit_stops s a ae _ h)
 
-  pub made_table : a ≡ true → Made.Table s.table ≡ made_shown (make_call s)
+  pub made_table : a ≡ true → gives s.table ≡ make_call s
   unfolding make_call
-  made_table h = sym (ap made_shown (fit_goes s a ae _ h))
+  made_table h = sym (fit_goes s a ae _ h)
 
 -- ---- [9.6] entering
 
@@ -104,14 +102,14 @@ module _ (s : Store) (given : List ℕ) (points : List ℤ) where
   -- refused, or entered
   module _ (why : ℕ) (we : why ≡ number call) where
     pub enter_refused : (why ≡ 0 → ⊥)
-        → Promise entered_shown put_store call (memory s.references s.coordinates s.nodes) (Entered.Refused why) (memory s.references s.coordinates s.nodes)
-    enter_refused h = promise_refused entered_shown put_store call _ why (Entered.Refused why) (number_is call why we h) refl
+        → Promise entered_shown put_store call (memory s.references s.coordinates s.nodes) (refused why) (memory s.references s.coordinates s.nodes)
+    enter_refused h = promise_refused entered_shown put_store call _ why (refused why) (number_is call why we h) refl
 
     pub enter_done : why ≡ 0 → (t : Table) (r : List ℕ) (l : List ℤ) (m : List ℕ) → store t r l m ≡ added_run given points (length given) s
-        → Promise entered_shown put_store call (memory s.references s.coordinates s.nodes) (Entered.Table t) (memory r l m)
+        → Promise entered_shown put_store call (memory s.references s.coordinates s.nodes) (gives t) (memory r l m)
     enter_done z t r l m e =
         let x = zero_enters s given points (sym we ∙ z) in
-        promise_given entered_shown put_store call _ (added_run given points (length given) s) (Entered.Table t) (memory r l m)
+        promise_given entered_shown put_store call _ (added_run given points (length given) s) (gives t) (memory r l m)
         (enters_gives s given points x)
-        (ap (λ (y : Store). Entered.Table y.table) e)
+        (ap (λ (y : Store). gives y.table) e)
         (ap (λ (y : Store). memory y.references y.coordinates y.nodes) e)

@@ -15,4 +15,4 @@ pub use bare::{
 pub use lists::{open_list, take, write_ask};
 pub use office::answer;
 pub use questions::{farthest, front, nearest, page};
-pub use tables::{enter, make_table, table_refusal};
+pub use tables::{enter, make_table, test_table};

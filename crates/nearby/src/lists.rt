@@ -1,12 +1,13 @@
 // A tablet's list: opened in an order, asking and taking lines of that order's kinds.
 ghost use Rattle.std.specs.Prelude.{◌≡◌, length};
-ghost use Rattle.paper.specs.Lists.{Takes, held, opening_held, opened_shown, asking_held, taking_held};
+ghost use Rattle.paper.specs.Outcomes.{told};
+ghost use Rattle.paper.specs.Lists.{Takes, held, opening_held, asking_held, taking_held};
 ghost use Rattle.paper.specs.Codec.{lines};
 ghost use Rattle.paper.specs.Lines.{Writes};
 
-use paper::lines::Wrote;
-use paper::lists::{List, Opened, Taken};
+use paper::lists::List;
 use paper::orders::Order;
+use paper::refusals::Refusal;
 
 // [9.11] Refusals 1, 5.
 pub fn open_list(
@@ -16,31 +17,28 @@ pub fn open_list(
     d: usize,
     probe: &[i32],
     reach: u64,
-) -> Opened
-    ensures { result ≡ opened_shown (opening_held (record { order = order; table = table; measure = measure; d = d; probe = probe.now; reach = reach })) }
+) -> Result<List, Refusal>
+    ensures { told result ≡ opening_held (record { order = order; table = table; measure = measure; d = d; probe = probe.now; reach = reach }) }
 {
     end_tablet::open_list(order, table, measure, d, probe, reach)
 }
 
 // [9.12] Refusals 2, 16, 6, 12.
-pub fn write_ask(l: List, room: &[u64], size: usize, out: &mut [u8]) -> Wrote
-    ensures { Writes (asking_held lines (held l room.now) size (length out.old)) out.old result out.new }
+pub fn write_ask(l: List, room: &[u64], size: usize, out: &mut [u8]) -> Result<usize, Refusal>
+    ensures { Writes (asking_held lines (held l room.now) size (length out.old)) out.old (told result) out.new }
 {
     if !end_tablet::is_sound(l, room) {
-        return Wrote::Refused(2);
+        return Err(Refusal::Unsound);
     }
     end_tablet::write_ask(l, room, size, out)
 }
 
 // [9.13] Refusals 2, 9, 10, 16, 13, 14, 15.
-pub fn take(l: List, room: &mut [u64], line: &[u8]) -> Taken
-    ensures { Takes l (taking_held lines (held l room.old) line.now) room.old result room.new }
+pub fn take(l: List, room: &mut [u64], line: &[u8]) -> Result<List, Refusal>
+    ensures { Takes l (taking_held lines (held l room.old) line.now) room.old (told result) room.new }
 {
     if !end_tablet::is_sound(l, room) {
-        return Taken {
-            refusal: 2,
-            list: l,
-        };
+        return Err(Refusal::Unsound);
     }
     end_tablet::take_line(l, room, line)
 }

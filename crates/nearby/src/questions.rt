@@ -1,95 +1,58 @@
 // The three questions, and the filled front of a room.
 ghost use Rattle.std.specs.Prelude.{◌≡◌, ◌*◌, length, take};
-ghost use Rattle.paper.specs.Outcomes.{Promise, Shows};
+ghost use Rattle.paper.specs.Outcomes.{Promise, told};
 ghost use Rattle.paper.specs.Tree.{lent};
-ghost use Rattle.paper.specs.Calls.{nearest_call, farthest_call, nearest_shown, NothingJust, page_call, page_shown, put_page};
+ghost use Rattle.paper.specs.Calls.{nearest_call, farthest_call, NothingJust, page_call, page_shown, put_page};
 
-use crate::tables::table_refusal;
+use crate::tables::test_table;
 use checks::size_holds;
-use paper::orders::{Nearest, Order, Page, Place};
-use paper::tables::Table;
+use paper::lent::LentTable;
+use paper::orders::{Item, Order, Paged, Place};
+use paper::refusals::Refusal;
 
 // [9.7] [4.1] Refusals 1, 2, 5.
-pub fn nearest(
-    t: Table,
-    references: &[u32],
-    coordinates: &[i32],
-    nodes: &[u64],
-    probe: &[i32],
-    reach: u64,
-) -> Nearest
-    ensures { Shows nearest_shown (nearest_call (lent t references.entry coordinates.entry nodes.entry) probe.now reach) result }
+pub fn nearest(table: &LentTable<'_>, probe: &[i32], reach: u64) -> Result<Option<Item>, Refusal>
+    ensures { told result ≡ nearest_call table.now probe.now reach }
 {
-    let why = table_refusal(t, references, coordinates, nodes);
-    if why != 0 {
-        return Nearest::Refused(why);
+    test_table(table)?;
+    if probe.len() != table.header.d {
+        return Err(Refusal::Coordinates);
     }
-    if probe.len() != t.d {
-        return Nearest::Refused(5);
-    }
-    let found = walk::questions::nearest(t, references, coordinates, nodes, probe, reach);
-    Nearest::Answer(found)
+    Ok(walk::questions::nearest(table, probe, reach))
 }
 
 // [9.7] [4.2] Refusals 1, 2, 5.
-pub fn farthest(
-    t: Table,
-    references: &[u32],
-    coordinates: &[i32],
-    nodes: &[u64],
-    probe: &[i32],
-) -> Nearest
-    ensures shown { Shows nearest_shown (farthest_call (lent t references.entry coordinates.entry nodes.entry) probe.now) result }
-    ensures nothing { NothingJust t.count result }
+pub fn farthest(table: &LentTable<'_>, probe: &[i32]) -> Result<Option<Item>, Refusal>
+    ensures shown { told result ≡ farthest_call table.now probe.now }
+    ensures nothing { NothingJust table.now.table.count (told result) }
 {
-    let why = table_refusal(t, references, coordinates, nodes);
-    if why != 0 {
-        return Nearest::Refused(why);
+    test_table(table)?;
+    if probe.len() != table.header.d {
+        return Err(Refusal::Coordinates);
     }
-    if probe.len() != t.d {
-        return Nearest::Refused(5);
-    }
-    let found = walk::questions::farthest(t, references, coordinates, nodes, probe);
-    Nearest::Answer(found)
+    Ok(walk::questions::farthest(table, probe))
 }
 
 // [9.8] [4.6] Refusals 1, 2, 5, 6, 7, 8, 12.
 pub fn page(
-    t: Table,
-    references: &[u32],
-    coordinates: &[i32],
-    nodes: &[u64],
+    table: &LentTable<'_>,
     order: Order,
     probe: &[i32],
     reach: u64,
     place: Place,
     size: usize,
     room: &mut [u64],
-) -> Page
-    ensures { Promise page_shown put_page (page_call (lent t references.entry coordinates.entry nodes.entry) order probe.now reach place size (length room.old)) room.old result room.new }
+) -> Result<Paged, Refusal>
+    ensures { Promise page_shown put_page (page_call table.now order probe.now reach place size (length room.old)) room.old (told result) room.new }
 {
-    let why = table_refusal(t, references, coordinates, nodes);
-    if why != 0 {
-        return Page::Refused(why);
-    }
-    if probe.len() != t.d {
-        return Page::Refused(5);
+    test_table(table)?;
+    if probe.len() != table.header.d {
+        return Err(Refusal::Coordinates);
     }
     if !size_holds(size) {
-        return Page::Refused(6);
+        return Err(Refusal::PageSize);
     }
-    walk_tested::page_here(
-        t,
-        references,
-        coordinates,
-        nodes,
-        order,
-        probe,
-        reach,
-        place,
-        size,
-        room,
-    )
+    walk_tested::page_here(table, order, probe, reach, place, size, room)
 }
 
 // [9.9] [4.9] The filled front of a room that holds `count` items: a part of the lent room. It refuses nothing.

@@ -1,12 +1,14 @@
-// Making an empty table, testing a table, and entering claims.
+// Making an empty table, testing a table, and entering claims. Where memory is written it comes as parameters (tree::runs).
 ghost use Rattle.std.specs.Prelude.{◌≡◌};
-ghost use Rattle.paper.specs.Outcomes.{Promise, Shows, number as Outcomes·number};
+ghost use Rattle.paper.specs.Outcomes.{Promise, number, told};
 ghost use Rattle.paper.specs.Tree.{lent, lent_mut, lent_memory};
-ghost use Rattle.paper.specs.Runs.{empty_table, make_call, made_shown, enter_call, entered_shown, put_store};
+ghost use Rattle.paper.specs.Runs.{empty_table, make_call, enter_call, entered_shown, put_store};
 ghost use Rattle.paper.specs.Calls.{table_refusal};
 
 use checks::is_whole;
-use paper::tables::{Entered, Made, Table};
+use paper::lent::LentTable;
+use paper::refusals::Refusal;
+use paper::tables::Table;
 use tree::runs::add_run;
 use tree::soundness::{is_fit, is_sound};
 use tree_repeats::runs::are_new;
@@ -20,61 +22,57 @@ pub fn make_table(
     references: &[u32],
     coordinates: &[i32],
     nodes: &[u64],
-) -> Made
-    ensures { Shows made_shown (make_call (lent (empty_table number measure d capacity) references.entry coordinates.entry nodes.entry)) result }
+) -> Result<Table, Refusal>
+    ensures { told result ≡ make_call (lent (empty_table number measure d capacity) references.entry coordinates.entry nodes.entry) }
 {
     let t = Table {
-        number: number,
-        measure: measure,
-        d: d,
-        capacity: capacity,
+        number,
+        measure,
+        d,
+        capacity,
         count: 0,
         used: 0,
     };
     if !is_fit(t, references, coordinates, nodes) {
-        return Made::Refused(1);
+        return Err(Refusal::OutOfRange);
     }
-    Made::Table(t)
+    Ok(t)
 }
 
-// [9.5] Why a table may not be asked: 1 or 2, or 0 where it may.
-pub fn table_refusal(t: Table, references: &[u32], coordinates: &[i32], nodes: &[u64]) -> u8
-    ensures { result ≡ table_refusal (lent t references.entry coordinates.entry nodes.entry) }
+// [9.5] Refusals 1, 2: whether a table may be asked.
+pub fn test_table(table: &LentTable<'_>) -> Result<(), Refusal>
+    ensures { number (told result) ≡ table_refusal table.now }
 {
-    if !is_fit(t, references, coordinates, nodes) {
-        return 1;
+    if !is_fit(
+        table.header,
+        table.references,
+        table.coordinates,
+        table.nodes,
+    ) {
+        return Err(Refusal::OutOfRange);
     }
-    if !is_sound(t, coordinates, nodes) {
-        return 2;
+    if !is_sound(table.header, table.coordinates, table.nodes) {
+        return Err(Refusal::Unsound);
     }
-    0
+    Ok(())
 }
 
-// [9.6] Why a run is not entered, by its number, or 0 where it may be. Nothing is written.
-fn run_refusal(
-    t: Table,
-    references: &[u32],
-    coordinates: &[i32],
-    nodes: &[u64],
-    given: &[u32],
-    points: &[i32],
-) -> u8
-    ensures { result ≡ Outcomes·number (enter_call (lent t references.entry coordinates.entry nodes.entry) given.now points.now) }
+// [9.6] Whether a run may be entered. Nothing is written.
+fn test_run(table: &LentTable<'_>, given: &[u32], points: &[i32]) -> Result<(), Refusal>
+    ensures { number (told result) ≡ number (enter_call table.now given.now points.now) }
 {
-    let why = table_refusal(t, references, coordinates, nodes);
-    if why != 0 {
-        return why;
-    }
+    test_table(table)?;
+    let t = table.header;
     if !is_whole(t.d, given.len(), points.len()) {
-        return 5;
+        return Err(Refusal::Coordinates);
     }
-    if !are_new(references, t.count, given) {
-        return 17;
+    if !are_new(table.references, t.count, given) {
+        return Err(Refusal::KnownReference);
     }
     if t.capacity - t.count < given.len() {
-        return 3;
+        return Err(Refusal::TableFull);
     }
-    0
+    Ok(())
 }
 
 // [9.6] [3.15] Refusals 1, 2, 5, 17, 3. All claims of the run are entered, or none.
@@ -85,15 +83,15 @@ pub fn enter(
     nodes: &mut [u64],
     given: &[u32],
     points: &[i32],
-) -> Entered
+) -> Result<Table, Refusal>
     ensures { Promise entered_shown put_store
         (enter_call (lent_mut t references.entry coordinates.entry nodes.entry) given.now points.now)
-        (lent_memory references.entry coordinates.entry nodes.entry) result (lent_memory references.exit coordinates.exit nodes.exit) }
+        (lent_memory references.entry coordinates.entry nodes.entry) (told result) (lent_memory references.exit coordinates.exit nodes.exit) }
 {
-    let why = run_refusal(t, references, coordinates, nodes, given, points);
-    if why != 0 {
-        return Entered::Refused(why);
-    }
-    let after = add_run(t, references, coordinates, nodes, given, points);
-    Entered::Table(after)
+    test_run(
+        &LentTable::new(t, references, coordinates, nodes),
+        given,
+        points,
+    )?;
+    Ok(add_run(t, references, coordinates, nodes, given, points))
 }

@@ -1,37 +1,46 @@
--- The first line of a buffer: how long it is, a law for each way through the search for its end. Assumes nothing.
-use Prim.Native.Nat.{ℕ, suc, ◌+◌, ◌<◌, ◌≤◌}
-use mathlib.Core.Path.{◌≡◌}
+-- The first line of a buffer: how long it is, and that a search finds its end. Assumes nothing.
+use Prim.Native.Nat.{ℕ, suc, ◌+◌, ◌-◌, ◌<◌, ◌≤◌}
+use mathlib.Core.Path.{◌≡◌, refl, ap, ◌∙◌}
 use mathlib.Core.Bool.{Bool, true, false, cond}
 use mathlib.Core.List.{List, [], ◌∷◌}
 use native.Mathlib.Omega.{arith}
-use native.Mathlib.Numerals.{add-one}
+use Rattle.std.specs.List.{position, position_or_len}
+use Rattle.std.proofs.Common.{Option, Some, None, MatchOption, ◌==◌, nat_lt, not, min}
+use Rattle.std.proofs.lemmas.Slice.{between_to_end}
+use Rattle.std.proofs.lemmas.Bool.Decides.{nat_tests}
 use lib.Dec.{eqb}
-use lib.ListN.{length, get_or, drop, length-drop, drop_of_length-le}
-use lib.Seq.{drop-cons}
-use borrow.Author.Tests.{eq-eqb, ne_eqb}
+use lib.ListN.{length, take, drop, length-drop}
 use Rattle.nearby_batch.specs.Batch.{cut_at}
 
-module _ (asks : List ℕ) (at i : ℕ) (inv : i + cut_at (drop i asks) ≡ at + cut_at (drop at asks)) where
-  open_at : i < length asks → drop i asks ≡ get_or asks i 0 ∷ drop (i + 1) asks
-  open_at h = rw (add-one i) (drop-cons asks i 0 h)
+-- ---- how long it is
 
-  pub cut_ends : i < length asks → get_or asks i 0 ≡ 10 → i + 1 ≡ at + cut_at (drop at asks)
-  unfolding cut_at
-  cut_ends h e =
-      let q : cut_at (drop i asks) ≡ 1 = rw (open_at h, eq-eqb (get_or asks i 0) 10 e) in
-      omega (arith, inv)
+cut_until : (xs : List ℕ) → min (position_or_len (λ b. b == 10) xs + 1) (length xs) ≡ cut_at xs
+unfolding cut_at
+cut_until [] = refl
+cut_until (x ∷ xs) = go (x == 10) (cut_until xs)
+  where
+    go : (b : Bool) → min (position_or_len (λ b. b == 10) xs + 1) (length xs) ≡ cut_at xs
+        → min (cond (not b) (1 + position_or_len (λ b. b == 10) xs) 0 + 1) (suc (length xs)) ≡ cond b 1 (suc (cut_at xs))
+    go true e = grind (arith, nat_tests)
+    go false e = grind (arith, nat_tests)
 
-  pub cut_goes : i < length asks → (get_or asks i 0 ≡ 10 → ⊥) → i + 1 + cut_at (drop (i + 1) asks) ≡ at + cut_at (drop at asks)
-  unfolding cut_at
-  cut_goes h e =
-      let q : cut_at (drop i asks) ≡ suc (cut_at (drop (i + 1) asks)) = rw (open_at h, ne_eqb (get_or asks i 0) 10 e) in
-      omega (arith, inv)
+-- what a search for the first end tells of it
+cut_found : (xs : List ℕ) (k : Option ℕ) → k ≡ position (λ b. b == 10) xs → MatchOption k (length xs ≡ cut_at xs) (λ k. k + 1 ≡ cut_at xs)
+cut_found xs k e = rw e (go (nat_lt (position_or_len (λ b. b == 10) xs) (length xs)) refl)
+  where
+    go : (b : Bool) → nat_lt (position_or_len (λ b. b == 10) xs) (length xs) ≡ b
+        → MatchOption (cond b (Some (position_or_len (λ b. b == 10) xs)) None) (length xs ≡ cut_at xs) (λ k. k + 1 ≡ cut_at xs)
+    go true h = grind (arith, nat_tests, cut_until xs)
+    go false h = grind (arith, nat_tests, cut_until xs)
 
-  pub cut_none : length asks ≤ i → i ≡ at + cut_at (drop at asks)
-  unfolding cut_at
-  cut_none h =
-      let q : cut_at (drop i asks) ≡ 0 = rw (drop_of_length-le asks {i = i} h) in
-      omega (arith, inv)
+pub line_found : (asks : List ℕ) (at : ℕ) → at < length asks → (k : Option ℕ) → k ≡ position (λ b. b == 10) (take (length asks - at) (drop at asks))
+    → MatchOption k (length asks ≡ at + cut_at (drop at asks)) (λ k. at + k + 1 ≡ at + cut_at (drop at asks))
+line_found asks at h k e = go k (cut_found (drop at asks) k (e ∙ ap (λ l. position (λ b. b == 10) l) (between_to_end asks at (length asks) (omega arith))))
+  where
+    go : (k : Option ℕ) → MatchOption k (length (drop at asks) ≡ cut_at (drop at asks)) (λ k. k + 1 ≡ cut_at (drop at asks))
+        → MatchOption k (length asks ≡ at + cut_at (drop at asks)) (λ k. at + k + 1 ≡ at + cut_at (drop at asks))
+    go None m = omega (arith, m, length-drop at asks)
+    go (Some k) m = omega (arith, m)
 
 cut_one : (b : Bool) (n : ℕ) → 0 < cond b 1 (suc n)
 cut_one true n = omega arith

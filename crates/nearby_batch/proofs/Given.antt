@@ -7,10 +7,11 @@ use mathlib.Core.List.{List}
 use native.Mathlib.Omega.{arith}
 use lib.Dec.{leb}
 use lib.ListN.{length}
-use Rattle.paper.specs.Outcomes.{Outcome, refused, gives, must, number, leaves}
+use Rattle.paper.specs.Outcomes.{Outcome, gives, must, number, leaves}
 use Rattle.paper.specs.Tree.{Store, fits, sound}
-use Rattle.nearby_batch.specs.declared.Answered.{Answered}
-use Rattle.nearby_batch.specs.Batch.{Batch, batch_start, goes, batch_answered, batch_call, batch_of, two_rooms, batch_shown, put_batch, AnswersAll, LineAsAlone}
+use Rattle.paper.specs.declared.lines.Answered.{Answered}
+use Rattle.nearby_batch.specs.Batch.{Batch, batch_start, goes, batch_answered, batch_call, batch_of, two_rooms, came_to, batch_shown, put_batch, AnswersAll, LineAsAlone}
+use Rattle.paper.proofs.Outcomes.{number_showing, same_given}
 use Rattle.nearby_batch.proofs.Alone.{each_line_as_alone, stops_for_want}
 use Rattle.paper.specs.Limits.{longest_answer}
 
@@ -21,19 +22,14 @@ given true true false x h = absurd (omega arith)
 given true false c x h = absurd (omega arith)
 given false b c x h = absurd (omega arith)
 
-number_shown : (o : Outcome Batch) → number o ≡ (batch_shown o).refusal
-number_shown (refused n) = refl
-number_shown (gives b) = refl
-
 module _ (s : Store) (asks outcomes out : List ℕ) (r : Answered) (outcomes' out' : List ℕ)
-    (p : AnswersAll (batch_call s asks outcomes out) (two_rooms outcomes out) r (two_rooms outcomes' out')) (none : r.refusal ≡ 0) where
+    (p : AnswersAll (batch_call s asks outcomes out) (two_rooms outcomes out) (gives r) (two_rooms outcomes' out')) where
   pub promise_gives : batch_of r outcomes' out' ≡ batch_answered (length asks) s asks (batch_start outcomes out)
   unfolding batch_call
   promise_gives =
       let b = batch_answered (length asks) s asks (batch_start outcomes out) in
-      let n : number (batch_call s asks outcomes out) ≡ 0 = number_shown (batch_call s asks outcomes out) ∙ ap (λ (x : Answered). x.refusal) (sym p.result) ∙ none in
-      let e = given (leb longest_answer (length out)) (fits s) (sound s) b n in
-      let x : r ≡ batch_shown (gives b) = p.result ∙ ap batch_shown e in
+      let e = given (leb longest_answer (length out)) (fits s) (sound s) b (number_showing came_to (batch_call s asks outcomes out) ∙ ap number (sym p.result)) in
+      let x : r ≡ came_to b = same_given r (came_to b) (p.result ∙ ap batch_shown e) in
       let y : two_rooms outcomes' out' ≡ put_batch b (two_rooms outcomes out) = p.memory ∙ ap (λ (o : Outcome Batch). leaves put_batch o (two_rooms outcomes out)) e in
       λ i. record { lines = (x i).lines; used = (x i).used; written = (x i).written; outcomes = (y i).outcomes; out = (y i).out }
 

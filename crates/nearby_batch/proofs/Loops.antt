@@ -27,7 +27,7 @@ unfolding batch_answered
 answered_stop zero s asks b e = refl
 answered_stop (suc f) s asks b e = rw e
 
-module _ (s : Store) (asks : List ℕ) where
+module _ {s : Store} {asks : List ℕ} where
   pub going_start : (outcomes out : List ℕ) → BatchGoing s asks (batch_start outcomes out) (batch_start outcomes out)
   going_start outcomes out =
       record { same = λ f. ap (λ (n : ℕ). batch_answered n s asks (batch_start outcomes out)) (plus_0 f); few = omega arith; inside = omega arith; outcomes = refl; out = refl }
@@ -35,7 +35,7 @@ module _ (s : Store) (asks : List ℕ) where
       plus_0 : (f : ℕ) → f + 0 ≡ f
       plus_0 f = omega arith
 
-  module _ (b₀ b : Batch) (g : BatchGoing s asks b₀ b) where
+  module _ {b₀ b : Batch} (g : BatchGoing s asks b₀ b) where
     pub going_on : goes asks b ≡ true → (b' : Batch) → b' ≡ step s asks b → length b'.outcomes ≡ length b.outcomes → length b'.out ≡ length b.out → BatchGoing s asks b₀ b'
     unfolding step step_by
     going_on e b' is ko kr =

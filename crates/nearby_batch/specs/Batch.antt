@@ -1,14 +1,11 @@
 -- A buffer of ask lines answered line after line, each as the office's single call answers it. Definitions only.
 use Rattle.std.specs.Prelude.{ℕ, zero, suc, ◌+◌, ◌*◌, ◌≡◌, Bool, true, cond, ◌&&◌, List, [], ◌∷◌, ◌++◌, ltb, leb, eqb, length, get_or, take, drop, set}
-use Rattle.paper.specs.declared.lines.Wrote.{Wrote}
-use Rattle.paper.specs.declared.lines.Wrote.TheVariants.{Line, Refused}
-use Rattle.paper.specs.Outcomes.{Outcome, refused, gives, must, number, leaves, Promise}
+use Rattle.paper.specs.Outcomes.{Outcome, refused, gives, must, number, leaves, showing, Promise}
 use Rattle.paper.specs.Tree.{Store}
 use Rattle.paper.specs.Ends.{answer_room}
 use Rattle.paper.specs.Lines.{put_line}
 use Rattle.paper.specs.Calls.{on_table, table_refusal, office_call}
-use Rattle.nearby_batch.specs.declared.Answered.{Answered}
-use Rattle.nearby_batch.specs.declared.outcomes.LineRow.{LineRow}
+use Rattle.paper.specs.declared.lines.Answered.{Answered}
 use Rattle.paper.specs.Limits.{longest_answer}
 
 -- [6.5] how long the first line of a buffer is: up to and with its first 0A, or all that there is
@@ -123,13 +120,12 @@ pub record LineAsAlone (s : Store) (asks : List ℕ) (b : Batch) (k : ℕ) : Typ
 abbrev pub batch_of : Answered → List ℕ → List ℕ → Batch
 batch_of r outcomes out = record { lines = r.lines; used = r.used; written = r.written; outcomes = outcomes; out = out }
 
-abbrev pub refused_by : ℕ → Answered
-refused_by n = record { refusal = n; lines = 0; used = 0; written = 0 }
+-- [6.7] [9.18] what the call shows of its outcome: how far it came
+abbrev pub came_to : Batch → Answered
+came_to b = record { lines = b.lines; used = b.used; written = b.written }
 
--- [6.7] [9.18] how the call shows its outcome: how far it came, or the refusal's number beside zeros
-abbrev pub batch_shown : Outcome Batch → Answered
-batch_shown (refused n) = refused_by n
-batch_shown (gives b) = record { refusal = 0; lines = b.lines; used = b.used; written = b.written }
+abbrev pub batch_shown : Outcome Batch → Outcome Answered
+batch_shown o = showing came_to o
 
 -- the two rooms that the call is lent for writing
 pub record BatchRooms : Type 0 where
@@ -143,19 +139,15 @@ abbrev pub put_batch : Batch → BatchRooms → BatchRooms
 put_batch b nodes = two_rooms b.outcomes b.out
 
 -- what the call promises
-abbrev pub AnswersAll : Outcome Batch → BatchRooms → Answered → BatchRooms → Type 0
+abbrev pub AnswersAll : Outcome Batch → BatchRooms → Outcome Answered → BatchRooms → Type 0
 AnswersAll o before r after = Promise batch_shown put_batch o before r after
-
--- the batch stands at b, and nothing is refused
-pub record BatchStands (b : Batch) (r : Answered) (outcomes out : List ℕ) : Type 0 where
-  pub refusal : r.refusal ≡ 0
-  pub batch : batch_of r outcomes out ≡ b
 
 -- a table that may be asked, and a line to answer
 pub record LineLeft (s : Store) (asks : List ℕ) (b : Batch) : Type 0 where
   pub sound : 0 ≡ table_refusal s
   pub more : goes asks b ≡ true
 
-unfoldable pub row_shown : Wrote → LineRow
-row_shown (Refused n) = record { refusal = n; length = 0 }
-row_shown (Line n) = record { refusal = 0; length = n }
+-- [6.6] how long the answer line is by what was told of it; 0 beside a refusal
+abbrev pub length_told : Outcome ℕ → ℕ
+length_told (refused n) = 0
+length_told (gives n) = n

@@ -7,13 +7,8 @@ pub fn line_end(asks: &[u8], at: usize) -> usize
     requires { at < length asks.now }
     ensures { result ≡ at + cut_at (drop at asks.now) }
 {
-    let mut i = at;
-    while i < asks.len() {
-        let b = asks[i];
-        i += 1;
-        if b == 10 {
-            return i;
-        }
+    match asks[at..].iter().position(|b| *b == b'\n') {
+        Some(k) => at + k + 1,
+        None => asks.len(),
     }
-    i
 }

@@ -1,89 +1,64 @@
 // Line after line.
-ghost use Rattle.std.specs.Prelude.{◌≡◌, ◌+◌, ◌*◌, ◌&&◌, ltb, leb, length};
-ghost use Rattle.paper.specs.Tree.{lent};
+ghost use Rattle.std.specs.Prelude.{◌≡◌, length};
 ghost use Rattle.paper.specs.Calls.{table_refusal};
-ghost use Rattle.nearby_batch.specs.Batch.{batch_start, step, batch_answered, batch_of, BatchStands, LineLeft};
-ghost use Rattle.paper.specs.Limits.{longest_answer};
+ghost use Rattle.nearby_batch.specs.Batch.{batch_start, goes, step, batch_answered, batch_of, LineLeft};
 
 use super::ends::line_end;
-use super::outcomes::{line_row, put_row};
-use crate::Answered;
+use super::outcomes::put_row;
+use paper::lent::LentTable;
 use paper::limits::LONGEST_ANSWER;
-use paper::tables::Table;
+use paper::lines::Answered;
 
 // [6.7] Whether a byte of the asks is left, a row of the outcomes, and room for the longest line.
-fn goes_on(done: Answered, asks: usize, outcomes: usize, out: usize) -> bool
-    ensures { result ≡ (ltb done.used asks && (leb (2 * done.lines + 2) outcomes && leb (done.written + longest_answer) out)) }
+#[tactic(auto, unfolding(crate::specs::Batch::goes))]
+fn goes_on(done: Answered, asks: &[u8], outcomes: &[u64], out: &[u8]) -> bool
+    ensures { result ≡ goes asks.now (batch_of done outcomes.now out.now) }
 {
-    if asks <= done.used {
-        return false;
-    }
-    if outcomes / 2 <= done.lines {
-        return false;
-    }
-    if out < LONGEST_ANSWER {
-        return false;
-    }
-    done.written <= out - LONGEST_ANSWER
+    done.used < asks.len()
+        && done.lines < outcomes.len() / 2
+        && LONGEST_ANSWER <= out.len()
+        && done.written <= out.len() - LONGEST_ANSWER
 }
 
 // Answers the next line.
 fn answer_next(
-    t: Table,
-    references: &[u32],
-    coordinates: &[i32],
-    nodes: &[u64],
+    table: &LentTable<'_>,
     asks: &[u8],
     done: Answered,
     outcomes: &mut [u64],
     out: &mut [u8],
 ) -> Answered
-    requires { LineLeft (lent t references coordinates nodes) asks.now (batch_of done outcomes.old out.old) }
-    ensures { BatchStands (step (lent t references.entry coordinates.entry nodes.entry) asks.now (batch_of done outcomes.old out.old)) result outcomes.new out.new }
+    requires { LineLeft table.now asks.now (batch_of done outcomes.old out.old) }
+    ensures { batch_of result outcomes.new out.new ≡ step table.now asks.now (batch_of done outcomes.old out.old) }
 {
-    let at = done.used;
-    let w = done.written;
-    let k = done.lines;
-    let e = line_end(asks, at);
-    let wrote = end_office::answer_line(
-        t,
-        references,
-        coordinates,
-        nodes,
-        &asks[at..e],
-        &mut out[w..],
-    );
-    let row = line_row(wrote);
-    put_row(outcomes, k, row);
+    let end = line_end(asks, done.used);
+    let wrote = end_office::answer_line(table, &asks[done.used..end], &mut out[done.written..]);
+    put_row(outcomes, done.lines, wrote);
     Answered {
-        refusal: 0,
-        lines: k + 1,
-        used: e,
-        written: w + row.length,
+        lines: done.lines + 1,
+        used: end,
+        written: done.written + wrote.unwrap_or(0),
     }
 }
 
 // [6.5] [6.7] Answers lines while there is one, and room for it.
 pub fn answer_lines(
-    t: Table,
-    references: &[u32],
-    coordinates: &[i32],
-    nodes: &[u64],
+    table: &LentTable<'_>,
     asks: &[u8],
     outcomes: &mut [u64],
     out: &mut [u8],
 ) -> Answered
-    requires { 0 ≡ table_refusal (lent t references coordinates nodes) }
-    ensures { BatchStands (batch_answered (length asks.now) (lent t references.entry coordinates.entry nodes.entry) asks.now (batch_start outcomes.old out.old)) result outcomes.new out.new }
+    requires { 0 ≡ table_refusal table.now }
+    ensures { batch_of result outcomes.new out.new ≡ batch_answered (length asks.now) table.now asks.now (batch_start outcomes.old out.old) }
 {
     let mut done = Answered {
-        refusal: 0,
         lines: 0,
         used: 0,
         written: 0,
     };
-    while goes_on(done, asks.len(), outcomes.len(), out.len()) {
-        done = answer_next(t, references, coordinates, nodes, asks, done, outcomes, out);
+    // No index is counted: where a line ends is known when it is answered.
+    while goes_on(done, asks, outcomes, out) {
+        done = answer_next(table, asks, done, outcomes, out);
     }
     done
 }

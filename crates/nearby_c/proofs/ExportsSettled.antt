@@ -7,14 +7,14 @@ use Rattle.paper.specs.Outcomes.{number, Promise}
 use Rattle.paper.specs.Runs.{entered_shown, put_store}
 use Rattle.paper.specs.Calls.{page_shown, put_page}
 use Rattle.paper.proofs.Outcomes.{Settled, promise_settled}
-use Rattle.c_values.specs.Values.{entered_out, filled_out, WritesOut}
+use Rattle.c_values.specs.Values.{table_out, filled_out, answered_out, WritesOut}
 use Rattle.c_lists.specs.declared.Listing.{Listing}
 use Rattle.c_lists.specs.Values.{list_in, TakesOut}
 use Rattle.nearby_many.specs.Rows.{instead}
 use Rattle.nearby_many.specs.Pages.{PageRooms}
-use Rattle.nearby_batch.specs.Batch.{AnswersAll}
+use Rattle.nearby_batch.specs.Batch.{batch_shown, put_batch}
 
-pub nearby_enter : Settled (Promise (λ o. entered_out (entered_shown o)) put_store)
+pub nearby_enter : Settled (Promise (λ o. table_out (entered_shown o)) put_store)
 nearby_enter = promise_settled _ _
 
 pub nearby_page : Settled (Promise (λ o. filled_out (page_shown o)) put_page)
@@ -47,5 +47,5 @@ nearby_many_farthest = promise_settled _ _
 pub nearby_many_pages : Settled (Promise {M = PageRooms} number instead)
 nearby_many_pages = promise_settled _ _
 
-pub nearby_many_answers : Settled AnswersAll
+pub nearby_many_answers : Settled (Promise (λ o. answered_out (batch_shown o)) put_batch)
 nearby_many_answers = promise_settled _ _

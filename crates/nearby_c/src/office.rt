@@ -4,7 +4,8 @@ ghost use Rattle.paper.specs.Tree.{lent};
 ghost use Rattle.paper.specs.Calls.{office_call};
 ghost use Rattle.c_values.specs.Values.{WritesOut};
 
-use c_values::{Written, line_of};
+use c_values::Written;
+use paper::lent::LentTable;
 use paper::tables::Table;
 
 // [9.10] Refusals 12, 1, 2, 9, 10, 11, 7, 8.
@@ -19,6 +20,6 @@ pub extern "C" fn nearby_answer(
 ) -> Written
     ensures { WritesOut (office_call (lent t references.entry coordinates.entry nodes.entry) (length out.old) line.now) out.old result out.new }
 {
-    let wrote = nearby::answer(t, references, coordinates, nodes, line, out);
-    line_of(wrote)
+    let table = LentTable::new(t, references, coordinates, nodes);
+    Written::from(nearby::answer(&table, line, out))
 }

@@ -2,12 +2,14 @@
 ghost use Rattle.std.specs.Prelude.{◌≡◌, length};
 ghost use Rattle.paper.specs.Tree.{lent};
 ghost use Rattle.paper.specs.Outcomes.{Promise};
-ghost use Rattle.paper.specs.Calls.{nearest_call, farthest_call, nearest_shown, page_call, page_shown, put_page};
+ghost use Rattle.paper.specs.Calls.{nearest_call, farthest_call, page_call, page_shown, put_page};
 ghost use Rattle.c_lists.specs.Values.{order_in};
 ghost use Rattle.c_values.specs.Values.{item_out, NothingOut, filled_out, place_of};
 
 use c_lists::order_in;
-use c_values::{Filled, Item, Start, item_of, page_of, place_of};
+use c_values::{Filled, FoundItem, Start};
+use paper::lent::LentTable;
+use paper::orders::Place;
 use paper::tables::Table;
 
 // [9.7] Refusals 1, 2, 5.
@@ -19,10 +21,11 @@ pub extern "C" fn nearby_nearest(
     nodes: &[u64],
     probe: &[i32],
     reach: u64,
-) -> Item
-    ensures { result ≡ item_out (nearest_shown (nearest_call (lent t references.entry coordinates.entry nodes.entry) probe.now reach)) }
+) -> FoundItem
+    ensures { result ≡ item_out (nearest_call (lent t references.entry coordinates.entry nodes.entry) probe.now reach) }
 {
-    item_of(nearby::nearest(t, references, coordinates, nodes, probe, reach))
+    let table = LentTable::new(t, references, coordinates, nodes);
+    FoundItem::from(nearby::nearest(&table, probe, reach))
 }
 
 // [9.7] Refusals 1, 2, 5.
@@ -33,11 +36,12 @@ pub extern "C" fn nearby_farthest(
     coordinates: &[i32],
     nodes: &[u64],
     probe: &[i32],
-) -> Item
-    ensures shown { result ≡ item_out (nearest_shown (farthest_call (lent t references.entry coordinates.entry nodes.entry) probe.now)) }
+) -> FoundItem
+    ensures shown { result ≡ item_out (farthest_call (lent t references.entry coordinates.entry nodes.entry) probe.now) }
     ensures nothing { NothingOut t.count result }
 {
-    item_of(nearby::farthest(t, references, coordinates, nodes, probe))
+    let table = LentTable::new(t, references, coordinates, nodes);
+    FoundItem::from(nearby::farthest(&table, probe))
 }
 
 // [9.8] Refusals 1, 2, 5, 6, 7, 8, 12.
@@ -56,19 +60,7 @@ pub extern "C" fn nearby_page(
 ) -> Filled
     ensures { Promise (λ o. filled_out (page_shown o)) put_page (page_call (lent t references.entry coordinates.entry nodes.entry) (order_in order) probe.now reach (place_of start) size (length room.old)) room.old result room.new }
 {
-    let own = order_in(order);
-    let place = place_of(start);
-    let page = nearby::page(
-        t,
-        references,
-        coordinates,
-        nodes,
-        own,
-        probe,
-        reach,
-        place,
-        size,
-        room,
-    );
-    page_of(page)
+    let table = LentTable::new(t, references, coordinates, nodes);
+    let place = Place::from(start);
+    Filled::from(nearby::page(&table, order_in(order), probe, reach, place, size, room))
 }

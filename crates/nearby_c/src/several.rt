@@ -5,9 +5,11 @@ ghost use Rattle.paper.specs.Tree.{lent};
 ghost use Rattle.nearby_many.specs.Rows.{instead};
 ghost use Rattle.nearby_many.specs.Many.{nearest_each, farthest_each};
 ghost use Rattle.nearby_many.specs.Pages.{both_rooms, pages_each};
-ghost use Rattle.nearby_batch.specs.Batch.{batch_call, two_rooms, AnswersAll};
+ghost use Rattle.c_values.specs.Values.{answered_out};
+ghost use Rattle.nearby_batch.specs.Batch.{batch_call, two_rooms, batch_shown, put_batch};
 
-use nearby_batch::Answered;
+use c_values::{LinesAnswered, refusal_number};
+use paper::lent::LentTable;
 use paper::tables::Table;
 
 // [9.16] Refusals 1, 2, 5, 12.
@@ -23,7 +25,8 @@ pub extern "C" fn nearby_many_nearest(
 ) -> u8
     ensures { Outcomes.Promise number instead (nearest_each (lent t references.entry coordinates.entry nodes.entry) probes.now reaches.now out.old) out.old result out.new }
 {
-    nearby_many::nearest_each(t, references, coordinates, nodes, probes, reaches, out)
+    let table = LentTable::new(t, references, coordinates, nodes);
+    refusal_number(nearby_many::nearest_each(&table, probes, reaches, out))
 }
 
 // [9.16] Refusals 1, 2, 5, 12.
@@ -39,7 +42,8 @@ pub extern "C" fn nearby_many_farthest(
 ) -> u8
     ensures { Outcomes.Promise number instead (farthest_each (lent t references.entry coordinates.entry nodes.entry) probes.now n out.old) out.old result out.new }
 {
-    nearby_many::farthest_each(t, references, coordinates, nodes, probes, n, out)
+    let table = LentTable::new(t, references, coordinates, nodes);
+    refusal_number(nearby_many::farthest_each(&table, probes, n, out))
 }
 
 // [9.17] Refusals 1, 2, 5, 6, 12; and 7, 8 of each question.
@@ -59,18 +63,8 @@ pub extern "C" fn nearby_many_pages(
     ensures { Outcomes.Promise number instead (pages_each (lent t references.entry coordinates.entry nodes.entry) probes.now reaches.now places.now size (both_rooms outcomes.old items.old))
         (both_rooms outcomes.old items.old) result (both_rooms outcomes.new items.new) }
 {
-    nearby_many::pages_each(
-        t,
-        references,
-        coordinates,
-        nodes,
-        probes,
-        reaches,
-        places,
-        size,
-        outcomes,
-        items,
-    )
+    let table = LentTable::new(t, references, coordinates, nodes);
+    refusal_number(nearby_many::pages_each(&table, probes, reaches, places, size, outcomes, items))
 }
 
 // [9.18] Refusals 12, 1, 2; and 9, 10, 11, 7, 8 of each line.
@@ -83,8 +77,9 @@ pub extern "C" fn nearby_many_answers(
     asks: &[u8],
     outcomes: &mut [u64],
     out: &mut [u8],
-) -> Answered
-    ensures { AnswersAll (batch_call (lent t references.entry coordinates.entry nodes.entry) asks.now outcomes.old out.old) (two_rooms outcomes.old out.old) result (two_rooms outcomes.new out.new) }
+) -> LinesAnswered
+    ensures { Outcomes.Promise (λ u. answered_out (batch_shown u)) put_batch (batch_call (lent t references.entry coordinates.entry nodes.entry) asks.now outcomes.old out.old) (two_rooms outcomes.old out.old) result (two_rooms outcomes.new out.new) }
 {
-    nearby_batch::answer_all(t, references, coordinates, nodes, asks, outcomes, out)
+    let table = LentTable::new(t, references, coordinates, nodes);
+    LinesAnswered::from(nearby_batch::answer_all(&table, asks, outcomes, out))
 }

@@ -2,11 +2,12 @@
 ghost use Rattle.std.specs.Prelude.{◌≡◌};
 ghost use Rattle.paper.specs.Outcomes.{Promise};
 ghost use Rattle.paper.specs.Tree.{lent, lent_mut, lent_memory};
-ghost use Rattle.paper.specs.Runs.{empty_table, make_call, made_shown, enter_call, entered_shown, put_store};
+ghost use Rattle.paper.specs.Runs.{empty_table, make_call, enter_call, entered_shown, put_store};
 ghost use Rattle.paper.specs.Calls.{table_refusal};
-ghost use Rattle.c_values.specs.Values.{made_out, entered_out};
+ghost use Rattle.c_values.specs.Values.{table_out};
 
-use c_values::{Tabled, table_entered, table_made};
+use c_values::{Tabled, refusal_number};
+use paper::lent::LentTable;
 use paper::tables::Table;
 
 // [9.4] Refusal 1.
@@ -20,9 +21,9 @@ pub extern "C" fn nearby_make_table(
     coordinates: &[i32],
     nodes: &[u64],
 ) -> Tabled
-    ensures { result ≡ made_out (made_shown (make_call (lent (empty_table number measure d capacity) references.entry coordinates.entry nodes.entry))) }
+    ensures { result ≡ table_out (make_call (lent (empty_table number measure d capacity) references.entry coordinates.entry nodes.entry)) }
 {
-    table_made(nearby::make_table(number, measure, d, capacity, references, coordinates, nodes))
+    Tabled::from(nearby::make_table(number, measure, d, capacity, references, coordinates, nodes))
 }
 
 // [9.5] Refusals 1, 2: as every call on a table tests it.
@@ -35,7 +36,8 @@ pub extern "C" fn nearby_test_table(
 ) -> u8
     ensures { result ≡ table_refusal (lent t references.entry coordinates.entry nodes.entry) }
 {
-    nearby::table_refusal(t, references, coordinates, nodes)
+    let table = LentTable::new(t, references, coordinates, nodes);
+    refusal_number(nearby::test_table(&table))
 }
 
 // [9.6] Refusals 1, 2, 5, 17, 3.
@@ -48,10 +50,9 @@ pub extern "C" fn nearby_enter(
     given: &[u32],
     points: &[i32],
 ) -> Tabled
-    ensures { Promise (λ o. entered_out (entered_shown o)) put_store
+    ensures { Promise (λ o. table_out (entered_shown o)) put_store
         (enter_call (lent_mut t references.entry coordinates.entry nodes.entry) given.now points.now)
         (lent_memory references.entry coordinates.entry nodes.entry) result (lent_memory references.exit coordinates.exit nodes.exit) }
 {
-    let e = nearby::enter(t, references, coordinates, nodes, given, points);
-    table_entered(e)
+    Tabled::from(nearby::enter(t, references, coordinates, nodes, given, points))
 }

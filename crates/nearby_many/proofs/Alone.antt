@@ -4,22 +4,21 @@ use Prim.Native.Nat.{ℕ, ◌+◌, ◌*◌, ◌<◌}
 use mathlib.Core.Path.{◌≡◌, refl, sym, ap, ◌∙◌}
 use mathlib.Core.Bool.{Bool, true, false}
 use mathlib.Core.List.{List, ◌++◌, append_assoc}
-use native.Mathlib.Nat.{mul_comm}
 use native.Mathlib.Omega.{arith}
 use lib.Dec.{leb, eqb}
 use lib.IntN.{ℤ}
-use lib.ListN.{length, get_or, take, drop, length-take, length-drop}
-use lib.Seq.{sets, sets-eq, length-take-le}
-use borrow.Author.Tests.{leb-true, eqb-true, eq-eqb}
+use lib.ListN.{length, get_or, take, drop, length-take}
+use lib.Seq.{sets, sets-eq}
+use borrow.Author.Tests.{leb-true, eq-eqb}
+use Rattle.std.specs.Prelude.{Option}
 use Rattle.paper.specs.declared.orders.Order.{Order}
 use Rattle.paper.specs.declared.orders.Place.{Place}
-use Rattle.paper.specs.Points.{point}
-use Rattle.paper.specs.Orders.{Query, Found, found_shown, following, page_of, snapshot_holds, mark_holds}
+use Rattle.paper.specs.declared.orders.Item.{Item}
+use Rattle.paper.specs.Orders.{Query, following, page_of, snapshot_holds, mark_holds}
 use Rattle.paper.specs.Outcomes.{Outcome, gives, must, leaves}
 use Rattle.paper.specs.Tree.{Store, claims_in, fits, sound}
 use Rattle.paper.specs.Ends.{size_holds}
 use Rattle.paper.specs.Calls.{table_query, aimed, ThePage, the_page, nearest_call, farthest_call, page_call, page_shown, put_page}
-use Rattle.tree.proofs.PointsInMemory.{before_next}
 use Rattle.orders.proofs.Rooms.{fronted_length}
 use Rattle.paper.proofs.Outcomes.{must_test, must_rest, must_go, same_given}
 use Rattle.rows.specs.Answers.{found_row, page_row}
@@ -28,6 +27,7 @@ use Rattle.rows.proofs.AnswerRows.{found_wide, page_wide}
 use Rattle.nearby_many.specs.Rows.{row, each, put_found}
 use Rattle.nearby_many.specs.Many.{probe_at, nearest_at, farthest_at, firsts_call, nearest_each, farthest_each, RowAsAlone}
 use Rattle.nearby_many.specs.Pages.{page_at, put_outcome, put_page_items, PageRooms, both_rooms, pages_each, PageAlone}
+use Rattle.nearby_many.proofs.FirstsOfMany.{probe_long, asked_of}
 use Rattle.nearby_many.proofs.RowLaws.{OneRow, Rowed, each_rowed}
 
 -- ---- what is written to a row
@@ -64,13 +64,8 @@ page_fills s order probe reach place size room l h =
 
 -- ---- the nearest and the farthest
 
-probe_long : (d i n : ℕ) (probes : List ℤ) → length probes ≡ d * n → i < n → length (point d probes i) ≡ d
-unfolding point
-probe_long d i n probes e h =
-    length-take-le d (drop (i * d) probes) (omega (arith, length-drop (i * d) probes, before_next d i n h, mul_comm d n))
-
 -- the single call, where the call for many gave something
-module _ (s : Store) (probes : List ℤ) (n : ℕ) (answer : ℕ → Found) (out after : List ℕ)
+module _ (s : Store) (probes : List ℤ) (n : ℕ) (answer : ℕ → Option Item) (out after : List ℕ)
     (h : firsts_call s (length probes) n answer out ≡ gives after) where
   abbrev Done : List ℕ
   Done = each (put_found answer) n out
@@ -86,9 +81,9 @@ module _ (s : Store) (probes : List ℤ) (n : ℕ) (answer : ℕ → Found) (out
   past_5 : must (leb (n * 4) (length out)) 12 (gives Done) ≡ gives after
   past_5 = must_rest (eqb (length probes) (s.table.d * n)) 5 _ after past_2
 
-  rowed : Rowed 4 (λ i l. found_row (found_shown (answer i))) n out Done
+  rowed : Rowed 4 (λ i l. found_row (answer i)) n out Done
   rowed =
-      each_rowed 4 (put_found answer) (λ i l. found_row (found_shown (answer i))) (set_rows 4 (λ i. found_row (found_shown (answer i))) (λ i. found_wide (found_shown (answer i)))) n out
+      each_rowed 4 (put_found answer) (λ i l. found_row (answer i)) (set_rows 4 (λ i. found_row (answer i)) (λ i. found_wide (answer i))) n out
       (leb-true (n * 4) (length out) (must_test (leb (n * 4) (length out)) 12 (gives Done) after past_5))
 
   done : Done ≡ after
@@ -97,23 +92,21 @@ module _ (s : Store) (probes : List ℤ) (n : ℕ) (answer : ℕ → Found) (out
   pub firsts_behind : drop (n * 4) after ≡ drop (n * 4) out
   firsts_behind = ap (drop (n * 4)) (sym done) ∙ rowed.behind
 
-  pub firsts_alone : (single : List ℤ → Found → Outcome Found) (i : ℕ) → i < n
-      → ((probe : List ℤ) (x : Found) → single probe x ≡ aimed s probe (gives x))
+  pub firsts_alone : (single : List ℤ → Option Item → Outcome (Option Item)) (i : ℕ) → i < n
+      → ((probe : List ℤ) (x : Option Item) → single probe x ≡ aimed s probe (gives x))
       → RowAsAlone (single (probe_at s probes i) (answer i)) (row 4 i after)
   unfolding firsts_call
   firsts_alone single i j e =
+      let fit = must_test (fits s) 1 _ after h in
+      let good = must_test (sound s) 2 _ after past_1 in
+      let whole = must_test (eqb (length probes) (s.table.d * n)) 5 _ after past_2 in
       record {
         answer = answer i;
         given =
-            e (probe_at s probes i) (answer i)
-            ∙ must_go (fits s) 1 _ (must_test (fits s) 1 _ after h)
-            ∙ must_go (sound s) 2 _ (must_test (sound s) 2 _ after past_1)
-            ∙ must_go (eqb (length (probe_at s probes i)) s.table.d) 5 _ (eq-eqb _ _ (probe_long s.table.d i n probes all_aimed j));
+            e (probe_at s probes i) (answer i) ∙ must_go (fits s) 1 _ fit ∙ must_go (sound s) 2 _ good
+            ∙ must_go (eqb (length (probe_at s probes i)) s.table.d) 5 _ (eq-eqb _ _ (probe_long s probes i (asked_of s (length probes) n fit good whole i j).aimed));
         shown = ap (row 4 i) (sym done) ∙ rowed.rows i j;
       }
-    where
-      all_aimed : length probes ≡ s.table.d * n
-      all_aimed = eqb-true (length probes) (s.table.d * n) (must_test (eqb (length probes) (s.table.d * n)) 5 _ after past_2)
 
 -- row i is what the single call gives for question i
 pub nearest_as_alone : (s : Store) (probes : List ℤ) (reaches out after : List ℕ) → nearest_each s probes reaches out ≡ gives after

@@ -2,7 +2,8 @@
 use Prim.Native.Nat.{ℕ}
 use mathlib.Core.List.{List}
 use lib.IntN.{ℤ}
-use Rattle.paper.specs.Orders.{Found}
+use Rattle.std.specs.Prelude.{Option}
+use Rattle.paper.specs.declared.orders.Item.{Item}
 use Rattle.paper.specs.Tree.{Store}
 use Rattle.paper.proofs.Outcomes.{Untold, untold}
 use Rattle.paper.proofs.Retired.{four_is_retired}
@@ -10,7 +11,7 @@ use Rattle.nearby_many.specs.Many.{firsts_call}
 use Rattle.nearby_many.specs.Pages.{PageRooms, page_at, pages_each}
 
 -- [8.4] the firsts as a whole: their rows have an item or none, and no refusal
-pub firsts_without_4 : (s : Store) (probes n : ℕ) (answer : ℕ → Found) (out : List ℕ) → Untold 4 (firsts_call s probes n answer out)
+pub firsts_without_4 : (s : Store) (probes n : ℕ) (answer : ℕ → Option Item) (out : List ℕ) → Untold 4 (firsts_call s probes n answer out)
 unfolding firsts_call
 firsts_without_4 s probes n answer out = search untold depth 10
 

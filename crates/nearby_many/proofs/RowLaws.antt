@@ -18,7 +18,7 @@ row_front w i a b h =
     ap (take w) (drop-append-le (i * w) a b (omega arith))
     ∙ take-append-le w (drop (i * w) a) b (omega (arith, length-drop (i * w) a))
 
-row_long : (w i : ℕ) (l : List ℕ) → i * w + w ≤ length l → length (row w i l) ≡ w
+pub row_long : (w i : ℕ) (l : List ℕ) → i * w + w ≤ length l → length (row w i l) ≡ w
 row_long w i l h = length-take-le w (drop (i * w) l) (omega (arith, length-drop (i * w) l))
 
 -- `f i` writes row i: it makes `g i` of it, and leaves everything else as it is

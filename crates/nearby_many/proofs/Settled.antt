@@ -5,7 +5,8 @@ use mathlib.Core.List.{List}
 use lib.Dec.{leb, eqb}
 use lib.IntN.{ℤ}
 use lib.ListN.{length}
-use Rattle.paper.specs.Orders.{Found}
+use Rattle.std.specs.Prelude.{Option}
+use Rattle.paper.specs.declared.orders.Item.{Item}
 use Rattle.paper.specs.Outcomes.{Outcome, refused, gives, onto, number, leaves, Promise}
 use Rattle.paper.specs.Tree.{Store, fits, sound}
 use Rattle.paper.proofs.Outcomes.{must_go, number_0}
@@ -18,7 +19,7 @@ use Rattle.nearby_many.proofs.PagesOfMany.{then_pages, pages_gives}
 stands : {M : Type 0} (o : Outcome M) (before after x : M) (r : ℕ) → Promise number instead o before r after → o ≡ gives x → o ≡ gives after
 stands o before after x r p e = e ∙ ap gives (sym (p.memory ∙ ap (λ u. leaves instead u before) e))
 
-pub firsts_given : (s : Store) (probes n : ℕ) (answer : ℕ → Found) (out after : List ℕ) (r : ℕ)
+pub firsts_given : (s : Store) (probes n : ℕ) (answer : ℕ → Option Item) (out after : List ℕ) (r : ℕ)
     → Promise number instead (firsts_call s probes n answer out) out r after → r ≡ 0 → firsts_call s probes n answer out ≡ gives after
 unfolding firsts_call
 firsts_given s probes n answer out after r p none =
@@ -44,4 +45,4 @@ module _ (s : Store) (probes : List ℤ) (reaches places : List ℕ) (size : ℕ
       ∙ number_onto (on_pages s (length probes) (length reaches) (length places) size (length before.outcomes) (length before.items) (gives (length reaches))) _
 
   pub pages_given : pages_each s probes reaches places size before ≡ gives after
-  pages_given = stands _ before after _ r p (pages_gives s probes reaches places size before 0 shown refl)
+  pages_given = stands _ before after _ r p (pages_gives s probes reaches places size before shown)

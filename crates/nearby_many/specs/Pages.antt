@@ -1,15 +1,15 @@
 -- Many pages of one table. Definitions only.
-use Rattle.std.specs.Prelude.{ℕ, ◌+◌, ◌*◌, ◌≤◌, ◌≡◌, true, List, ◌++◌, leb, eqb, ℤ, length, get_or, take, drop}
+use Rattle.std.specs.Prelude.{ℕ, ◌+◌, ◌*◌, ◌<◌, ◌≤◌, ◌≡◌, true, List, ◌++◌, leb, eqb, ℤ, length, get_or, take, drop}
 use Rattle.std.proofs.lemmas.List.Edits.{sets}
 use Rattle.paper.specs.Outcomes.{Outcome, gives, must, number, leaves}
 use Rattle.paper.specs.Tree.{Store}
 use Rattle.paper.specs.Ends.{size_holds}
-use Rattle.paper.specs.Calls.{ThePage, page_call, page_shown, put_page, table_refusal}
+use Rattle.paper.specs.Calls.{ThePage, page_call, page_shown, put_page}
 use Rattle.rows.specs.Answers.{page_row}
 use Rattle.rows.specs.Places.{place_numbers, order_at, place_at}
 use Rattle.nearby_many.specs.Counts.{on_many}
 use Rattle.nearby_many.specs.Rows.{row, each}
-use Rattle.nearby_many.specs.Many.{probe_at}
+use Rattle.nearby_many.specs.Many.{probe_at, Asked}
 
 -- [4.16] what the single call gives for question i, in a room for one page
 abbrev pub page_at : Store → List ℤ → List ℕ → List ℕ → ℕ → ℕ → Outcome ThePage
@@ -60,20 +60,10 @@ pub record PageAlone (single : Outcome ThePage) (shown before after : List ℕ) 
 
 -- ---- what the layers below ask
 
--- question i of n
-pub record OnePage (s : Store) (probes places i n outcomes rest : ℕ) : Type 0 where
-  pub tested : 0 ≡ table_refusal s
-  pub aimed : i * s.table.d + s.table.d ≤ probes
+-- question i of n, and row i of a room for pages of k items
+pub record OnePage (s : Store) (probes n places k i room : ℕ) : Type 0 where
+  pub asked : Asked s probes i
+  pub reach : i < n
   pub place : i * place_numbers + place_numbers ≤ places
-  pub size : size_holds n ≡ true
-  pub outcome : i * 3 + 3 ≤ outcomes
-  pub items : i * (n * 3) + n * 3 ≤ rest
-
--- all n
-pub record AllPages (s : Store) (probes n spots k shown rest : ℕ) : Type 0 where
-  pub tested : 0 ≡ table_refusal s
-  pub aimed : probes ≡ s.table.d * n
-  pub places : spots ≡ place_numbers * n
   pub size : size_holds k ≡ true
-  pub outcomes : n * 3 ≤ shown
-  pub items : n * (k * 3) ≤ rest
+  pub items : i * (k * 3) + k * 3 ≤ room

@@ -1,7 +1,7 @@
 -- Rows of a room, answered one after another. Definitions only.
-use Rattle.std.specs.Prelude.{ℕ, zero, suc, ◌*◌, List, take, drop}
+use Rattle.std.specs.Prelude.{ℕ, zero, suc, ◌*◌, List, take, drop, Option}
 use Rattle.std.proofs.lemmas.List.Edits.{sets}
-use Rattle.paper.specs.Orders.{Found, found_shown}
+use Rattle.paper.specs.declared.orders.Item.{Item}
 use Rattle.rows.specs.Answers.{found_row}
 
 -- row i of a room with w numbers to a row
@@ -18,5 +18,5 @@ abbrev pub instead : {M : Type 0} → M → M → M
 instead after before = after
 
 -- row i is what was found for question i
-abbrev pub put_found : (ℕ → Found) → ℕ → List ℕ → List ℕ
-put_found answer i l = sets l (i * 4) (found_row (found_shown (answer i)))
+abbrev pub put_found : (ℕ → Option Item) → ℕ → List ℕ → List ℕ
+put_found answer i l = sets l (i * 4) (found_row (answer i))

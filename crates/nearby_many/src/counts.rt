@@ -1,28 +1,19 @@
 // Whether many questions may be asked.
 ghost use Rattle.std.specs.Prelude.{◌≡◌};
-ghost use Rattle.paper.specs.Tree.{lent};
+ghost use Rattle.paper.specs.Outcomes.{number, told};
 ghost use Rattle.nearby_many.specs.Counts.{many_refusal};
 
 use checks::is_whole;
-use paper::tables::Table;
+use paper::lent::LentTable;
+use paper::refusals::Refusal;
 
-// [8.5] Why n questions may not be asked with so many probe coordinates: 1, 2, 5, or 0 where they may.
-pub fn many_refusal(
-    t: Table,
-    references: &[u32],
-    coordinates: &[i32],
-    nodes: &[u64],
-    probes: usize,
-    n: usize,
-) -> u8
-    ensures { result ≡ many_refusal (lent t references.entry coordinates.entry nodes.entry) probes n }
+// [8.5] Refusals 1, 2, 5: whether n questions may be asked with so many probe coordinates.
+pub fn test_many(table: &LentTable<'_>, probes: usize, n: usize) -> Result<(), Refusal>
+    ensures { number (told result) ≡ many_refusal table.now probes n }
 {
-    let why = nearby::table_refusal(t, references, coordinates, nodes);
-    if why != 0 {
-        return why;
+    nearby::test_table(table)?;
+    if !is_whole(table.header.d, n, probes) {
+        return Err(Refusal::Coordinates);
     }
-    if !is_whole(t.d, n, probes) {
-        return 5;
-    }
-    0
+    Ok(())
 }

@@ -1,157 +1,78 @@
 // Many questions for the nearest or the farthest claim.
-ghost use Rattle.std.specs.Prelude.{◌≡◌, length, ◌*◌};
-ghost use Rattle.std.proofs.lemmas.List.Edits.{sets};
-ghost use Rattle.paper.specs.declared.orders.Order.TheVariants.{Near};
-ghost use Rattle.paper.specs.Points.{point};
-ghost use Rattle.paper.specs.Orders.{found_shown, nearest_of};
-ghost use Rattle.paper.specs.Outcomes.{Promise, number};
-ghost use Rattle.paper.specs.Tree.{lent, claims_in};
-ghost use Rattle.paper.specs.Calls.{table_query};
-ghost use Rattle.rows.specs.Answers.{found_row};
-ghost use Rattle.nearby_many.specs.Rows.{each, put_found, instead};
-ghost use Rattle.nearby_many.specs.Many.{nearest_at, farthest_at, nearest_each, farthest_each, Many, One};
+ghost use Rattle.std.specs.Prelude.{◌≡◌, ◌<◌, ℕ, Option, length};
+ghost use Rattle.paper.specs.declared.orders.Item.{Item};
+ghost use Rattle.paper.specs.Outcomes.{Promise, number, told};
+ghost use Rattle.nearby_many.specs.Rows.{instead};
+ghost use Rattle.nearby_many.specs.Many.{nearest_at, farthest_at, nearest_each, farthest_each, firsts_call, Asked, Finds};
 
-use crate::counts::many_refusal;
-use paper::tables::Table;
+use crate::counts::test_many;
+use crate::probes::probe_at;
+use paper::lent::LentTable;
+use paper::orders::Item;
+use paper::refusals::Refusal;
 use rows::{has_rows, put_found};
 
 // Question i for the nearest claim.
-fn nearest_row(
-    t: Table,
-    references: &[u32],
-    coordinates: &[i32],
-    nodes: &[u64],
-    probes: &[i32],
-    i: usize,
-    reach: u64,
-    out: &mut [u64],
-)
-    requires { One (lent t references coordinates nodes) (length probes.now) i 4 (length out.old) }
-    ensures { out.new ≡ sets out.old (i * 4) (found_row (found_shown (nearest_of (table_query t Near (point t.d probes.now i) reach) (claims_in (lent t references.entry coordinates.entry nodes.entry))))) }
+fn nearest_at(table: &LentTable<'_>, probes: &[i32], reaches: &[u64], i: usize) -> Option<Item>
+    requires asked { Asked table.now (length probes.now) i }
+    requires reach { i < length reaches.now }
+    ensures { result ≡ nearest_at table.now probes.now reaches.now i }
 {
-    let d = t.d;
-    let a = i * d;
-    let e = a + d;
-    let found = walk::questions::nearest(t, references, coordinates, nodes, &probes[a..e], reach);
-    put_found(out, i, found);
+    walk::questions::nearest(table, probe_at(table, probes, i), reaches[i])
 }
 
 // Question i for the farthest claim.
-fn farthest_row(
-    t: Table,
-    references: &[u32],
-    coordinates: &[i32],
-    nodes: &[u64],
-    probes: &[i32],
-    i: usize,
-    out: &mut [u64],
-)
-    requires { One (lent t references coordinates nodes) (length probes.now) i 4 (length out.old) }
-    ensures { out.new ≡ put_found (farthest_at (lent t references.entry coordinates.entry nodes.entry) probes.now) i out.old }
+fn farthest_at(table: &LentTable<'_>, probes: &[i32], i: usize) -> Option<Item>
+    requires { Asked table.now (length probes.now) i }
+    ensures { result ≡ farthest_at table.now probes.now i }
 {
-    let d = t.d;
-    let a = i * d;
-    let e = a + d;
-    let found = walk::questions::farthest(t, references, coordinates, nodes, &probes[a..e]);
-    put_found(out, i, found);
+    walk::questions::farthest(table, probe_at(table, probes, i))
 }
 
-fn nearest_rows(
-    t: Table,
-    references: &[u32],
-    coordinates: &[i32],
-    nodes: &[u64],
-    probes: &[i32],
-    reaches: &[u64],
-    out: &mut [u64],
-)
-    requires { Many (lent t references coordinates nodes) (length probes.now) (length reaches.now) 4 (length out.old) }
-    ensures { out.new ≡ each (put_found (nearest_at (lent t references.entry coordinates.entry nodes.entry) probes.now reaches.now)) (length reaches.now) out.old }
-{
-    let mut i = 0;
-    while i < reaches.len() {
-        nearest_row(
-            t,
-            references,
-            coordinates,
-            nodes,
-            probes,
-            i,
-            reaches[i],
-            out,
-        );
-        i += 1;
-    }
-}
-
-fn farthest_rows(
-    t: Table,
-    references: &[u32],
-    coordinates: &[i32],
-    nodes: &[u64],
-    probes: &[i32],
+// n questions for an item each, whatever finds it.
+fn firsts_each<F: Fn(usize) -> Option<Item>>(
+    table: &LentTable<'_>,
+    probes: usize,
     n: usize,
+    find: F,
     out: &mut [u64],
-)
-    requires { Many (lent t references coordinates nodes) (length probes.now) n 4 (length out.old) }
-    ensures { out.new ≡ each (put_found (farthest_at (lent t references.entry coordinates.entry nodes.entry) probes.now)) n out.old }
+) -> Result<(), Refusal>
+    requires { (i : ℕ) → i < n → Asked table.now probes i → F.pre find i }
+    ensures { (answer : ℕ → Option Item) → Finds (F.post find) n answer
+        → Promise number instead (firsts_call table.now probes n answer out.old) out.old (number (told result)) out.new }
 {
-    let mut i = 0;
-    while i < n {
-        farthest_row(t, references, coordinates, nodes, probes, i, out);
-        i += 1;
+    test_many(table, probes, n)?;
+    if !has_rows(n, 4, out.len()) {
+        return Err(Refusal::RoomTooShort);
     }
+    for i in 0..n {
+        put_found(out, i, find(i));
+    }
+    Ok(())
 }
 
 // [9.16] [4.17] Refusals 1, 2, 5, 12. There is a probe of d coordinates for each reach, and a row of four numbers for each answer.
 pub fn nearest_each(
-    t: Table,
-    references: &[u32],
-    coordinates: &[i32],
-    nodes: &[u64],
+    table: &LentTable<'_>,
     probes: &[i32],
     reaches: &[u64],
     out: &mut [u64],
-) -> u8
-    ensures { Promise number instead (nearest_each (lent t references.entry coordinates.entry nodes.entry) probes.now reaches.now out.old) out.old result out.new }
+) -> Result<(), Refusal>
+    ensures { Promise number instead (nearest_each table.now probes.now reaches.now out.old) out.old (number (told result)) out.new }
 {
-    let why = many_refusal(
-        t,
-        references,
-        coordinates,
-        nodes,
-        probes.len(),
-        reaches.len(),
-    );
-    if why != 0 {
-        return why;
-    }
-    if !has_rows(reaches.len(), 4, out.len()) {
-        return 12;
-    }
-    nearest_rows(t, references, coordinates, nodes, probes, reaches, out);
-    0
+    let find = |i| nearest_at(table, probes, reaches, i);
+    firsts_each(table, probes.len(), reaches.len(), find, out)
 }
 
 // [9.16] [4.17] Refusals 1, 2, 5, 12. There are n probes of d coordinates, and a row of four numbers for each answer.
 pub fn farthest_each(
-    t: Table,
-    references: &[u32],
-    coordinates: &[i32],
-    nodes: &[u64],
+    table: &LentTable<'_>,
     probes: &[i32],
     n: usize,
     out: &mut [u64],
-) -> u8
-    ensures { Promise number instead (farthest_each (lent t references.entry coordinates.entry nodes.entry) probes.now n out.old) out.old result out.new }
+) -> Result<(), Refusal>
+    ensures { Promise number instead (farthest_each table.now probes.now n out.old) out.old (number (told result)) out.new }
 {
-    let why = many_refusal(t, references, coordinates, nodes, probes.len(), n);
-    if why != 0 {
-        return why;
-    }
-    if !has_rows(n, 4, out.len()) {
-        return 12;
-    }
-    farthest_rows(t, references, coordinates, nodes, probes, n, out);
-    0
+    let find = |i| farthest_at(table, probes, i);
+    firsts_each(table, probes.len(), n, find, out)
 }

@@ -4,6 +4,7 @@
 mod counts;
 mod firsts;
 mod pages;
+mod probes;
 
 pub use firsts::{farthest_each, nearest_each};
 pub use pages::pages_each;

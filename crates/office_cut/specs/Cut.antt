@@ -1,11 +1,19 @@
 -- Lines of an input that comes in chunks: what one cut leaves, and what that means. Definitions only.
-use Rattle.std.specs.Prelude.{ℕ, ◌+◌, ◌≤◌, min, ◌≡◌, List, [], ◌∷◌, Bool, true, false, cond, length, set, take, leb, eqb}
+use Rattle.std.specs.Prelude.{ℕ, ◌+◌, ◌-◌, ◌≤◌, min, ◌≡◌, List, [], ◌∷◌, ◌++◌, Bool, true, false, cond, length, set, take, drop, leb, eqb}
 use Rattle.office_cut.specs.declared.Piece.{Piece}
 
 -- [10.8] the size of a line of n bytes with one more, where every size over `most` counts as the next one: `most` + 1 stands for any
 -- longer line
 unfoldable pub one_more : ℕ → ℕ → ℕ
 one_more most n = cond (leb n most) (n + 1) n
+
+-- [10.8] the same with k more bytes
+abbrev pub grown : ℕ → ℕ → ℕ → ℕ
+grown most n k = cond (leb n most) (min (n + k) (most + 1)) n
+
+-- [10.8] the room l with the bytes ys behind the n bytes of its line, as far as there is room
+abbrev pub kept_of : List ℕ → ℕ → List ℕ → List ℕ
+kept_of l n ys = take n l ++ (take (length l - n) ys ++ drop (n + length ys) l)
 
 -- what is left when a line is cut: the room, how far the chunk was read, the line's size, and whether the line is whole
 pub record CutLine : Type 0 where

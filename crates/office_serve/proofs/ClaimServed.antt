@@ -43,15 +43,6 @@ books_some s e = rw (ne_eqb s.table.count 0 e)
 
 -- ---- the table that a claim goes to
 
-pub header_none : (t : Table) (c : ClaimLine) → t.count ≡ 0
-    → record { number = c.table; measure = c.measure; d = c.d; capacity = t.capacity; count = 0; used = 0 } ≡ header_for t c
-unfolding header_for
-header_none t c e = rw (eq-eqb t.count 0 e)
-
-pub header_some : (t : Table) (c : ClaimLine) → (t.count ≡ 0 → ⊥) → t ≡ header_for t c
-unfolding header_for
-header_some t c e = rw (ne_eqb t.count 0 e)
-
 abbrev pub with_header : Store → Table → Store
 with_header s h = store h s.references s.coordinates s.nodes
 

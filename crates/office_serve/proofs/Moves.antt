@@ -1,23 +1,22 @@
 -- The office over chunks: what a cut and a served line mean to it, that turns add up, and the end of the input. Assumes nothing.
-use Prim.Native.Nat.{ℕ, zero, suc, ◌-◌, ◌<◌, ◌≤◌}
+use Prim.Native.Nat.{ℕ, zero, suc, ◌-◌, ◌<◌}
 use mathlib.Core.Path.{◌≡◌, refl, sym, ap, ◌∙◌}
 use mathlib.Core.List.{List, [], ◌∷◌, ◌++◌, append-nil, append_assoc}
 use mathlib.Core.Bool.{Bool, true, false, cond}
-use mathlib.Core.Logic.{◌⊎◌, inl, ⊎_elim}
+use mathlib.Core.Logic.{◌⊎◌, ⊎_elim}
 use native.Mathlib.Omega.{arith}
 use native.Mathlib.Decide.{ℕ_discrete}
 use lib.Dec.{eqb}
 use lib.ListN.{length, drop, length-append}
 use borrow.Author.Tests.{eq-eqb, ne_eqb}
-use lib.IntN.{ℤ}
-use Rattle.paper.specs.Tree.{Store, store}
+use Rattle.paper.specs.Tree.{Store}
 use Rattle.paper.specs.Program.{line_turn, OfficeState, line_done, holding_line, byte, fed, at_end, input_done}
 use Rattle.office_cut.specs.Cut.{CutLine, cut_with, cut_of, line_in, rest_in, has_end, LineHeld}
 use Rattle.office_cut.specs.declared.Piece.{Piece}
 use Rattle.office_cut.proofs.LinesCut.{Meant, cut_means, kept_none, cut_on}
 use Rattle.office_serve.specs.declared.feeding.Sitting.{Sitting}
 use Rattle.office_serve.specs.Serving.{books_of, Served}
-use Rattle.office_serve.specs.Feeding.{Stands, Set, Turning, Moved, Ended}
+use Rattle.office_serve.specs.Feeding.{Stands, Moved, Ended}
 use Rattle.office_serve.proofs.Written.{wrote_none, wrote_more}
 use Rattle.paper.specs.Limits.{longest_answer}
 
@@ -47,16 +46,17 @@ rest_none (x ∷ xs) h = go (eqb x 10) (rest_none xs) h
     go true deep e = absurd (let z : ◌≡◌ {A = ℕ} 0 1 = cc in omega arith)
     go false deep e = deep e
 
--- what the cut left, where it was asked at the sitting `sit`
+-- a cut reads on
+pub turn_on : (size at : ℕ) (l l' chunk : List ℕ) (p : Piece) → cut_with l' p ≡ cut_of (length l) l size at (drop at chunk) → at < length chunk → at < p.at
+turn_on size at l l' chunk p ens h =
+    let q : p.at ≡ (cut_of (length l) l size at (drop at chunk)).piece.at = ap (λ (x : CutLine). x.piece.at) ens in
+    omega (arith, cut_on (length l) l chunk size at h)
+
+-- what it left, where it was asked at the sitting `sit`
 module _ (sit : Sitting) (s : Store) (l l' chunk : List ℕ) (p : Piece) (len : length l ≡ longest_answer)
     (ens : cut_with l' p ≡ cut_of (length l) l sit.size sit.at (drop sit.at chunk)) where
   meant : (h : List ℕ) → LineHeld longest_answer l sit.size h → Meant longest_answer chunk h sit.at (drop sit.at chunk) (cut_with l' p)
   meant h k = rw (ens, len) (cut_means longest_answer chunk (drop sit.at chunk) l sit.size sit.at h refl k)
-
-  pub turn_on : sit.at < length chunk → sit.at < p.at
-  turn_on h =
-      let q : p.at ≡ (cut_of (length l) l sit.size sit.at (drop sit.at chunk)).piece.at = ap (λ (x : CutLine). x.piece.at) ens in
-      omega (arith, cut_on (length l) l chunk sit.size sit.at h)
 
   pub moved_part : (o : OfficeState) → 0 < sit.left → p.whole ≡ false → (out : List ℕ) → Stands s l sit o
       → Moved o chunk sit out s l' (record { table = s.table; size = p.size; left = sit.left; at = p.at; written = sit.written }) out
@@ -117,44 +117,6 @@ moved_more o chunk sit₀ sit₁ sit₂ out₀ out₁ out₂ s₁ s₂ l₁ l₂
       written = omega (arith, m.written, n.written, len);
     }
 
-pub never : (X : Type 0) → ◌≡◌ {A = Bool} false true → X
-never X e = absurd (let z : ◌≡◌ {A = ℕ} 0 1 = cc in omega arith)
-
--- what holds at each turn of `feed`
-pub record FeedGoing (chunk rf₀ : List ℕ) (ps₀ : List ℤ) (rs₀ l₀ out₀ : List ℕ) (sit₀ : Sitting) (rf : List ℕ) (ps : List ℤ) (rs l b : List ℕ) (sit : Sitting) : Type 0 where
-  pub moved : (o : OfficeState) → Stands (store sit₀.table rf₀ ps₀ rs₀) l₀ sit₀ o → Moved o chunk sit₀ out₀ (store sit.table rf ps rs) l sit b
-  pub ready : Set (store sit.table rf ps rs) l
-  pub went : (sit ≡ sit₀) ⊎ (sit₀.at < sit.at)
-  pub short : sit.written ≤ length out₀
-  pub references : length rf ≡ length rf₀
-  pub coordinates : length ps ≡ length ps₀
-  pub nodes : length rs ≡ length rs₀
-  pub line : length l ≡ length l₀
-  pub out : length b ≡ length out₀
-
-pub going_start : (chunk rf : List ℕ) (ps : List ℤ) (rs l out : List ℕ) (sit : Sitting) → Set (store sit.table rf ps rs) l → sit.written ≤ length out
-    → FeedGoing chunk rf ps rs l out sit rf ps rs l out sit
-going_start chunk rf ps rs l out sit r h =
-    record {
-      moved = λ o st. moved_none o chunk sit out (store sit.table rf ps rs) l st;
-      ready = r;
-      went = inl refl;
-      short = h;
-      references = refl;
-      coordinates = refl;
-      nodes = refl;
-      line = refl;
-      out = refl;
-    }
-
--- the loop is left: it could not go on
-pub stopped : (chunk b out : ℕ) (sit : Sitting) (r : Bool) → r ≡ false → b ≡ out → (Turning sit chunk b → r ≡ true) → Turning sit chunk out → ⊥
-stopped chunk b out sit r e q f t = never ⊥ (sym e ∙ f (rw q t))
-
--- and something was read if it could be
-pub going_on : (chunk out : ℕ) (sit₀ sit : Sitting) → (sit ≡ sit₀) ⊎ (sit₀.at < sit.at) → (Turning sit chunk out → ⊥) → Turning sit₀ chunk out → sit₀.at < sit.at
-going_on chunk out sit₀ sit w stop t = ⊎_elim (λ e. absurd (stop (rw e t))) (λ h. h) w
-
 pub still_later : (sit₀ sit : Sitting) (at : ℕ) → (sit ≡ sit₀) ⊎ (sit₀.at < sit.at) → sit.at < at → sit₀.at < at
 still_later sit₀ sit at w h = ⊎_elim (λ e. rw (← e) h) (λ g. omega arith) w
 
@@ -190,13 +152,12 @@ ended_none o out w e =
     record { more = []; printed = rw e (sym (append-nil o.printed)); out = sym (wrote_none out w); written = omega arith }
 
 module _ (s : Store) (l : List ℕ) (sit : Sitting) (o : OfficeState) (st : Stands s l sit o) (out : List ℕ) where
-  pub ended_left : sit.left < 1 → Ended o out sit.written out sit.written
-  ended_left h = ended_none o out sit.written (over_stop o (omega (arith, st.left)))
+  pub ended_early : (sit.left ≡ 0) ⊎ ((sit.left ≡ 0 → ⊥) × (sit.size ≡ 0)) → Ended o out sit.written out sit.written
+  ended_early h =
+      ended_none o out sit.written
+      (⊎_elim (λ e. over_stop o (sym st.left ∙ e)) (λ e. over_none o (no_bytes o.held (omega (arith, e.1, st.line.size)))) h)
 
-  pub ended_size : sit.size < 1 → Ended o out sit.written out sit.written
-  ended_size h = ended_none o out sit.written (over_none o (no_bytes o.held (omega (arith, st.line.size))))
-
-  pub ended_line : 1 ≤ sit.left → 1 ≤ sit.size → (s' : Store) (out' : List ℕ) (e : ℕ)
+  pub ended_line : (sit.left ≡ 0 → ⊥) → (sit.size ≡ 0 → ⊥) → (s' : Store) (out' : List ℕ) (e : ℕ)
       → ((h : List ℕ) → LineHeld longest_answer l sit.size h → Served (line_turn (books_of s) h) s' out sit.written out' e) → Ended o out sit.written out' e
   unfolding line_done
   ended_line hl hs s' out' e serves =

@@ -1,6 +1,6 @@
 -- One line served: what it holds by what reading it gave, a frame as a claim or an ask, a line by its frame, and the line that was cut. Assumes nothing.
 use Prim.Native.Nat.{ℕ, ◌≤◌, ◌<◌}
-use mathlib.Core.Path.{◌≡◌, refl, ap}
+use mathlib.Core.Path.{◌≡◌, refl}
 use mathlib.Core.Bool.{Bool, true, false, ◌&&◌}
 use mathlib.Core.List.{List}
 use native.Mathlib.Omega.{arith}
@@ -9,52 +9,40 @@ use lib.ListN.{length, take}
 use borrow.Author.Tests.{lt-leb}
 use Rattle.paper.specs.declared.lines.Ask as lines-Ask
 use Rattle.paper.specs.declared.lines.ClaimLine.{ClaimLine}
-use Rattle.paper.specs.declared.lines.ClaimRead.{ClaimRead}
-use Rattle.paper.specs.declared.lines.AskRead.{AskRead}
 use Rattle.paper.specs.Points.{InRange}
 use Rattle.paper.specs.Tree.{Store}
 use Rattle.paper.specs.Outcomes.{Outcome, refused, gives}
 use Rattle.paper.specs.Frames.{frame_of, is_line}
-use Rattle.paper.specs.Lines.{is_ask, ask_at, an_ask, no_ask, read_as_ask, claim_ok, claim_at, a_claim, no_claim, read_as_claim}
+use Rattle.paper.specs.Lines.{is_ask, ask_at, read_as_ask, claim_ok, claim_at, read_as_claim}
 use Rattle.paper.specs.Codec.{ask_meant}
 use Rattle.paper.specs.Program.{Books, table_for, claim_entering, reply, refusal, turn, claim_turn, ask_turn, frame_turn, line_turn}
 use Rattle.lines.proofs.WritersReaders.{holds, holds_none}
 use Rattle.lines.proofs.ClaimTests.{is_claim}
-use Rattle.end_office.specs.Desk.{Given}
-use Rattle.end_office.proofs.AnswerToAsk.{read_is}
 use Rattle.office_serve.specs.Serving.{Put, books_of, Ready, Served, ServedCut}
 use Rattle.paper.specs.Limits.{longest_answer}
 
 -- ---- what a line holds, by what reading it gave
 
-module _ (line : List ℕ) (c : ClaimRead) (ce : c ≡ read_as_claim line) where
-  claim_held : c.refusal ≡ 0 → (claim_ok (frame_of line) ≡ true) × (c.claim ≡ claim_at (frame_of line))
-  unfolding read_as_claim a_claim no_claim
-  claim_held h =
-      let p = holds claim_ok (λ f. a_claim (claim_at f)) no_claim (λ (x : ClaimRead). x.refusal) line c ce (λ n. refl) h in
-      (p.0, ap (λ (x : ClaimRead). x.claim) p.1)
+module _ (line : List ℕ) where
+  claim_held : (c : ClaimLine) → read_as_claim line ≡ gives c → (claim_ok (frame_of line) ≡ true) × (c ≡ claim_at (frame_of line))
+  unfolding read_as_claim
+  claim_held c e = holds claim_ok claim_at line c e
 
-  no_claim_held : is_line line ≡ true → (c.refusal ≡ 0 → ⊥) → claim_ok (frame_of line) ≡ false
-  unfolding read_as_claim a_claim
-  no_claim_held s h = holds_none claim_ok (λ f. a_claim (claim_at f)) no_claim (λ (x : ClaimRead). x.refusal) line c ce (λ f. refl) s h
+  no_claim_held : is_line line ≡ true → (n : ℕ) → read_as_claim line ≡ refused n → claim_ok (frame_of line) ≡ false
+  unfolding read_as_claim
+  no_claim_held s n e = holds_none claim_ok claim_at line s n e
 
-  pub claim_range : c.refusal ≡ 0 → InRange c.claim.measure c.claim.d
+  pub claim_range : (c : ClaimLine) → read_as_claim line ≡ gives c → InRange c.measure c.d
   unfolding claim_at
-  claim_range h = let p = claim_held h in rw p.1 (is_claim (frame_of line) p.0).headed.range
+  claim_range c e = let p = claim_held c e in rw p.1 (is_claim (frame_of line) p.0).headed.range
 
-module _ (line : List ℕ) (a : AskRead) (ae : a ≡ read_as_ask line) where
-  ask_held : a.refusal ≡ 0 → (is_ask (frame_of line) ≡ true) × (a.ask ≡ ask_at (frame_of line))
-  unfolding read_as_ask an_ask no_ask
-  ask_held h =
-      let p = holds is_ask (λ f. an_ask (ask_at f)) no_ask (λ (x : AskRead). x.refusal) line a ae (λ n. refl) h in
-      (p.0, ap (λ (x : AskRead). x.ask) p.1)
+  ask_held : (a : lines-Ask.Ask) → read_as_ask line ≡ gives a → (is_ask (frame_of line) ≡ true) × (a ≡ ask_at (frame_of line))
+  unfolding read_as_ask
+  ask_held a e = holds is_ask ask_at line a e
 
-  no_ask_held : is_line line ≡ true → (a.refusal ≡ 0 → ⊥) → is_ask (frame_of line) ≡ false
-  unfolding read_as_ask an_ask
-  no_ask_held s h = holds_none is_ask (λ f. an_ask (ask_at f)) no_ask (λ (x : AskRead). x.refusal) line a ae (λ f. refl) s h
-
-  pub ask_fields : a.refusal ≡ 0 → Given a.ask
-  ask_fields h = (read_is line a ae).given h
+  no_ask_held : is_line line ≡ true → (n : ℕ) → read_as_ask line ≡ refused n → is_ask (frame_of line) ≡ false
+  unfolding read_as_ask
+  no_ask_held s n e = holds_none is_ask ask_at line s n e
 
 -- ---- a frame, and a line
 
@@ -95,19 +83,20 @@ module _ (s : Store) (line : List ℕ) (out : List ℕ) (at : ℕ) (l : List ℕ
     unfolding line_turn
     by_frame x v = rw sure v
 
-    module _ (c : ClaimRead) (ce : c ≡ read_as_claim line) where
-      pub line_claim : (x : Store) → c.refusal ≡ 0 → Served (claim_turn (books_of s) (claim_entering (table_for (books_of s) c.claim) c.claim)) x out at l e
-          → Served (line_turn (books_of s) line) x out at l e
-      line_claim x h v = let p = claim_held line c ce h in by_frame x (frame_claim s (frame_of line) out at l e x c.claim p.0 p.1 v)
+    pub line_claim : (c : ClaimLine) → read_as_claim line ≡ gives c → (x : Store)
+        → Served (claim_turn (books_of s) (claim_entering (table_for (books_of s) c) c)) x out at l e
+        → Served (line_turn (books_of s) line) x out at l e
+    line_claim c ce x v = let p = claim_held line c ce in by_frame x (frame_claim s (frame_of line) out at l e x c p.0 p.1 v)
 
-      module _ (no : c.refusal ≡ 0 → ⊥) (r : Ready s) (a : AskRead) (ae : a ≡ read_as_ask line) where
-        pub line_ask : a.refusal ≡ 0 → Put (ask_turn (books_of s) (reply (books_of s) (ask_meant a.ask))).printed out at l e → Served (line_turn (books_of s) line) s out at l e
-        line_ask h v =
-            let p = ask_held line a ae h in
-            by_frame s (frame_ask s (frame_of line) out at l e a.ask r (no_claim_held line c ce sure no) p.0 p.1 v)
+    module _ (k : ℕ) (no : read_as_claim line ≡ refused k) (r : Ready s) where
+      pub line_ask : (a : lines-Ask.Ask) → read_as_ask line ≡ gives a → Put (ask_turn (books_of s) (reply (books_of s) (ask_meant a))).printed out at l e
+          → Served (line_turn (books_of s) line) s out at l e
+      line_ask a ae v =
+          let p = ask_held line a ae in
+          by_frame s (frame_ask s (frame_of line) out at l e a r (no_claim_held line sure k no) p.0 p.1 v)
 
-        pub line_none : (a.refusal ≡ 0 → ⊥) → Put (refusal 10) out at l e → Served (line_turn (books_of s) line) s out at l e
-        line_none h v = by_frame s (frame_none s (frame_of line) out at l e r (no_claim_held line c ce sure no) (no_ask_held line a ae sure h) v)
+      pub line_none : (n : ℕ) → read_as_ask line ≡ refused n → Put (refusal 10) out at l e → Served (line_turn (books_of s) line) s out at l e
+      line_none n ae v = by_frame s (frame_none s (frame_of line) out at l e r (no_claim_held line sure k no) (no_ask_held line sure n ae) v)
 
 -- ---- the line that was cut
 

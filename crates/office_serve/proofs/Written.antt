@@ -6,6 +6,8 @@ use native.Mathlib.Omega.{arith}
 use lib.ListN.{length, take, drop, set, length-drop, drop_of_length-le}
 use lib.Seq.{sets, sets-eq, take_all, take_at, drop-drop}
 use borrow.Author.Tests.{lt-ltb, le-ltb}
+use Rattle.paper.specs.declared.refusals.Refusal.{Refusal}
+use Rattle.paper.specs.Outcomes.{number_of}
 use Rattle.paper.specs.Program.{decimal, refusal}
 use Rattle.office_serve.specs.Serving.{out_with, Put}
 
@@ -58,6 +60,25 @@ unfolding out_with
 part_put out at k bs q h = rw (q, drop-drop, sets-eq bs out at h) (sym (append_assoc (take at out) bs (drop (at + length bs) out)))
 
 -- ---- a refusal
+
+-- no refusal's number has more than two digits
+pub two_digits : (r : Refusal) → number_of r < 100
+two_digits Refusal.OutOfRange = omega arith
+two_digits Refusal.Unsound = omega arith
+two_digits Refusal.TableFull = omega arith
+two_digits Refusal.Coordinates = omega arith
+two_digits Refusal.PageSize = omega arith
+two_digits Refusal.Snapshot = omega arith
+two_digits Refusal.Mark = omega arith
+two_digits Refusal.NoLine = omega arith
+two_digits Refusal.Fields = omega arith
+two_digits Refusal.OtherTable = omega arith
+two_digits Refusal.RoomTooShort = omega arith
+two_digits Refusal.NotPresentAsk = omega arith
+two_digits Refusal.Page = omega arith
+two_digits Refusal.ListFull = omega arith
+two_digits Refusal.Complete = omega arith
+two_digits Refusal.KnownReference = omega arith
 
 refusal_one : (n : ℕ) → n < 10 → refusal n ≡ 114 ∷ 101 ∷ 102 ∷ 117 ∷ 115 ∷ 101 ∷ 100 ∷ 32 ∷ (48 + n) ∷ 10 ∷ []
 unfolding refusal decimal

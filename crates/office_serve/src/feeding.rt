@@ -1,5 +1,5 @@
-// The office over chunks of its input.
-ghost use Rattle.std.specs.Prelude.{◌≡◌, ◌+◌, ◌<◌, ◌≤◌, true, length};
+// The office over chunks of its input. Header and slices are parameters in this crate, as wherever a call writes to a table (tree::runs).
+ghost use Rattle.std.specs.Prelude.{◌+◌, ◌<◌, ◌≤◌, ◌↔◌, IsTrue, length};
 ghost use Rattle.paper.specs.Tree.{lent_mut};
 ghost use Rattle.paper.specs.Program.{OfficeState};
 ghost use Rattle.office_serve.specs.Feeding.{Stands, Set, Turning, Moved, Ended};
@@ -20,6 +20,16 @@ pub struct Sitting {
     pub written: usize,
 }
 
+impl Sitting {
+    // [10.10] Whether there is a byte to read, a line left and room to write.
+    fn goes_on(self, chunk: &[u8], out: &[u8]) -> bool
+        requires { self.written ≤ length out.now }
+        ensures { IsTrue result ↔ Turning self (length chunk.now) (length out.now) }
+    {
+        self.at < chunk.len() && self.left > 0 && self.written + LONGEST_ANSWER <= out.len()
+    }
+}
+
 // Reads on to the end of a line, which is served, or of the chunk.
 fn turn(
     sit: Sitting,
@@ -34,47 +44,35 @@ fn turn(
     ensures moved { (o : OfficeState) → Stands (lent_mut sit.table references.entry coordinates.entry nodes.entry) line.old sit o
         → Moved o chunk.now sit out.old (lent_mut result.table references.exit coordinates.exit nodes.exit) line.new result out.new }
     ensures ready { Set (lent_mut result.table references.exit coordinates.exit nodes.exit) line.new }
-    ensures on { (sit.at < result.at) × (result.written ≤ length out.old) }
+    ensures on { sit.at < result.at }
+    ensures short { result.written ≤ length out.old }
 {
-    let t = sit.table;
-    let size = sit.size;
-    let at = sit.at;
-    let w = sit.written;
-    let c = office_cut::cut(line, size, chunk, at);
+    let c = office_cut::cut(line, sit.size, chunk, sit.at);
     if !c.whole {
         return Sitting {
-            table: t,
             size: c.size,
-            left: sit.left,
             at: c.at,
-            written: w,
+            ..sit
         };
     }
-    let s = serve_cut(t, references, coordinates, nodes, line, c.size, out, w);
-    let after = s.table;
+    let mut table = sit.table;
+    let written = serve_cut(
+        &mut table,
+        references,
+        coordinates,
+        nodes,
+        line,
+        c.size,
+        out,
+        sit.written,
+    );
     Sitting {
-        table: after,
+        table,
         size: 0,
         left: sit.left - 1,
         at: c.at,
-        written: s.at,
+        written,
     }
-}
-
-// [10.10] Whether there is a byte to read, a line left and room to write.
-fn goes_on(sit: Sitting, chunk: usize, out: usize) -> bool
-    ensures { (result ≡ true → Turning sit chunk out) × (Turning sit chunk out → result ≡ true) }
-{
-    if chunk <= sit.at {
-        return false;
-    }
-    if sit.left < 1 {
-        return false;
-    }
-    if out < LONGEST_ANSWER {
-        return false;
-    }
-    sit.written <= out - LONGEST_ANSWER
 }
 
 // [10.11] Reads on while there is room to write: to the end of the chunk, or of what may be read.
@@ -96,7 +94,8 @@ pub fn feed(
     ensures stops { Turning result (length chunk.now) (length out.old) → ⊥ }
 {
     let mut n = sit;
-    while goes_on(n, chunk.len(), out.len()) {
+    // No index is counted: where a line ends is known when it is served.
+    while n.goes_on(chunk, out) {
         n = turn(n, references, coordinates, nodes, line, chunk, out);
     }
     n
@@ -115,14 +114,18 @@ pub fn finish(
     ensures done { (o : OfficeState) → Stands (lent_mut sit.table references.entry coordinates.entry nodes.entry) line.now sit o → Ended o out.old sit.written out.new result }
     ensures short { result ≤ length out.old }
 {
-    let t = sit.table;
-    let w = sit.written;
-    if sit.left < 1 {
-        return w;
+    if sit.left == 0 || sit.size == 0 {
+        return sit.written;
     }
-    if sit.size < 1 {
-        return w;
-    }
-    let s = serve_cut(t, references, coordinates, nodes, line, sit.size, out, w);
-    s.at
+    let mut table = sit.table;
+    serve_cut(
+        &mut table,
+        references,
+        coordinates,
+        nodes,
+        line,
+        sit.size,
+        out,
+        sit.written,
+    )
 }

@@ -7,61 +7,62 @@ ghost use Rattle.office_serve.specs.Serving.{books_of, Serving, Served, ServedCu
 ghost use Rattle.paper.specs.Limits.{longest_answer};
 
 use super::asks::take_ask;
-use super::claims::{Step, take_claim};
+use super::claims::take_claim;
 use super::refusing::refuse;
+use paper::lent::LentTable;
+use paper::refusals::Refusal;
 use paper::tables::Table;
 
-// [10.6] Serves a sound line: a claim, an ask, or neither.
+// [10.6] Serves a sound line, a claim, an ask, or neither, and gives where what was said ends.
 fn serve_sound(
-    t: Table,
+    t: &mut Table,
     references: &mut [u32],
     coordinates: &mut [i32],
     nodes: &mut [u64],
     line: &[u8],
     out: &mut [u8],
     at: usize,
-) -> Step
-    requires { Serving (lent_mut t references coordinates nodes) (length out.old) at × (is_line line.now ≡ true) }
-    ensures { Served (line_turn (books_of (lent_mut t references.entry coordinates.entry nodes.entry)) line.now) (lent_mut result.table references.exit coordinates.exit nodes.exit) out.old at out.new result.at }
+) -> usize
+    requires { Serving (lent_mut t.old references coordinates nodes) (length out.old) at × (is_line line.now ≡ true) }
+    ensures { Served (line_turn (books_of (lent_mut t.old references.entry coordinates.entry nodes.entry)) line.now) (lent_mut t.new references.exit coordinates.exit nodes.exit) out.old at out.new result }
 {
-    let as_claim = lines::claim_in(line);
-    if as_claim.refusal == 0 {
-        let claim = as_claim.claim;
-        return take_claim(t, references, coordinates, nodes, claim, out, at);
+    match lines::claim_in(line) {
+        Ok(claim) => take_claim(t, references, coordinates, nodes, claim, out, at),
+        Err(_) => match lines::ask_in(line) {
+            Ok(ask) => take_ask(
+                &LentTable::new(*t, references, coordinates, nodes),
+                ask,
+                out,
+                at,
+            ),
+            Err(_) => refuse(out, at, Refusal::Fields),
+        },
     }
-    let as_ask = lines::ask_in(line);
-    if as_ask.refusal == 0 {
-        let ask = as_ask.ask;
-        let end = take_ask(t, references, coordinates, nodes, ask, out, at);
-        return Step { table: t, at: end };
-    }
-    let end = refuse(out, at, 10);
-    Step { table: t, at: end }
 }
 
 // Serves a line, which is found sound once.
 fn serve_line(
-    t: Table,
+    t: &mut Table,
     references: &mut [u32],
     coordinates: &mut [i32],
     nodes: &mut [u64],
     line: &[u8],
     out: &mut [u8],
     at: usize,
-) -> Step
-    requires { Serving (lent_mut t references coordinates nodes) (length out.old) at }
-    ensures { Served (line_turn (books_of (lent_mut t references.entry coordinates.entry nodes.entry)) line.now) (lent_mut result.table references.exit coordinates.exit nodes.exit) out.old at out.new result.at }
+) -> usize
+    requires { Serving (lent_mut t.old references coordinates nodes) (length out.old) at }
+    ensures { Served (line_turn (books_of (lent_mut t.old references.entry coordinates.entry nodes.entry)) line.now) (lent_mut t.new references.exit coordinates.exit nodes.exit) out.old at out.new result }
 {
     if line_digits::is_sound(line) {
-        return serve_sound(t, references, coordinates, nodes, line, out, at);
+        serve_sound(t, references, coordinates, nodes, line, out, at)
+    } else {
+        refuse(out, at, Refusal::NoLine)
     }
-    let end = refuse(out, at, 9);
-    Step { table: t, at: end }
 }
 
 // [10.8] Serves the line that was cut: a size over the room's length stands for any longer line.
 pub fn serve_cut(
-    t: Table,
+    t: &mut Table,
     references: &mut [u32],
     coordinates: &mut [i32],
     nodes: &mut [u64],
@@ -69,13 +70,13 @@ pub fn serve_cut(
     size: usize,
     out: &mut [u8],
     at: usize,
-) -> Step
-    requires { Serving (lent_mut t references coordinates nodes) (length out.old) at × (length line.now ≡ longest_answer) }
-    ensures { ServedCut line.now size (books_of (lent_mut t references.entry coordinates.entry nodes.entry)) (lent_mut result.table references.exit coordinates.exit nodes.exit) out.old at out.new result.at }
+) -> usize
+    requires { Serving (lent_mut t.old references coordinates nodes) (length out.old) at × (length line.now ≡ longest_answer) }
+    ensures { ServedCut line.now size (books_of (lent_mut t.old references.entry coordinates.entry nodes.entry)) (lent_mut t.new references.exit coordinates.exit nodes.exit) out.old at out.new result }
 {
-    if line.len() < size {
-        let end = refuse(out, at, 9);
-        return Step { table: t, at: end };
+    if size <= line.len() {
+        serve_line(t, references, coordinates, nodes, &line[..size], out, at)
+    } else {
+        refuse(out, at, Refusal::NoLine)
     }
-    serve_line(t, references, coordinates, nodes, &line[0..size], out, at)
 }

@@ -82,10 +82,6 @@ stood (begun rf ps rs l len) =
 stood (next chunk se u) = next_stood chunk (stood se) u
 stood (feeds se f) = fed_stood (stood se) f
 
--- the room is emptied where nothing is left to write
-pub emptied_is : (sit : Sitting) (left : ℕ) → left ≡ 0 → record { table = sit.table; size = sit.size; left = sit.left; at = sit.at; written = left } ≡ emptied_of sit
-emptied_is sit left e = rw e
-
 -- [10.12] before the next read, all that the office says to what was read is handed to the writer
 pub answered_printed : {xs : List ℕ} {s : Store} {l : List ℕ} {sit : Sitting} (a : BetweenReads xs s l sit) → a.within.handed_over ≡ (fed office_start xs).printed
 answered_printed a = let t = stood a.within.session in sym t.printed ∙ ap (λ (x : OfficeState). x.printed) (used_up t a.used)

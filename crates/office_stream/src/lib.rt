@@ -3,30 +3,39 @@
 // the office can be talked to through a pipe.
 #![tactic(auto)]
 
-ghost use Rattle.std.specs.Prelude.{◌≡◌, ℕ, ◌<◌, ◌≤◌, true, false, ◌⊎◌, List, ◌++◌, length, take};
-ghost use Rattle.paper.specs.Tree.{lent_mut};
+ghost use Rattle.std.specs.Prelude.{◌≡◌, ℕ, ◌≤◌, List, ◌++◌, length, take};
 ghost use Rattle.paper.specs.Program.{program};
-ghost use Rattle.office_serve.specs.Feeding.{Set};
-ghost use Rattle.office_session.specs.Sittings.{anew_of, emptied_of, sitting_start, ProgramMemory};
-ghost use Rattle.office_session.specs.Session.{BetweenReads, RanWhole};
-ghost use Rattle.paper.specs.Limits.{longest_answer};
+ghost use Rattle.office_session.specs.Sittings.{anew_of, emptied_of, sitting_start};
+ghost use Rattle.office_session.specs.Session.{RanWhole};
+ghost use Rattle.office_stream.specs.Memory.{IsReady, HasAnswered};
 
 use office_serve::feeding::{Sitting, feed, finish};
 use paper::limits::{LONGEST_ANSWER, OFFICE_CLAIMS, OFFICE_COORDINATES, OFFICE_NODES};
 use paper::tables::Table;
 use std::io::{Read, Write};
 
+// [10.12] Bytes of a chunk, and of the room that what is said to it is written into.
+const CHUNK: usize = 65536;
+
+// The office, and the memory that it works in.
+#[derive(Drop)]
+struct Program {
+    sitting: Sitting,
+    references: [u32; OFFICE_CLAIMS],
+    coordinates: [i32; OFFICE_COORDINATES],
+    nodes: [u64; OFFICE_NODES],
+    line: [u8; LONGEST_ANSWER],
+    out: [u8; CHUNK],
+}
+
 // How a sitting stands at the start of a chunk.
 fn anew(sit: Sitting) -> Sitting
     ensures { result ≡ anew_of sit }
 {
-    let t = sit.table;
     Sitting {
-        table: t,
-        size: sit.size,
-        left: sit.left,
         at: 0,
         written: 0,
+        ..sit
     }
 }
 
@@ -35,7 +44,7 @@ fn hand_over<'a, W: Write>(output: &mut W, out: &'a [u8], w: usize) -> &'a [u8]
     requires { w ≤ length out.now }
     ensures { result.now ≡ take w out.now }
 {
-    let printed = &out[0..w];
+    let printed = &out[..w];
     let _ = output.write_all(printed);
     printed
 }
@@ -45,206 +54,109 @@ fn emptied<W: Write>(output: &mut W, sit: Sitting, out: &[u8]) -> Sitting
     requires { sit.written ≤ length out.now }
     ensures { result ≡ emptied_of sit }
 {
-    let t = sit.table;
-    let w = sit.written;
-    let printed = hand_over(output, out, w);
+    let printed = hand_over(output, out, sit.written);
     Sitting {
-        table: t,
-        size: sit.size,
-        left: sit.left,
-        at: sit.at,
-        written: w - printed.len(),
+        written: sit.written - printed.len(),
+        ..sit
     }
 }
 
-fn unread(sit: Sitting, n: usize) -> bool
-    ensures { (result ≡ true → (sit.at < n) × (0 < sit.left)) × (result ≡ false → (n ≤ sit.at) ⊎ (sit.left ≡ 0)) }
-{
-    if n <= sit.at {
-        return false;
+impl Program {
+    // [10.1] [10.10] Before the first byte. The table's number, measure and d are those of the first claim, once there is one.
+    fn new() -> Self
+        ensures { result.sitting ≡ sitting_start }
+    {
+        Self {
+            sitting: Sitting {
+                table: Table {
+                    number: 0,
+                    measure: 1,
+                    d: 1,
+                    capacity: OFFICE_CLAIMS,
+                    count: 0,
+                    used: 0,
+                },
+                size: 0,
+                left: 4_294_967_295,
+                at: 0,
+                written: 0,
+            },
+            references: [0; OFFICE_CLAIMS],
+            coordinates: [0; OFFICE_COORDINATES],
+            nodes: [0; OFFICE_NODES],
+            line: [0; LONGEST_ANSWER],
+            out: [0; CHUNK],
+        }
     }
-    if sit.left < 1 {
-        return false;
+
+    // [10.11] [10.12] Takes a chunk of the input, and writes what the office says to it.
+    fn pump<W: Write>(&mut self, output: &mut W, chunk: &[u8])
+        requires { IsReady self.old }
+        ensures ready { IsReady self.new }
+        ensures answered { (xs : List ℕ) → HasAnswered xs self.old → HasAnswered (xs ++ chunk.now) self.new }
+    {
+        self.sitting = anew(self.sitting);
+        // No index is counted: how far the chunk is read is known when it was fed.
+        while self.sitting.at < chunk.len() && self.sitting.left > 0 {
+            self.sitting = feed(
+                self.sitting,
+                &mut self.references,
+                &mut self.coordinates,
+                &mut self.nodes,
+                &mut self.line,
+                chunk,
+                &mut self.out,
+            );
+            self.sitting = emptied(output, self.sitting, &self.out);
+        }
     }
-    true
-}
 
-// [10.11] [10.12] Takes a chunk of the input, and writes what the office says to it.
-fn pump<W: Write>(
-    output: &mut W,
-    sit: Sitting,
-    references: &mut [u32],
-    coordinates: &mut [i32],
-    nodes: &mut [u64],
-    line: &mut [u8],
-    chunk: &[u8],
-    out: &mut [u8],
-) -> Sitting
-    requires { Set (lent_mut sit.table references coordinates nodes) line.old × (longest_answer ≤ length out.old) }
-    ensures ready { Set (lent_mut result.table references.exit coordinates.exit nodes.exit) line.new }
-    ensures answered { (xs : List ℕ) → BetweenReads xs (lent_mut sit.table references.entry coordinates.entry nodes.entry) line.old sit
-        → BetweenReads (xs ++ chunk.now) (lent_mut result.table references.exit coordinates.exit nodes.exit) line.new result }
-{
-    let mut n = anew(sit);
-    while unread(n, chunk.len()) {
-        n = feed(n, references, coordinates, nodes, line, chunk, out);
-        n = emptied(output, n, out);
+    // [10.12] [10.13] Reads once, takes what it got, and gives how many bytes that was; a read that fails gets nothing.
+    fn once<R: Read, W: Write>(&mut self, input: &mut R, output: &mut W, chunk: &mut [u8]) -> usize
+        requires { IsReady self.old }
+        ensures ready { IsReady self.new }
+        ensures answered { (xs : List ℕ) → HasAnswered xs self.old → HasAnswered (xs ++ take result chunk.new) self.new }
+    {
+        let got = input.read(chunk).unwrap_or(0);
+        self.pump(output, &chunk[..got]);
+        got
     }
-    n
-}
 
-// The office after a read, and how many bytes that got.
-#[derive(Clone, Copy)]
-struct Pause {
-    sitting: Sitting,
-    got: usize,
-}
-
-// [10.12] [10.13] Reads once, and takes what it got; a read that fails gets nothing.
-fn once<R: Read, W: Write>(
-    input: &mut R,
-    output: &mut W,
-    sit: Sitting,
-    references: &mut [u32],
-    coordinates: &mut [i32],
-    nodes: &mut [u64],
-    line: &mut [u8],
-    chunk: &mut [u8],
-    out: &mut [u8],
-) -> Pause
-    requires { Set (lent_mut sit.table references coordinates nodes) line.old × (longest_answer ≤ length out.old) }
-    ensures ready { Set (lent_mut result.sitting.table references.exit coordinates.exit nodes.exit) line.new }
-    ensures answered { (xs : List ℕ) → BetweenReads xs (lent_mut sit.table references.entry coordinates.entry nodes.entry) line.old sit
-        → BetweenReads (xs ++ take result.got chunk.new) (lent_mut result.sitting.table references.exit coordinates.exit nodes.exit) line.new result.sitting }
-{
-    let n = input.read(chunk).unwrap_or(0);
-    let after = pump(
-        output,
-        sit,
-        references,
-        coordinates,
-        nodes,
-        line,
-        &chunk[..n],
-        out,
-    );
-    Pause {
-        sitting: after,
-        got: n,
-    }
-}
-
-// [10.10] [10.13] Whether to read again: there was something to read, and a line is left.
-fn is_open(p: Pause) -> bool {
-    if p.got < 1 {
-        return false;
-    }
-    let sit = p.sitting;
-    0 < sit.left
-}
-
-// [10.1] [10.10] The sitting of an empty table. Its number, measure and d are those of the first claim, once there is one.
-fn open_sitting() -> Sitting
-    ensures { result ≡ sitting_start }
-{
-    Sitting {
-        table: Table {
-            number: 0,
-            measure: 1,
-            d: 1,
-            capacity: OFFICE_CLAIMS,
-            count: 0,
-            used: 0,
-        },
-        size: 0,
-        left: 4294967295,
-        at: 0,
-        written: 0,
-    }
-}
-
-fn going(open: bool, turns: u64) -> bool
-    ensures { result ≡ true → 0 < turns }
-{
-    if open {
-        return turns > 0;
-    }
-    false
-}
-
-// [10.9] [10.11] The input is over: hands over what the office then says, and gives how much that was.
-fn end_input<W: Write>(
-    output: &mut W,
-    sit: Sitting,
-    references: &mut [u32],
-    coordinates: &mut [i32],
-    nodes: &mut [u64],
-    line: &[u8],
-    out: &mut [u8],
-) -> usize
-    requires { Set (lent_mut sit.table references coordinates nodes) line.now × (longest_answer ≤ length out.old) }
-    ensures { (xs : List ℕ) → (a : BetweenReads xs (lent_mut sit.table references.entry coordinates.entry nodes.entry) line.now sit)
-        → a.within.handed_over ++ take result out.new ≡ program xs }
-{
-    let f = anew(sit);
-    let w = finish(f, references, coordinates, nodes, line, out);
-    let printed = hand_over(output, out, w);
-    printed.len()
-}
-
-// Reads to the end of the input. A proved loop has to end, and nothing says that an input does: a line of it may have
-// no end. So the loop counts its reads down, from a number that no run uses up.
-fn run<R: Read, W: Write>(
-    input: &mut R,
-    output: &mut W,
-    references: &mut [u32],
-    coordinates: &mut [i32],
-    nodes: &mut [u64],
-    line: &mut [u8],
-    chunk: &mut [u8],
-    out: &mut [u8],
-)
-    requires { ProgramMemory (length references.old) (length coordinates.old) (length nodes.old) (length line.old) (length out.old) }
-    ensures { RanWhole out.new }
-{
-    let mut sit = open_sitting();
-    let mut open = true;
-    let mut turns = u64::MAX;
-    while going(open, turns) {
-        let t = once(
-            input,
-            output,
-            sit,
-            references,
-            coordinates,
-            nodes,
-            line,
-            chunk,
-            out,
+    // [10.9] [10.11] The input is over: hands over what the office then says, and gives how much that was.
+    fn end_input<W: Write>(&mut self, output: &mut W) -> usize
+        requires { IsReady self.old }
+        ensures { (xs : List ℕ) → (a : HasAnswered xs self.old) → a.within.handed_over ++ take result self.new.out ≡ program xs }
+    {
+        let written = finish(
+            anew(self.sitting),
+            &mut self.references,
+            &mut self.coordinates,
+            &mut self.nodes,
+            &self.line,
+            &mut self.out,
         );
-        sit = t.sitting;
-        open = is_open(t);
-        turns -= 1;
+        hand_over(output, &self.out, written).len()
     }
-    end_input(output, sit, references, coordinates, nodes, line, out);
+
+    // Reads to the end of the input. A proved loop has to end, and nothing says that an input does: a line of it may have
+    // no end. So the loop counts its reads, to a number that no run uses up.
+    fn run<R: Read, W: Write>(&mut self, input: &mut R, output: &mut W)
+        requires { self.old.sitting ≡ sitting_start }
+        ensures { RanWhole self.new.out }
+    {
+        let mut chunk = [0u8; CHUNK];
+        for _ in 0..u64::MAX {
+            let got = self.once(input, output, &mut chunk);
+            // [10.10] [10.13] There was nothing to read, or no line is left.
+            if got == 0 || self.sitting.left == 0 {
+                break;
+            }
+        }
+        self.end_input(output);
+    }
 }
 
 // The program `office`, with memory of its own.
 pub fn office<R: Read, W: Write>(input: &mut R, output: &mut W) {
-    let mut references = [0u32; OFFICE_CLAIMS];
-    let mut coordinates = [0i32; OFFICE_COORDINATES];
-    let mut nodes = [0u64; OFFICE_NODES];
-    let mut line = [0u8; LONGEST_ANSWER];
-    let mut chunk = [0u8; 65536];
-    let mut out = [0u8; 65536];
-    run(
-        input,
-        output,
-        &mut references,
-        &mut coordinates,
-        &mut nodes,
-        &mut line,
-        &mut chunk,
-        &mut out,
-    );
+    Program::new().run(input, output);
 }

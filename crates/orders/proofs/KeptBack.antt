@@ -16,7 +16,8 @@ use Rattle.paper.specs.declared.orders.Order.TheVariants.{Near}
 use Rattle.paper.specs.declared.orders.Place.{Place}
 use Rattle.paper.specs.declared.orders.Place.TheVariants.{Start, After}
 use Rattle.paper.specs.Points.{Claim}
-use Rattle.paper.specs.Orders.{Item, Query, rank, before, item_of, listed, start_mark, follows, rest, following, mark_holds}
+use Rattle.paper.specs.declared.orders.Item.{Item}
+use Rattle.paper.specs.Orders.{Query, rank, before, item_of, listed, start_mark, follows, rest, following, mark_holds}
 use Rattle.paper.proofs.Tests.{and_first, and_second, never, or_right}
 use Rattle.orders.proofs.Lists.{all_mem}
 use Rattle.orders.proofs.Sorted.{before_same, rest_start, rest_follows}

@@ -9,7 +9,8 @@ use lib.Seq.{take_all}
 use Rattle.paper.specs.declared.orders.Order.{Order}
 use Rattle.paper.specs.declared.orders.Place.{Place}
 use Rattle.paper.specs.Points.{Claim}
-use Rattle.paper.specs.Orders.{Item, no_item, Query, earlier, item_of, listed, follows, snapshot_of, following, page_of, last_of}
+use Rattle.paper.specs.declared.orders.Item.{Item}
+use Rattle.paper.specs.Orders.{no_item, Query, earlier, item_of, listed, follows, snapshot_of, following, page_of, last_of}
 use Rattle.orders.proofs.Lists.{All, all_get_d}
 use Rattle.orders.proofs.Sorted.{Rising, listed_are, listed_rising, rest_follows, all_rest, rising_rest}
 use Rattle.orders.proofs.Page.{last_all, last_more}

@@ -6,7 +6,8 @@ use mathlib.Core.List.{List, [], ◌∷◌, ◌++◌, Memᴰ}
 use native.Mathlib.Omega.{arith}
 use lib.ListN.{length, take, drop, get_or, set, length-take}
 use lib.Seq.{take-add, get_or-take}
-use Rattle.paper.specs.Orders.{Item, no_item}
+use Rattle.paper.specs.declared.orders.Item.{Item}
+use Rattle.paper.specs.Orders.{no_item}
 use Rattle.paper.specs.Ends.{every, last_item}
 use Rattle.paper.proofs.Tests.{and_first, and_second, and_both}
 

@@ -12,7 +12,8 @@ use lib.ListN.{length, get_or}
 use borrow.Author.Tests.{le-leb}
 use Rattle.paper.specs.declared.orders.Order.{Order}
 use Rattle.paper.specs.Points.{Claim}
-use Rattle.paper.specs.Orders.{Item, Query, earlier, insert, item_of, listed}
+use Rattle.paper.specs.declared.orders.Item.{Item}
+use Rattle.paper.specs.Orders.{Query, earlier, insert, item_of, listed}
 use Rattle.paper.proofs.Tests.{no_way}
 use Rattle.orders.proofs.Lists.{all_mem, all_get_d}
 use Rattle.orders.proofs.Sorted.{Rising, rising_at, before_same, before_not, IsOf, listed_are, listed_rising}

@@ -6,7 +6,8 @@ use mathlib.Core.List.{List}
 use native.Mathlib.Omega.{arith}
 use lib.ListN.{length, take, length-take}
 use borrow.Author.Tests.{leb-true, leb-false}
-use Rattle.paper.specs.Orders.{Item, last_of}
+use Rattle.paper.specs.declared.orders.Item.{Item}
+use Rattle.paper.specs.Orders.{last_of}
 
 -- what a last page says
 pub last_all : (n : ℕ) (r : List Item) → last_of n r ≡ true → length r ≤ n

@@ -6,6 +6,7 @@ use mathlib.Core.Logic.{◌⊎◌, inl, inr, ⊎_elim}
 use mathlib.Core.Bool.{Bool, true, false}
 use mathlib.Core.List.{List, [], ◌∷◌, ◌++◌, Memᴰ}
 use native.Mathlib.Omega.{arith}
+use Rattle.std.specs.Prelude.{None}
 use lib.Dec.{leb}
 use lib.ListN.{length, take, drop, get_or, length-take}
 use lib.Seq.{take-add, take_all, get_or-take}
@@ -14,7 +15,8 @@ use Rattle.paper.specs.declared.orders.Mark.{Mark}
 use Rattle.paper.specs.declared.orders.Place.{Place}
 use Rattle.paper.specs.declared.orders.Place.TheVariants.{Start, After}
 use Rattle.paper.specs.Points.{Claim}
-use Rattle.paper.specs.Orders.{Item, no_item, Query, item_of, listed, following, page_of, nothing, first_of, nearest_of, far_query, farthest_of, mark_holds}
+use Rattle.paper.specs.declared.orders.Item.{Item}
+use Rattle.paper.specs.Orders.{no_item, Query, item_of, listed, following, page_of, first_of, nearest_of, far_query, farthest_of, mark_holds}
 use Rattle.paper.specs.Ends.{mark_of}
 use Rattle.orders.proofs.Lists.{All, all_get_d, take_again}
 use Rattle.orders.proofs.Sorted.{rest_start, rest_next, IsOf, listed_are, listed_rising, listed_grown}
@@ -115,7 +117,7 @@ first_take zero l h = absurd (omega arith)
 first_take (suc size) [] h = refl
 first_take (suc size) (a ∷ l) h = refl
 
-pub first_some : (l : List Item) (a : Item) → Memᴰ a l → first_of l ≡ nothing → ⊥
+pub first_some : (l : List Item) (a : Item) → Memᴰ a l → first_of l ≡ None → ⊥
 unfolding first_of
 first_some [] a m e = elim m [ ]
 first_some (b ∷ l) a m e = let z : ◌≡◌ {A = ℕ} 0 1 = cc in omega arith
@@ -132,22 +134,22 @@ module _ (q : Query) (cs : List Claim) where
       sym (ap (λ (l : List Item). first_of (take size l)) (rest_start (far_query q).order (listed (far_query q) cs (length cs))) ∙ first_take size (listed (far_query q) cs (length cs)) h)
 
   -- [4.1] Nothing just where no claim is within reach
-  pub nearest_nothing : nearest_of q cs ≡ nothing → (k : ℕ) → k < length cs → q.reach < (item_of q cs k).distance
+  pub nearest_nothing : nearest_of q cs ≡ None → (k : ℕ) → k < length cs → q.reach < (item_of q cs k).distance
   unfolding nearest_of
   nearest_nothing e k h =
       ⊎_elim
       (λ w. absurd (first_some (listed q cs (length cs)) (item_of q cs k) (listed_has q cs (length cs) k h w) e))
       (λ l. l) (le_or_more (item_of q cs k).distance q.reach)
 
-  pub nearest_none : ((k : ℕ) → k < length cs → q.reach < (item_of q cs k).distance) → nearest_of q cs ≡ nothing
+  pub nearest_none : ((k : ℕ) → k < length cs → q.reach < (item_of q cs k).distance) → nearest_of q cs ≡ None
   unfolding nearest_of first_of
   nearest_none none = go (listed q cs (length cs)) (listed_are q cs (length cs))
     where
-      go : (l : List Item) → All (IsOf q cs (length cs)) l → first_of l ≡ nothing
+      go : (l : List Item) → All (IsOf q cs (length cs)) l → first_of l ≡ None
       go [] h = refl
       go (a ∷ l) h = absurd (let d : a.distance ≡ (item_of q cs a.number).distance = ap (λ (y : Item). y.distance) h.0.is in omega (arith, none a.number h.0.below, h.0.within))
 
   -- [4.2] Nothing where there is no claim; that there is something else where there is one needs the measure (walk, Farthest)
-  pub farthest_none : length cs ≡ 0 → farthest_of q cs ≡ nothing
+  pub farthest_none : length cs ≡ 0 → farthest_of q cs ≡ None
   unfolding farthest_of listed first_of
   farthest_none e = rw e

@@ -7,7 +7,8 @@ use native.Mathlib.Omega.{arith}
 use lib.IntN.{pos}
 use lib.ListN.{length, take, drop, replicate, length-append, length-drop}
 use lib.Seq.{take_at, drop_at}
-use Rattle.paper.specs.Orders.{Item, Query, query_in, flat, fronted}
+use Rattle.paper.specs.declared.orders.Item.{Item}
+use Rattle.paper.specs.Orders.{Query, query_in, flat, fronted}
 use Rattle.paper.specs.Fields.{in_slots, query_in_slots}
 use Rattle.paper.specs.Outcomes.{gives}
 use Rattle.paper.specs.Ends.{Codec, Listing, fresh, every, same_z, sound_in, taking}

@@ -12,7 +12,8 @@ use Rattle.paper.specs.declared.orders.Order.{Order}
 use Rattle.paper.specs.declared.orders.Place.{Place}
 use Rattle.paper.specs.declared.orders.Place.TheVariants.{Start, After}
 use Rattle.paper.specs.Points.{Claim, zero_claim}
-use Rattle.paper.specs.Orders.{Item, Query, rank, before, earlier, insert, item_of, listed, follows, rest}
+use Rattle.paper.specs.declared.orders.Item.{Item}
+use Rattle.paper.specs.Orders.{Query, rank, before, earlier, insert, item_of, listed, follows, rest}
 use Rattle.paper.specs.Ends.{mark_of, rising}
 use Rattle.paper.proofs.Tests.{no_way, and_both}
 use Rattle.orders.proofs.Lists.{All, all_map, all_take, all_get_d}

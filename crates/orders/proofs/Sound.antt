@@ -9,7 +9,8 @@ use lib.Dec.{leb, eqb}
 use borrow.Author.Tests.{leb-true, le-leb, eqb-true, eq-eqb}
 use Rattle.paper.specs.declared.orders.Order.{Order}
 use Rattle.paper.specs.declared.orders.Place.TheVariants.{After}
-use Rattle.paper.specs.Orders.{Item, follows, earlier}
+use Rattle.paper.specs.declared.orders.Item.{Item}
+use Rattle.paper.specs.Orders.{follows, earlier}
 use Rattle.paper.specs.Points.{in_range}
 use Rattle.paper.specs.Outcomes.{gives}
 use Rattle.paper.specs.Ends.{Answer, Codec, Listing, last_item, mark_of, leads, rising, every, fitting, started_well, sound_in, page_holds, joined_to, own_kind, taking}

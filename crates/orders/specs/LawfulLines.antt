@@ -5,7 +5,8 @@ use Rattle.std.specs.Int.Signed.{mag}
 use Rattle.paper.specs.declared.orders.Mark.{Mark}
 use Rattle.paper.specs.declared.orders.Place.{Place}
 use Rattle.paper.specs.declared.orders.Place.TheVariants.{Start, After}
-use Rattle.paper.specs.Orders.{Item, Query, snapshot_of}
+use Rattle.paper.specs.declared.orders.Item.{Item}
+use Rattle.paper.specs.Orders.{Query, snapshot_of}
 use Rattle.paper.specs.Points.{in_range}
 use Rattle.paper.specs.Outcomes.{gives}
 use Rattle.paper.specs.Ends.{Ask, Answer, Codec}

@@ -6,8 +6,8 @@ use Rattle.paper.specs.Tree.{cleared, new_node, near_side, raise, entered_from, 
 use Rattle.paper.specs.Frames.{be, num, glyph, digit, hexes, line_of, frame_of, pairs_ended, is_line}
 use Rattle.paper.specs.Fields.{head, front, coord_bytes, coords_in, in_slots, query_in_slots, scope_bytes, scope_in, scope_ok, item_frame, item_bytes, item_slots, numbers_ok, references_ok}
 use Rattle.paper.specs.Fields as Fields
-use Rattle.paper.specs.Lines.{bare_line, reading, head_ok, behind, query_at, query_fits, is_ask, ask_frame, ask_ranges, ask_fits, ask_ok, ask_at, an_ask, no_ask, read_as_ask}
-use Rattle.paper.specs.Lines.{answer_frame, answer_ranges, answer_fits, count_in, answer_ok, is_answer, answer_at, an_answer, no_answer, read_as_answer, claim_ok, no_claim, read_as_claim}
+use Rattle.paper.specs.Lines.{bare_line, reading, head_ok, behind, query_at, query_fits, is_ask, ask_frame, ask_ranges, ask_fits, ask_ok, ask_at, read_as_ask}
+use Rattle.paper.specs.Lines.{answer_frame, answer_ranges, answer_fits, count_in, answer_ok, is_answer, answer_at, read_as_answer, claim_ok, read_as_claim}
 use Rattle.paper.specs.Codec.{scope_of, place_in, ask_line, answer_line, ask_meant, answer_meant, read_ask, read_answer}
 use Rattle.paper.specs.Ends.{matches, answer_of, answer_to, line_answered, opening, present_place, every, rising, started_well, sound_in, asking, same_probe, same_query, same_place, to_present, page_holds, joined_to, taken, taking}
 use Rattle.paper.specs.Lists.{items_in, listing, unused_zero, held_well, opened_as, opening_held, asking_held, taking_held, held_after}
@@ -36,8 +36,8 @@ unfolding measure_of weigh joined distance in_range point cleared new_node near_
     opening present_place every rising started_well sound_in asking same_probe same_query same_place to_present page_holds joined_to taken taking
     items_in listing unused_zero held_well opened_as opening_held asking_held taking_held held_after
     be num glyph digit hexes line_of frame_of pairs_ended is_line head front coord_bytes coords_in in_slots query_in_slots scope_bytes scope_in scope_ok item_frame item_bytes
-    Fields.item_numbers item_slots numbers_ok references_ok bare_line reading head_ok behind query_at query_fits is_ask ask_frame ask_ranges ask_fits ask_ok ask_at an_ask no_ask read_as_ask
-    answer_frame answer_ranges answer_fits count_in answer_ok is_answer answer_at an_answer no_answer read_as_answer claim_ok no_claim read_as_claim
+    Fields.item_numbers item_slots numbers_ok references_ok bare_line reading head_ok behind query_at query_fits is_ask ask_frame ask_ranges ask_fits ask_ok ask_at read_as_ask
+    answer_frame answer_ranges answer_fits count_in answer_ok is_answer answer_at read_as_answer claim_ok read_as_claim
     scope_of place_in ask_line answer_line ask_meant answer_meant read_ask read_answer
 far_calls_marked =
     record {

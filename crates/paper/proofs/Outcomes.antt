@@ -5,7 +5,9 @@ use mathlib.Core.Bool.{Bool, true, false}
 use native.Mathlib.Omega.{arith}
 use lib.Dec.{eqb}
 use borrow.Author.Tests.{eqb-false}
-use Rattle.paper.specs.Outcomes.{Outcome, refused, gives, must, onto, number, leaves, Promise}
+use Rattle.std.specs.Prelude.{Result, Ok, Err, IsErrAnd}
+use Rattle.paper.specs.declared.refusals.Refusal.{Refusal}
+use Rattle.paper.specs.Outcomes.{Outcome, refused, gives, must, onto, number, number_of, told, showing, leaves, Promise}
 
 -- A call's refusals are one chain of tests, `must a 1 (must b 2 (gives x))`: behind a test that passes it goes on, at one that fails it
 -- stops. Ways through a call are these two, joined by `∙`, so that a new number costs one line of the chain and one of its proof.
@@ -54,6 +56,48 @@ pub number_is : {A : Type 0} (x : Outcome A) (n : ℕ) → n ≡ number x → (n
 number_is (refused m) n e h = ap refused (sym e)
 number_is (gives a) n e h = absurd (h e)
 
+-- ---- results
+
+-- no refusal has the number 0
+pub numbered : (r : Refusal) → number_of r ≡ 0 → ⊥
+numbered Refusal.OutOfRange h = omega arith
+numbered Refusal.Unsound h = omega arith
+numbered Refusal.TableFull h = omega arith
+numbered Refusal.Coordinates h = omega arith
+numbered Refusal.PageSize h = omega arith
+numbered Refusal.Snapshot h = omega arith
+numbered Refusal.Mark h = omega arith
+numbered Refusal.NoLine h = omega arith
+numbered Refusal.Fields h = omega arith
+numbered Refusal.OtherTable h = omega arith
+numbered Refusal.RoomTooShort h = omega arith
+numbered Refusal.NotPresentAsk h = omega arith
+numbered Refusal.Page h = omega arith
+numbered Refusal.ListFull h = omega arith
+numbered Refusal.Complete h = omega arith
+numbered Refusal.KnownReference h = omega arith
+
+-- what the number says that a result tells
+module _ {A : Type 0} (r : Result A Refusal) (n : ℕ) (e : number (told r) ≡ n) where
+  pub err_number : (why : Refusal) → r ≡ Err why → number_of why ≡ n
+  err_number why p = ap (λ (x : Result A Refusal). number (told x)) (sym p) ∙ e
+
+  pub ok_number : (a : A) → r ≡ Ok a → 0 ≡ n
+  ok_number a p = ap (λ (x : Result A Refusal). number (told x)) (sym p) ∙ e
+
+-- what is told by the refusal that `?` hands on
+pub told_on : {A : Type 0} (r : Result A Refusal) (why : Refusal) → IsErrAnd r (λ e. e ≡ why) → told r ≡ refused (number_of why)
+told_on (Err e) why p = ap (λ (x : Refusal). refused (number_of x)) p
+told_on (Ok a) why p = absurd p
+
+-- the same of all that a result tells
+module _ {A : Type 0} (r : Result A Refusal) (o : Outcome A) (e : told r ≡ o) where
+  pub err_told : (why : Refusal) → r ≡ Err why → o ≡ refused (number_of why)
+  err_told why p = sym e ∙ ap (λ (x : Result A Refusal). told x) p
+
+  pub ok_told : (a : A) → r ≡ Ok a → o ≡ gives a
+  ok_told a p = sym e ∙ ap (λ (x : Result A Refusal). told x) p
+
 -- Two calls that begin with the same tests: y ends behind them, and x goes on with z. One `must_behind` for each test gives the premise of
 -- `stops`: x is refused where y is.
 pub must_behind : {A B : Type 0} (b : Bool) (n : ℕ) (x z : Outcome A) (y : Outcome B) → x ≡ onto y (λ u. z) → must b n x ≡ onto (must b n y) (λ u. z)
@@ -72,6 +116,15 @@ pub record Through (A B : Type 0) (x : Outcome A) (f : A → Outcome B) (b : B) 
 pub through : {A B : Type 0} (x : Outcome A) (f : A → Outcome B) (b : B) → onto x f ≡ gives b → Through A B x f b
 through (refused n) f b p = absurd (let y : ◌≡◌ {A = ℕ} 0 1 = cc in omega arith)
 through (gives a) f b p = record { value = a; first = refl; second = p }
+
+-- what is given is not refused
+pub given_refused : {A : Type 0} (a : A) (n : ℕ) → gives a ≡ refused n → ⊥
+given_refused a n p = let y : ◌≡◌ {A = ℕ} 0 1 = cc in omega arith
+
+-- what is shown of a value changes no refusal
+pub number_showing : {A B : Type 0} (f : A → B) (o : Outcome A) → number o ≡ number (showing f o)
+number_showing f (refused n) = refl
+number_showing f (gives a) = refl
 
 pub same_given : {A : Type 0} (a b : A) → gives a ≡ gives b → a ≡ b
 same_given a b p = cc

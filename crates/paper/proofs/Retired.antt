@@ -1,7 +1,7 @@
 -- 4 is retired: no call of `nearby` tells it, nor does the program of a claim or an ask. Assumes nothing.
 use Prim.Native.Nat.{ℕ}
 use mathlib.Core.Path.{◌≡◌, refl}
-use mathlib.Core.Bool.{Bool, true, false, cond}
+use mathlib.Core.Bool.{Bool}
 use mathlib.Core.List.{List}
 use native.Mathlib.Omega.{arith}
 use lib.IntN.{ℤ}
@@ -10,8 +10,7 @@ use Rattle.paper.specs.declared.orders.Place.{Place}
 use Rattle.paper.specs.declared.lines.ClaimLine.{ClaimLine}
 use Rattle.paper.specs.Orders.{Query}
 use Rattle.paper.specs.Tree.{Store, fits, sound}
-use Rattle.paper.specs.Frames.{is_line, frame_of}
-use Rattle.paper.specs.Lines.{bare_line, reading, read_as_ask, read_as_answer, read_as_claim, is_ask, an_ask, no_ask, is_answer, an_answer, no_answer, claim_ok, a_claim, no_claim, ask_at, answer_at, claim_at}
+use Rattle.paper.specs.Lines.{bare_line, reading, read_as_ask, read_as_answer, read_as_claim}
 use Rattle.paper.specs.Ends.{Ask, Table, answer_to, line_answered, opening, asking, taken, taking}
 use Rattle.paper.specs.Codec.{lines, read_ask, read_answer}
 use Rattle.paper.specs.Lists.{Held, opening_held, asking_held, taking_held}
@@ -34,9 +33,9 @@ pub record NoCallTells (r : ℕ) : Type 0 where
   pub write_ask : (h : Held) (size out : ℕ) → Untold r (asking_held lines h size out)
   pub take : (h : Held) (line : List ℕ) → Untold r (taking_held lines h line)
   pub write_line : (fits : Bool) (need : ℕ) (f : List ℕ) (out : ℕ) → Untold r (bare_line fits need f out)
-  pub read_ask_lem : (l : List ℕ) → (read_as_ask l).refusal ≡ r → ⊥
-  pub read_answer_lem : (l : List ℕ) → (read_as_answer l).refusal ≡ r → ⊥
-  pub read_claim : (l : List ℕ) → (read_as_claim l).refusal ≡ r → ⊥
+  pub read_ask_lem : (l : List ℕ) → Untold r (read_as_ask l)
+  pub read_answer_lem : (l : List ℕ) → Untold r (read_as_answer l)
+  pub read_claim : (l : List ℕ) → Untold r (read_as_claim l)
   -- [10.6] the program, of a claim and of an ask; what is neither it refuses under 9 or 10
   pub enter_line : (t : Table) (c : ClaimLine) → Untold r (claim_entering t c)
   pub answer_ask : (b : Books) (a : Ask) → Untold r (reply b a)
@@ -54,20 +53,9 @@ unfolding reply reply_to
 replied closed a = record { other = λ e. omega arith }
 replied (opened t) a = onto_untold 4 (answer_to t a) _ (answered t a) (λ y. gives_untold 4 _ refl)
 
--- a line, by a bare reader
-read : {A : Type 0} (told : A → ℕ) (ok : List ℕ → Bool) (value : List ℕ → A) (none : ℕ → A) (l : List ℕ)
-    → ((f : List ℕ) → told (value f) ≡ 0) → ((n : ℕ) → told (none n) ≡ n) → told (reading ok value none l) ≡ 4 → ⊥
-unfolding reading
-read told ok value none l zero same = go (is_line l) (ok (frame_of l))
-  where
-    go : (line kind : Bool) → told (cond line (cond kind (value (frame_of l)) (none 10)) (none 9)) ≡ 4 → ⊥
-    go true true e = omega (arith, zero (frame_of l))
-    go true false e = omega (arith, same 10)
-    go false kind e = omega (arith, same 9)
-
 pub four_is_retired : NoCallTells 4
-unfolding make_call table_refusal enter_call nearest_call farthest_call page_call office_call line_answered read_ask opening_held opening asking_held asking
-    taking_held taking taken read_answer bare_line read_as_ask an_ask no_ask read_as_answer an_answer no_answer read_as_claim a_claim no_claim claim_entering
+unfolding reading make_call table_refusal enter_call nearest_call farthest_call page_call office_call line_answered read_ask opening_held opening asking_held asking
+    taking_held taking taken read_answer bare_line read_as_ask read_as_answer read_as_claim claim_entering
 four_is_retired =
     record {
       make_table = λ s. search untold depth 12;
@@ -81,9 +69,9 @@ four_is_retired =
       write_ask = λ h n out. search untold depth 12;
       take = λ h l. search untold depth 12;
       write_line = λ b need f out. search untold depth 12;
-      read_ask_lem = λ l. read (λ r. r.refusal) is_ask (λ f. an_ask (ask_at f)) no_ask l (λ f. refl) (λ n. refl);
-      read_answer_lem = λ l. read (λ r. r.refusal) is_answer (λ f. an_answer (answer_at f)) no_answer l (λ f. refl) (λ n. refl);
-      read_claim = λ l. read (λ r. r.refusal) claim_ok (λ f. a_claim (claim_at f)) no_claim l (λ f. refl) (λ n. refl);
+      read_ask_lem = λ l. search untold depth 12;
+      read_answer_lem = λ l. search untold depth 12;
+      read_claim = λ l. search untold depth 12;
       enter_line = λ t c. search untold depth 12;
       answer_ask = replied;
     }

@@ -1,12 +1,11 @@
 -- The public calls on tables by example, each worked by hand from the rules: what a call gives, and [9.1] of two refusals that apply the
 -- earlier. The claims, probe and reach are those of examples a to j. Definitions only.
-use Rattle.std.specs.Prelude.{ℕ, ◌+◌, ◌-◌, ◌*◌, ◌≡◌, true, false, List, [], ◌∷◌, ◌++◌, ℤ, pos, replicate}
+use Rattle.std.specs.Prelude.{ℕ, ◌+◌, ◌-◌, ◌*◌, ◌≡◌, true, false, List, [], ◌∷◌, ◌++◌, ℤ, pos, replicate, None, Some}
 use Rattle.paper.specs.declared.orders.Order.TheVariants.{Near, Far}
 use Rattle.paper.specs.declared.orders.Place.{Place}
 use Rattle.paper.specs.declared.orders.Place.TheVariants.{Start}
 use Rattle.paper.specs.declared.tables.Table.{Table}
 use Rattle.paper.specs.Limits.{most_coordinates, most_claims, most_page, longest_frame, longest_answer, longest_ask, longest_claim}
-use Rattle.paper.specs.Orders.{nothing, found}
 use Rattle.paper.specs.Tree.{Store, store}
 use Rattle.paper.specs.Outcomes.{Outcome, refused, gives, number}
 use Rattle.paper.specs.Frames.{line_of}
@@ -169,15 +168,15 @@ pub record EnteringMarked : Type 0 where
 
 pub record AskingMarked : Type 0 where
   -- examples c and d
-  pub nearest : nearest_call five_stored four 5 ≡ gives (found (item 1 102 1))
-  pub within0 : nearest_call five_stored four 0 ≡ gives nothing
-  pub within1 : nearest_call five_stored four 1 ≡ gives (found (item 1 102 1))
+  pub nearest : nearest_call five_stored four 5 ≡ gives (Some (item 1 102 1))
+  pub within0 : nearest_call five_stored four 0 ≡ gives None
+  pub within1 : nearest_call five_stored four 1 ≡ gives (Some (item 1 102 1))
   pub nearest5 : nearest_call five_stored wide 5 ≡ refused 5
   pub nearest2 : nearest_call changed wide 5 ≡ refused 2
   pub nearest1 : nearest_call short four 5 ≡ refused 1
-  pub farthest : farthest_call five_stored four ≡ gives (found (item 2 103 5))
+  pub farthest : farthest_call five_stored four ≡ gives (Some (item 2 103 5))
   -- a table without a claim
-  pub of_none : farthest_call none four ≡ gives nothing
+  pub of_none : farthest_call none four ≡ gives None
   pub farthest5 : farthest_call five_stored wide ≡ refused 5
   pub farthest2 : farthest_call changed wide ≡ refused 2
   pub farthest1 : farthest_call short four ≡ refused 1

@@ -1,15 +1,14 @@
 -- Section 9 of the rules: the public calls on tables in lent memory, as functions of their inputs. Definitions only.
 -- Making and entering stand in `Runs`, lists in `Lists`, bare lines in `Lines`.
-use Rattle.std.specs.Prelude.{ℕ, ◌*◌, ◌<◌, ◌≡◌, Bool, List, leb, eqb, ℤ, length}
-use Rattle.paper.specs.declared.orders.Found.TheVariants.{Nothing, Item as AnItem}
-use Rattle.paper.specs.declared.orders.Nearest as Answers
+use Rattle.std.specs.Prelude.{ℕ, ◌*◌, ◌<◌, ◌≡◌, Bool, List, leb, eqb, ℤ, length, Option, None, Some}
 use Rattle.paper.specs.declared.orders.Order.{Order}
 use Rattle.paper.specs.declared.orders.Order.TheVariants.{Near}
-use Rattle.paper.specs.declared.orders.Page as Pages
+use Rattle.paper.specs.declared.orders.Paged.{Paged}
 use Rattle.paper.specs.declared.orders.Place.{Place}
 use Rattle.paper.specs.declared.tables.Table.{Table}
-use Rattle.paper.specs.Orders.{Item, Query, Found, found_shown, following, page_of, last_of, nearest_of, farthest_of, snapshot_holds, mark_holds, fronted}
-use Rattle.paper.specs.Outcomes.{Outcome, refused, gives, must, number}
+use Rattle.paper.specs.declared.orders.Item.{Item}
+use Rattle.paper.specs.Orders.{Query, following, page_of, last_of, nearest_of, farthest_of, snapshot_holds, mark_holds, fronted}
+use Rattle.paper.specs.Outcomes.{Outcome, refused, gives, must, number, showing}
 use Rattle.paper.specs.Tree.{Store, claims_in, fits, sound}
 use Rattle.paper.specs.Ends.{table_of, line_answered, answer_room, size_holds}
 use Rattle.paper.specs.Codec.{lines}
@@ -32,23 +31,18 @@ abbrev pub aimed : {A : Type 0} → Store → List ℤ → Outcome A → Outcome
 aimed s probe x = on_table s (must (eqb (length probe) s.table.d) 5 x)
 
 -- [9.7] [4.1] nearest
-unfoldable pub nearest_call : Store → List ℤ → ℕ → Outcome Found
+unfoldable pub nearest_call : Store → List ℤ → ℕ → Outcome (Option Item)
 nearest_call s probe reach = aimed s probe (gives (nearest_of (table_query s.table Near probe reach) (claims_in s)))
 
 -- [9.7] [4.2] farthest
-unfoldable pub farthest_call : Store → List ℤ → Outcome Found
+unfoldable pub farthest_call : Store → List ℤ → Outcome (Option Item)
 farthest_call s probe = aimed s probe (gives (farthest_of (table_query s.table Near probe 0) (claims_in s)))
 
--- how their outcome is shown
-abbrev pub nearest_shown : Outcome Found → Answers.Nearest
-nearest_shown (refused n) = Answers.TheVariants.Refused n
-nearest_shown (gives f) = Answers.TheVariants.Answer (found_shown f)
-
--- [4.2] what farthest's result says of the count of claims: Nothing just where there is none; a refusal has its number
-abbrev pub NothingJust : ℕ → Answers.Nearest → Type 0
-NothingJust count (Answers.TheVariants.Refused n) = n ≡ 0 → ⊥
-NothingJust count (Answers.TheVariants.Answer Nothing) = count ≡ 0
-NothingJust count (Answers.TheVariants.Answer (AnItem k y x)) = 0 < count
+-- [4.2] what farthest's outcome says of the count of claims: nothing is given just where there is none; a refusal has its number
+abbrev pub NothingJust : ℕ → Outcome (Option Item) → Type 0
+NothingJust count (refused n) = n ≡ 0 → ⊥
+NothingJust count (gives None) = count ≡ 0
+NothingJust count (gives (Some a)) = 0 < count
 
 -- [4.6] [4.7] a page: its items, and whether it is the last
 pub record ThePage : Type 0 where
@@ -69,10 +63,12 @@ page_call s order probe reach place size room =
     (must (leb (size * 3) room) 12
     (gives (the_page (table_query s.table order probe reach) s place size))))))
 
--- [4.8] how its outcome is shown, and what it makes of the room: the items stand at its front, and what lies behind them is kept
-abbrev pub page_shown : Outcome ThePage → Pages.Page
-page_shown (refused n) = Pages.TheVariants.Refused n
-page_shown (gives p) = Pages.TheVariants.Filled (record { count = length p.items; last = p.last })
+-- [4.8] what is shown of it, and what it makes of the room: the items stand at its front, and what lies behind them is kept
+abbrev pub paged : ThePage → Paged
+paged p = record { count = length p.items; last = p.last }
+
+abbrev pub page_shown : Outcome ThePage → Outcome Paged
+page_shown o = showing paged o
 
 abbrev pub put_page : ThePage → List ℕ → List ℕ
 put_page p room = fronted p.items room

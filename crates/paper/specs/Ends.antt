@@ -5,7 +5,8 @@ use Rattle.paper.specs.declared.orders.Order.{Order}
 use Rattle.paper.specs.declared.orders.Place.{Place}
 use Rattle.paper.specs.declared.orders.Place.TheVariants.{Start, After}
 use Rattle.paper.specs.Points.{Claim, in_range}
-use Rattle.paper.specs.Orders.{Item, no_item, Query, same_order, earlier, follows, snapshot_of, snapshot_holds, following, page_of, last_of, mark_holds}
+use Rattle.paper.specs.declared.orders.Item.{Item}
+use Rattle.paper.specs.Orders.{no_item, Query, same_order, earlier, follows, snapshot_of, snapshot_holds, following, page_of, last_of, mark_holds}
 use Rattle.paper.specs.Tree.{Store, claims_in}
 use Rattle.paper.specs.Outcomes.{Outcome, must, onto, gives}
 use Rattle.paper.specs.Limits.{longest_answer, longest_ask, most_claims, most_page}

@@ -1,13 +1,14 @@
 -- Examples by city block, with one coordinate: a to j as one statement about the definitions, and further ones, which catch what these
 -- let pass. Definitions only.
-use Rattle.std.specs.Prelude.{ℕ, ◌≡◌, Bool, true, false, List, [], ◌∷◌, ◌++◌, map, ℤ, pos, negsuc, replicate}
+use Rattle.std.specs.Prelude.{ℕ, ◌≡◌, Bool, true, false, List, [], ◌∷◌, ◌++◌, map, ℤ, pos, negsuc, replicate, None, Some}
 use Rattle.paper.specs.declared.orders.Order.{Order}
 use Rattle.paper.specs.declared.orders.Order.TheVariants.{Near}
 use Rattle.paper.specs.declared.orders.Place.{Place}
 use Rattle.paper.specs.declared.orders.Place.TheVariants.{Start, After}
 use Rattle.paper.specs.declared.points.Measure.TheVariants.{CityBlock, Maximum, Hamming}
 use Rattle.paper.specs.Points.{distance, greatest_of, Claim}
-use Rattle.paper.specs.Orders.{Item, Query, listed, nothing, found, nearest_of, farthest_of}
+use Rattle.paper.specs.declared.orders.Item.{Item}
+use Rattle.paper.specs.Orders.{Query, listed, nearest_of, farthest_of}
 use Rattle.paper.specs.Tree.{grown, apart, afresh}
 use Rattle.paper.specs.Outcomes.{Outcome, refused, gives}
 use Rattle.paper.specs.Ends.{Answer, Table, answer_to}
@@ -81,9 +82,9 @@ pub record Marked : Type 0 where
   -- [2.3] [2.5] two pairs at the same distance, the smaller number first
   pub b : listed (query 5) five 5 ≡ item 1 102 1 ∷ item 4 105 1 ∷ item 0 101 2 ∷ item 3 104 2 ∷ item 2 103 5 ∷ []
   -- [4.1] [4.2] the nearest of a pair, and the farthest
-  pub c : (nearest_of (query 5) five ≡ found (item 1 102 1)) × (farthest_of (query 5) five ≡ found (item 2 103 5))
+  pub c : (nearest_of (query 5) five ≡ Some (item 1 102 1)) × (farthest_of (query 5) five ≡ Some (item 2 103 5))
   -- [2.4] [4.1] no claim is at the probe; one at the reach itself is found
-  pub d : (nearest_of (query 0) five ≡ nothing) × (nearest_of (query 1) five ≡ found (item 1 102 1))
+  pub d : (nearest_of (query 0) five ≡ None) × (nearest_of (query 1) five ≡ Some (item 1 102 1))
   -- [4.6] [4.7] three pages, of which the last has one item
   pub e : (office_page five Start 2 ≡ gives (page (1 ∷ 4 ∷ []) false))
       × (office_page five (after 5 1 4) 2 ≡ gives (page (0 ∷ 3 ∷ []) false))

@@ -9,7 +9,7 @@ use Rattle.paper.specs.Orders.{listed}
 use Rattle.paper.specs.Outcomes.{refused, gives}
 use Rattle.paper.specs.Calls.{page_call}
 use Rattle.paper.specs.Lists.{Held, held, opening_held}
-use Rattle.paper.specs.Lines.{an_ask, no_ask, read_as_ask, an_answer, no_answer, read_as_answer, no_claim, read_as_claim}
+use Rattle.paper.specs.Lines.{read_as_ask, read_as_answer, read_as_claim}
 use Rattle.paper.specs.Limits.{longest_ask, longest_answer}
 use Rattle.paper.specs.Examples.{claim, five, six, query_in, item, after, page, office_page_in}
 use Rattle.paper.specs.EndExamples.{sample_ask, sample_answer}
@@ -110,8 +110,8 @@ pub record FarCallsMarked : Type 0 where
   -- [9.14] [9.15] the bare writers and readers
   pub ask_written : writes_ask (opens_in Far 1 1 four) (scope 0 0 0 0) 2 longest_ask ≡ gives far_ask
   pub answer_written : writes_answer_in Far (scope 0 5 0 0) 2 far_first_room longest_answer ≡ gives far_answer
-  pub ask_read : read_as_ask far_ask ≡ an_ask (ask_value Far)
-  pub answer_read : read_as_answer far_answer ≡ an_answer (answer_value Far far_first_room)
-  pub ask_kind10 : read_as_ask far_answer ≡ no_ask 10
-  pub answer_kind10 : read_as_answer far_ask ≡ no_answer 10
-  pub claim_kind10 : (read_as_claim far_ask ≡ no_claim 10) × (read_as_claim far_answer ≡ no_claim 10)
+  pub ask_read : read_as_ask far_ask ≡ gives (ask_value Far)
+  pub answer_read : read_as_answer far_answer ≡ gives (answer_value Far far_first_room)
+  pub ask_kind10 : read_as_ask far_answer ≡ refused 10
+  pub answer_kind10 : read_as_answer far_ask ≡ refused 10
+  pub claim_kind10 : (read_as_claim far_ask ≡ refused 10) × (read_as_claim far_answer ≡ refused 10)

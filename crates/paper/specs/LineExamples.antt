@@ -14,7 +14,7 @@ use Rattle.paper.specs.Outcomes.{Outcome, refused, gives, number}
 use Rattle.paper.specs.Frames.{line_of}
 use Rattle.paper.specs.Ends.{Listing}
 use Rattle.paper.specs.Lists.{Held, held, opening_held, asking_held, taking_held, held_after}
-use Rattle.paper.specs.Lines.{put_line, bare_line, ask_fits, ask_frame, an_ask, no_ask, read_as_ask, answer_fits, answer_frame, an_answer, no_answer, read_as_answer, claim_fits, claim_frame, a_claim, no_claim, read_as_claim}
+use Rattle.paper.specs.Lines.{put_line, bare_line, ask_fits, ask_frame, read_as_ask, answer_fits, answer_frame, read_as_answer, claim_fits, claim_frame, read_as_claim}
 use Rattle.paper.specs.Codec.{lines}
 use Rattle.paper.specs.Limits.{item_room, longest_ask, longest_answer, longest_claim}
 use Rattle.paper.specs.EndExamples.{sample_ask, sample_answer}
@@ -217,18 +217,18 @@ pub record LinesMarked : Type 0 where
   pub claim_written : writes_claim (negsuc 1 ∷ []) longest_claim ≡ gives (line_of (claim_bytes 3))
   pub claim12 : writes_claim (negsuc 1 ∷ []) (longest_claim - 1) ≡ refused 12
   pub claim10 : writes_claim wide (longest_claim - 1) ≡ refused 10
-  pub ask_read : read_as_ask sample_ask ≡ an_ask (ask_value Near)
-  pub ask_not9 : read_as_ask (ask_bytes 1 7 0 0 0 0 too_many) ≡ no_ask 9
-  pub ask_not10 : read_as_ask (ask_with 1 7 0 0 0 0 too_many) ≡ no_ask 10
-  pub ask_kind10 : read_as_ask sample_answer ≡ no_ask 10
-  pub ask_kind_none10 : read_as_ask (ask_with 0 7 0 0 0 0 2) ≡ no_ask 10
-  pub answer_read : read_as_answer sample_answer ≡ an_answer (answer_value Near (1 ∷ 102 ∷ 1 ∷ 4 ∷ 105 ∷ 1 ∷ []))
-  pub answer_not9 : read_as_answer no_line ≡ no_answer 9
-  pub answer_not10 : read_as_answer (answers 7 0 5 0 0 0 too_many overfull) ≡ no_answer 10
-  pub answer_kind10 : read_as_answer sample_ask ≡ no_answer 10
-  pub claim_read : read_as_claim (line_of (claim_bytes 3)) ≡ a_claim claim_value
-  pub claim_not9 : read_as_claim (claim_bytes 1) ≡ no_claim 9
-  pub claim_kind10 : read_as_claim (line_of (claim_bytes 1)) ≡ no_claim 10
+  pub ask_read : read_as_ask sample_ask ≡ gives (ask_value Near)
+  pub ask_not9 : read_as_ask (ask_bytes 1 7 0 0 0 0 too_many) ≡ refused 9
+  pub ask_not10 : read_as_ask (ask_with 1 7 0 0 0 0 too_many) ≡ refused 10
+  pub ask_kind10 : read_as_ask sample_answer ≡ refused 10
+  pub ask_kind_none10 : read_as_ask (ask_with 0 7 0 0 0 0 2) ≡ refused 10
+  pub answer_read : read_as_answer sample_answer ≡ gives (answer_value Near (1 ∷ 102 ∷ 1 ∷ 4 ∷ 105 ∷ 1 ∷ []))
+  pub answer_not9 : read_as_answer no_line ≡ refused 9
+  pub answer_not10 : read_as_answer (answers 7 0 5 0 0 0 too_many overfull) ≡ refused 10
+  pub answer_kind10 : read_as_answer sample_ask ≡ refused 10
+  pub claim_read : read_as_claim (line_of (claim_bytes 3)) ≡ gives claim_value
+  pub claim_not9 : read_as_claim (claim_bytes 1) ≡ refused 9
+  pub claim_kind10 : read_as_claim (line_of (claim_bytes 1)) ≡ refused 10
 
 -- ---- the public calls together
 

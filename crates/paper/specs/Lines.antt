@@ -7,10 +7,10 @@
 -- | answer | kind 1, table 4, measure 1, d 1, probe 4d, reach 8, from 1, snapshot 2, mark 8 + 2, last 1, | 30 + 4d + 14k |
 -- |        | item count 1, and for each of k items: number 2, reference 4, distance 8                   |               |
 -- | claim  | kind 1, table 4, measure 1, d 1, reference 4, point 4d                                     | 11 + 4d       |
-use Rattle.std.specs.Prelude.{ℕ, ◌+◌, ◌*◌, Bool, cond, ◌&&◌, ◌||◌, List, ◌++◌, length, drop, replicate, leb, eqb, ℤ, pos}
+use Rattle.std.specs.Prelude.{ℕ, ◌+◌, ◌*◌, Bool, ◌&&◌, ◌||◌, List, ◌++◌, length, drop, replicate, leb, eqb, ℤ, pos}
 use Rattle.paper.specs.Points.{in_range}
 use Rattle.paper.specs.Orders.{Query, order_by}
-use Rattle.paper.specs.Outcomes.{Outcome, refused, gives, must, Promise}
+use Rattle.paper.specs.Outcomes.{Outcome, gives, must, showing, Promise}
 use Rattle.paper.specs.Frames.{be, num, line_of, frame_of, is_line}
 use Rattle.paper.specs.Fields.{head, coord_bytes, coords_in, in_slots, front, scope_in, scope_ok, item_bytes, item_numbers, item_slots, numbers_ok, references_ok}
 use Rattle.paper.specs.declared.orders.Order.{Order}
@@ -20,12 +20,7 @@ use Rattle.paper.specs.declared.lines.Scope.{Scope}
 use Rattle.paper.specs.declared.lines.Ask.{Ask}
 use Rattle.paper.specs.declared.lines.Answer.{Answer}
 use Rattle.paper.specs.declared.lines.ClaimLine.{ClaimLine}
-use Rattle.paper.specs.declared.lines.AskRead.{AskRead}
-use Rattle.paper.specs.declared.lines.AnswerRead.{AnswerRead}
-use Rattle.paper.specs.declared.lines.ClaimRead.{ClaimRead}
-use Rattle.paper.specs.declared.lines.Wrote.{Wrote}
-use Rattle.paper.specs.declared.lines.Wrote.TheVariants.{Line, Refused}
-use Rattle.paper.specs.Limits.{item_room, most_page, most_coordinates}
+use Rattle.paper.specs.Limits.{most_page, most_coordinates}
 
 -- ---- the kinds of line
 
@@ -52,17 +47,16 @@ claim_kind = 3
 
 -- ---- writing and reading, whatever the kind
 
--- [5.12] how a call that writes a line shows its outcome: the line's length, or the refusal's number
-unfoldable pub wrote_shown : Outcome (List ℕ) → Wrote
-wrote_shown (refused n) = Refused n
-wrote_shown (gives line) = Line (length line)
+-- [5.12] what a call that writes a line shows of its outcome: the line's length
+abbrev pub wrote_shown : Outcome (List ℕ) → Outcome ℕ
+wrote_shown o = showing length o
 
 -- [5.12] the line stands at the front of the output room, and the bytes behind it are kept
 abbrev pub put_line : List ℕ → List ℕ → List ℕ
 put_line line out = line ++ drop (length line) out
 
 -- [9.3] what every call that writes a line promises
-abbrev pub Writes : Outcome (List ℕ) → List ℕ → Wrote → List ℕ → Type 0
+abbrev pub Writes : Outcome (List ℕ) → List ℕ → Outcome ℕ → List ℕ → Type 0
 Writes o before r after = Promise wrote_shown put_line o before r after
 
 -- [9.14] [8.12] a bare writer refuses by 10 and 12: by whether the fields fit, the room that the kind needs, the frame, and the
@@ -70,9 +64,9 @@ Writes o before r after = Promise wrote_shown put_line o before r after
 unfoldable pub bare_line : Bool → ℕ → List ℕ → ℕ → Outcome (List ℕ)
 bare_line fits need f out = must fits 10 (must (leb need out) 12 (gives (line_of f)))
 
--- [9.15] a bare reader refuses by 9 and 10: by a kind's test, the value of its frame, and what stands beside a refusal
-unfoldable pub reading : {A : Type 0} → (List ℕ → Bool) → (List ℕ → A) → (ℕ → A) → List ℕ → A
-reading ok value none l = cond (is_line l) (cond (ok (frame_of l)) (value (frame_of l)) (none 10)) (none 9)
+-- [9.15] a bare reader refuses by 9 and 10: by a kind's test, and the value of its frame
+unfoldable pub reading : {A : Type 0} → (List ℕ → Bool) → (List ℕ → A) → List ℕ → Outcome A
+reading ok value l = must (is_line l) 9 (must (ok (frame_of l)) 10 (gives (value (frame_of l))))
 
 -- [5.4] [8.10] a frame that begins with a head of kind k, in range
 unfoldable pub head_ok : ℕ → List ℕ → Bool
@@ -98,7 +92,7 @@ query_at o f =
 unfoldable pub query_fits : Query → Bool
 query_fits q = in_range q.measure q.d && eqb (length q.probe) q.d
 
--- [5.14] the fields of a refused line
+-- [5.14] the fields of a refused line are 0
 abbrev pub no_query : queries.Query
 no_query = record { order = Near; table = 0; measure = 0; d = 0; probe = replicate most_coordinates (pos 0); reach = 0 }
 
@@ -132,16 +126,9 @@ is_ask f = ask_ok (ask_kind (ask_order (num 1 f))) f
 unfoldable pub ask_at : List ℕ → Ask
 ask_at f = record { query = query_at (ask_order (num 1 f)) f; scope = scope_in (behind f); size = num 1 (drop 21 (behind f)) }
 
-unfoldable pub an_ask : Ask → AskRead
-an_ask a = record { refusal = 0; ask = a }
-
--- [5.14] beside a refusal all is 0
-unfoldable pub no_ask : ℕ → AskRead
-no_ask n = record { refusal = n; ask = record { query = no_query; scope = no_scope; size = 0 } }
-
 -- [9.15] what reading a line as an ask gives
-unfoldable pub read_as_ask : List ℕ → AskRead
-read_as_ask l = reading is_ask (λ f. an_ask (ask_at f)) no_ask l
+unfoldable pub read_as_ask : List ℕ → Outcome Ask
+read_as_ask l = reading is_ask ask_at l
 
 -- ---- answer
 
@@ -184,17 +171,9 @@ answer_at f =
       items = item_slots (count_in f) (item_numbers (count_in f) (drop 23 (behind f)));
     }
 
-unfoldable pub an_answer : Answer → AnswerRead
-an_answer a = record { refusal = 0; answer = a }
-
--- [5.14] beside a refusal all is 0
-unfoldable pub no_answer : ℕ → AnswerRead
-no_answer n =
-    record { refusal = n; answer = record { query = no_query; scope = no_scope; last = 0; count = 0; items = replicate item_room 0 } }
-
 -- [9.15] what reading a line as an answer gives
-unfoldable pub read_as_answer : List ℕ → AnswerRead
-read_as_answer l = reading is_answer (λ f. an_answer (answer_at f)) no_answer l
+unfoldable pub read_as_answer : List ℕ → Outcome Answer
+read_as_answer l = reading is_answer answer_at l
 
 -- ---- claim
 
@@ -221,14 +200,6 @@ claim_at f =
       coordinates = in_slots (num 1 (drop 6 f)) (coords_in (num 1 (drop 6 f)) (drop 11 f));
     }
 
-unfoldable pub a_claim : ClaimLine → ClaimRead
-a_claim c = record { refusal = 0; claim = c }
-
--- [5.14] beside a refusal all is 0
-unfoldable pub no_claim : ℕ → ClaimRead
-no_claim n =
-    record { refusal = n; claim = record { table = 0; measure = 0; d = 0; reference = 0; coordinates = replicate most_coordinates (pos 0) } }
-
 -- [9.15] what reading a line as a claim gives
-unfoldable pub read_as_claim : List ℕ → ClaimRead
-read_as_claim l = reading claim_ok (λ f. a_claim (claim_at f)) no_claim l
+unfoldable pub read_as_claim : List ℕ → Outcome ClaimLine
+read_as_claim l = reading claim_ok claim_at l

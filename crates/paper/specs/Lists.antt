@@ -1,11 +1,10 @@
 -- A tablet's list as code holds it: its fields by value, and its items as numbers, three for each, at the front of a lent room. Definitions only.
 use Rattle.std.specs.Prelude.{ℕ, zero, suc, ◌/◌, Bool, false, ◌&&◌, List, [], ◌∷◌, ℤ, pos, length, get_or, drop}
 use Rattle.paper.specs.declared.lists.List as lists
-use Rattle.paper.specs.declared.lists.Opened.{Opened}
-use Rattle.paper.specs.declared.lists.Taken.{Taken}
 use Rattle.paper.specs.declared.queries.Query as queries
-use Rattle.paper.specs.Orders.{Item, Query, query_in, fronted}
-use Rattle.paper.specs.Outcomes.{Outcome, refused, gives, must, onto, leaves, Promise}
+use Rattle.paper.specs.declared.orders.Item.{Item}
+use Rattle.paper.specs.Orders.{Query, query_in, fronted}
+use Rattle.paper.specs.Outcomes.{Outcome, refused, gives, must, onto, leaves, showing, Promise}
 use Rattle.paper.specs.Ends.{Codec, Listing, opening, every, same_z, sound_in, asking, taking}
 use Rattle.paper.specs.Fields.{query_in_slots}
 use Rattle.paper.specs.Lines.{no_query}
@@ -62,11 +61,6 @@ opening_held q = onto (opening q) (λ L. gives (opened_as q))
 abbrev pub no_list : lists.List
 no_list = record { query = no_query; started = false; snapshot = 0; count = 0; complete = false }
 
--- what each case of opening gives
-unfoldable pub opened_shown : Outcome lists.List → Opened
-opened_shown (refused n) = record { refusal = n; list = no_list }
-opened_shown (gives l) = record { refusal = 0; list = l }
-
 -- [9.12] writing the present ask
 unfoldable pub asking_held : Codec → Held → ℕ → ℕ → Outcome (List ℕ)
 asking_held c s size out = must (held_well s.list.query) 2 (asking c (room_for s) size out (listing s))
@@ -86,19 +80,23 @@ took_fields l L =
       complete = L.complete;
     }
 
--- [9.13] how taking shows its outcome: 0 beside the list as it then stands, or the refusal's number beside the list as it came
-abbrev pub taken_shown : lists.List → Outcome Listing → Taken
-taken_shown l (refused n) = record { refusal = n; list = l }
-taken_shown l (gives L) = record { refusal = 0; list = took_fields l L }
+-- [9.13] what taking shows of its outcome: the list as it then stands
+abbrev pub taken_shown : lists.List → Outcome Listing → Outcome lists.List
+taken_shown l o = showing (took_fields l) o
 
 -- [7.7] the items stand at the front of the list's room, and what is behind them is kept
 abbrev pub put_items : Listing → List ℕ → List ℕ
 put_items L room = fronted L.items room
 
 -- what taking promises of a list l and its room
-abbrev pub Takes : lists.List → Outcome Listing → List ℕ → Taken → List ℕ → Type 0
+abbrev pub Takes : lists.List → Outcome Listing → List ℕ → Outcome lists.List → List ℕ → Type 0
 Takes l o before r after = Promise (taken_shown l) put_items o before r after
+
+-- [9.13] the list after a call: a refused one stays as it came
+abbrev pub list_after : lists.List → Outcome lists.List → lists.List
+list_after l (refused n) = l
+list_after l (gives t) = t
 
 -- what is held after a call
 unfoldable pub held_after : Held → Outcome Listing → Held
-held_after s o = held (taken_shown s.list o).list (leaves put_items o s.room)
+held_after s o = held (list_after s.list (taken_shown s.list o)) (leaves put_items o s.room)

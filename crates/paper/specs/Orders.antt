@@ -1,7 +1,6 @@
 -- Sections 2 and 4 of the rules: orders and questions, by measuring every stored claim. Definitions only.
-use Rattle.std.specs.Prelude.{ℕ, zero, suc, ◌-◌, ◌*◌, ◌^◌, Bool, true, false, not, cond, ◌&&◌, ◌||◌, List, [], ◌∷◌, ◌++◌, ltb, leb, eqb, ℤ, length, get_or, take, drop}
-use Rattle.paper.specs.declared.orders.Found.{Found as Answer}
-use Rattle.paper.specs.declared.orders.Found.TheVariants.{Nothing, Item as AnItem}
+use Rattle.std.specs.Prelude.{ℕ, zero, suc, ◌-◌, ◌*◌, ◌^◌, Bool, true, false, not, cond, ◌&&◌, ◌||◌, List, [], ◌∷◌, ◌++◌, ltb, leb, eqb, ℤ, length, get_or, take, drop, Option, None, Some}
+use Rattle.paper.specs.declared.orders.Item.{Item}
 use Rattle.paper.specs.declared.orders.Mark.{Mark}
 use Rattle.paper.specs.declared.orders.Order.{Order}
 use Rattle.paper.specs.declared.orders.Order.TheVariants.{Near, Far}
@@ -11,12 +10,7 @@ use Rattle.paper.specs.declared.orders.Place.TheVariants.{Start, After}
 use Rattle.paper.specs.declared.queries.Query as queries
 use Rattle.paper.specs.Points.{measure_of, distance, greatest_of, Claim, zero_claim}
 
--- [2.6] what an item shows of a claim
-pub record Item : Type 0 where
-  pub number : ℕ
-  pub reference : ℕ
-  pub distance : ℕ
-
+-- [2.6] an item shows of a claim its number, its reference and how far it is from the probe
 abbrev pub no_item : Item
 no_item = record { number = 0; reference = 0; distance = 0 }
 
@@ -129,27 +123,13 @@ last_of size r = leb (length r) size
 abbrev pub paged_of : ℕ → List Item → Paged
 paged_of size r = record { count = length (take size r); last = last_of size r }
 
--- [4.1] [4.2] what nearest and farthest give: nothing, or an item
-pub data Found : Type 0 where
-  nothing : Found
-  found : Item → Found
-
--- what each case of the declared answer says
-unfoldable pub found_in : Answer → Found
-found_in Nothing = nothing
-found_in (AnItem k y x) = found (record { number = k; reference = y; distance = x })
-
--- how it is shown by the declared answer
-unfoldable pub found_shown : Found → Answer
-found_shown nothing = Nothing
-found_shown (found a) = AnItem a.number a.reference a.distance
-
-unfoldable pub first_of : List Item → Found
-first_of [] = nothing
-first_of (a ∷ l) = found a
+-- [4.1] [4.2] what nearest and farthest give: the first item, where there is one
+unfoldable pub first_of : List Item → Option Item
+first_of [] = None
+first_of (a ∷ l) = Some a
 
 -- [4.1] the first item within reach, in the query's order
-unfoldable pub nearest_of : Query → List Claim → Found
+unfoldable pub nearest_of : Query → List Claim → Option Item
 nearest_of q cs = first_of (listed q cs (length cs))
 
 -- [4.2] [1.9] the query in far order, with a reach that leaves out no claim: the measure's greatest distance
@@ -165,7 +145,7 @@ far_query q =
     }
 
 -- [4.2] the first item in far order
-unfoldable pub farthest_of : Query → List Claim → Found
+unfoldable pub farthest_of : Query → List Claim → Option Item
 farthest_of q cs = first_of (listed (far_query q) cs (length cs))
 
 -- [8.8] the mark's number is under the snapshot, and its distance is that claim's and not beyond the reach

@@ -1,5 +1,6 @@
 -- Section 9 of the rules, for any call: outcomes, refusals and promises. Definitions only.
-use Rattle.std.specs.Prelude.{ℕ, ◌≡◌, Bool, true, false}
+use Rattle.std.specs.Prelude.{ℕ, ◌≡◌, Bool, true, false, Result, Ok, Err}
+use Rattle.paper.specs.declared.refusals.Refusal.{Refusal}
 
 -- [9.2] what a call gives: a refusal's number, or a value
 pub data Outcome (A : Type 0) : Type 0 where
@@ -21,6 +22,35 @@ abbrev pub number : {A : Type 0} → Outcome A → ℕ
 number (refused n) = n
 number (gives a) = 0
 
+-- [8.1] to [8.17] the number of a refusal that code names
+abbrev pub number_of : Refusal → ℕ
+number_of Refusal.OutOfRange = 1
+number_of Refusal.Unsound = 2
+number_of Refusal.TableFull = 3
+number_of Refusal.Coordinates = 5
+number_of Refusal.PageSize = 6
+number_of Refusal.Snapshot = 7
+number_of Refusal.Mark = 8
+number_of Refusal.NoLine = 9
+number_of Refusal.Fields = 10
+number_of Refusal.OtherTable = 11
+number_of Refusal.RoomTooShort = 12
+number_of Refusal.NotPresentAsk = 13
+number_of Refusal.Page = 14
+number_of Refusal.ListFull = 15
+number_of Refusal.Complete = 16
+number_of Refusal.KnownReference = 17
+
+-- [9.2] what a result tells: the value, or its refusal's number
+abbrev pub told : {A : Type 0} → Result A Refusal → Outcome A
+told (Err r) = refused (number_of r)
+told (Ok a) = gives a
+
+-- an outcome by what is shown of its value
+abbrev pub showing : {A B : Type 0} → (A → B) → Outcome A → Outcome B
+showing f (refused n) = refused n
+showing f (gives a) = gives (f a)
+
 -- [9.2] what a call leaves of lent memory: all of it where it refuses, and otherwise what the given value makes of it
 abbrev pub leaves : {A M : Type 0} → (A → M → M) → Outcome A → M → M
 leaves put (refused n) memory = memory
@@ -31,7 +61,3 @@ leaves put (gives a) memory = put a memory
 pub record Promise {A R M : Type 0} (shown : Outcome A → R) (put : A → M → M) (o : Outcome A) (before : M) (r : R) (after : M) : Type 0 where
   pub result : r ≡ shown o
   pub memory : after ≡ leaves put o before
-
--- the same of a call that is lent memory for reading only
-abbrev pub Shows : {A R : Type 0} → (Outcome A → R) → Outcome A → R → Type 0
-Shows shown o r = r ≡ shown o

@@ -2,12 +2,10 @@
 use Rattle.std.specs.Prelude.{ℕ, zero, suc, ◌+◌, ◌*◌, List, leb, eqb, ℤ, length}
 use Rattle.std.proofs.Math.Seq.{paste}
 use Rattle.paper.specs.declared.tables.Table.{Table}
-use Rattle.paper.specs.declared.tables.Made.{Made}
-use Rattle.paper.specs.declared.tables.Entered.{Entered}
 use Rattle.paper.specs.Points.{point}
 use Rattle.paper.specs.Tree.{Grown, entered, Store, store, Memory, memory, apart, reference_at, with_reference, claims_in, fits, sound}
 use Rattle.paper.specs.References.{in_force, anew}
-use Rattle.paper.specs.Outcomes.{Outcome, refused, gives, must}
+use Rattle.paper.specs.Outcomes.{Outcome, gives, must, showing}
 
 -- [3.16] a table before any claim: nothing is entered, and no node is in use
 abbrev pub empty_table : ℕ → ℕ → ℕ → ℕ → Table
@@ -17,11 +15,6 @@ empty_table number measure d capacity =
 -- [9.4] [3.16] making a table gives its header
 unfoldable pub make_call : Store → Outcome Table
 make_call s = must (fits s) 1 (gives s.table)
-
--- how its outcome is shown
-abbrev pub made_shown : Outcome Table → Made
-made_shown (refused n) = Made.Refused n
-made_shown (gives t) = Made.Table t
 
 -- [3.14] the header with one claim more, and so many nodes in use
 abbrev pub counted : Table → ℕ → Table
@@ -58,10 +51,9 @@ enter_call s given points =
     (must (leb (s.table.count + length given) s.table.capacity) 3
     (gives (added_run given points (length given) s))))))
 
--- how its outcome is shown, the header that comes back, and what it makes of lent memory
-abbrev pub entered_shown : Outcome Store → Entered
-entered_shown (refused n) = Entered.Refused n
-entered_shown (gives s) = Entered.Table s.table
+-- what is shown of it, the header that comes back, and what it makes of lent memory
+abbrev pub entered_shown : Outcome Store → Outcome Table
+entered_shown o = showing (λ s. s.table) o
 
 abbrev pub put_store : Store → Memory → Memory
 put_store s before = memory s.references s.coordinates s.nodes

@@ -2,10 +2,12 @@
 // Their meaning stands in specs/, under the rules (docs/RULES.md); the crates above this one cite it.
 #![tactic(auto)]
 
+pub mod lent;
 pub mod limits;
 pub mod lines;
 pub mod lists;
 pub mod orders;
 pub mod points;
 pub mod queries;
+pub mod refusals;
 pub mod tables;

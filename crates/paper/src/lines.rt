@@ -2,7 +2,8 @@
 use crate::limits::{ITEM_ROOM, MOST_CLAIMS, MOST_COORDINATES};
 use crate::queries::Query;
 
-// [5.5] What an ask and an answer have behind the reach: distance and number are the mark.
+// [5.5] What an ask and an answer have behind the reach: distance and number are the mark. Flags and measures of lines stay numbers: a caller
+// can hand any byte to a writer, and what is out of range is refused with 10.
 #[derive(Clone, Copy)]
 pub struct Scope {
     pub from: u8,
@@ -60,29 +61,11 @@ impl ClaimLine {
     pub const KIND: u8 = 3;
 }
 
-// [5.14] [9.15] What a reader gives: refusal 0 beside the fields, or 9 or 10 beside zeros.
+// [6.7] [9.18] How many lines were answered, how many characters of the asks they used, and how many characters of answers were
+// written.
 #[derive(Clone, Copy)]
-pub struct AskRead {
-    pub refusal: u8,
-    pub ask: Ask,
-}
-
-#[derive(Clone, Copy)]
-pub struct AnswerRead {
-    pub refusal: u8,
-    pub answer: Answer,
-}
-
-#[repr(C)]
-#[derive(Clone, Copy)]
-pub struct ClaimRead {
-    pub refusal: u8,
-    pub claim: ClaimLine,
-}
-
-// [5.12] What a writer answers: the length of the line that it wrote, or the number of its refusal.
-#[derive(Clone, Copy)]
-pub enum Wrote {
-    Line(usize),
-    Refused(u8),
+pub struct Answered {
+    pub lines: usize,
+    pub used: usize,
+    pub written: usize,
 }

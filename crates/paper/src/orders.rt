@@ -4,7 +4,7 @@ ghost use Rattle.paper.specs.Orders.{start_mark, mark_at};
 ghost use Rattle.paper.specs.Orders.{rank as Orders·rank, before as Orders·before};
 
 // [2.1] [2.2] Near order is smaller distances first, far order larger ones.
-#[derive(Clone, Copy)]
+#[derive(Clone, Copy, PartialEq, Eq)]
 pub enum Order {
     Near,
     Far,
@@ -12,6 +12,7 @@ pub enum Order {
 
 impl Order {
     // [2.1] [2.2] The order's rank of a distance. Far order turns the distances round.
+    #[tactic(auto, unfolding(crate::specs::Orders::rank))]
     pub fn rank(self, x: u64) -> u64
         ensures { result ≡ Orders·rank self x }
     {
@@ -22,23 +23,16 @@ impl Order {
     }
 
     // [2.3] Whether distance x and number k come before distance y and number j.
+    #[tactic(auto, unfolding(crate::specs::Orders::before))]
     pub fn before(self, x: u64, k: u64, y: u64, j: u64) -> bool
         ensures { result ≡ Orders·before self x k y j }
     {
-        let a = self.rank(x);
-        let b = self.rank(y);
-        if a < b {
-            return true;
-        }
-        if b < a {
-            return false;
-        }
-        k < j
+        (self.rank(x), k) < (self.rank(y), j)
     }
 }
 
 // The last claim that a page before has shown: its distance from the probe, with its number.
-#[derive(Clone, Copy)]
+#[derive(Clone, Copy, PartialEq, Eq)]
 pub struct Mark {
     pub distance: u64,
     pub number: u64,
@@ -64,8 +58,9 @@ impl Mark {
     }
 }
 
-// [4.4] [4.5] Where a page starts: at the start, or after a mark in the first so many claims.
-#[derive(Clone, Copy)]
+// [4.4] [4.5] Where a page starts: at the start, or after a mark in the first so many claims. An `Option` of the two would not say so where it is
+// matched.
+#[derive(Clone, Copy, PartialEq, Eq)]
 pub enum Place {
     Start,
     After(u64, Mark),
@@ -78,23 +73,10 @@ pub struct Paged {
     pub last: bool,
 }
 
-// [4.1] [4.2] What nearest and farthest give: nothing, or an item's number, reference and distance.
-#[derive(Clone, Copy)]
-pub enum Found {
-    Nothing,
-    Item(u64, u64, u64),
-}
-
-// What the public nearest and farthest give.
-#[derive(Clone, Copy)]
-pub enum Nearest {
-    Refused(u8),
-    Answer(Found),
-}
-
-// What the public page gives, beside the room's filled front.
-#[derive(Clone, Copy)]
-pub enum Page {
-    Refused(u8),
-    Filled(Paged),
+// [2.6] What an item shows of a claim.
+#[derive(Clone, Copy, PartialEq, Eq)]
+pub struct Item {
+    pub number: u64,
+    pub reference: u64,
+    pub distance: u64,
 }

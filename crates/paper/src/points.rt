@@ -20,19 +20,19 @@ impl Measure {
     pub const WIDEST: u64 = 4294967295;
 
     // [1.5] The measure that a number names. What is out of range is refused before anyone asks.
+    #[tactic(auto, unfolding(crate::specs::Points::measure_of))]
     pub fn numbered(n: u8) -> Measure
         ensures { result ≡ measure_of n }
     {
-        if n == 1 {
-            return Measure::CityBlock;
+        match n {
+            1 => Measure::CityBlock,
+            2 => Measure::Maximum,
+            _ => Measure::Hamming,
         }
-        if n == 2 {
-            return Measure::Maximum;
-        }
-        Measure::Hamming
     }
 
     // [1.9] The largest distance between two points of d coordinates.
+    #[tactic(auto, unfolding(crate::specs::Points::greatest_of))]
     pub fn greatest(self, d: u64) -> u64
         requires { d ≤ most_coordinates }
         ensures { result ≡ greatest_of self d }

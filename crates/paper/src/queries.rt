@@ -1,4 +1,4 @@
-// [7.1] What a list is opened for: its asks and their answers repeat it.
+// [7.1] What a list is opened for: its asks and their answers repeat it. The measure is a number, as in lines: what is out of range is refused.
 use crate::limits::MOST_COORDINATES;
 use crate::orders::Order;
 

@@ -1,6 +1,7 @@
 // The header of a table. Its claims and nodes lie in memory that the caller lends.
 
-// [3.1] What a table is called and measured by, and how much of its memory is in use.
+// [3.1] What a table is called and measured by, and how much of its memory is in use. C has the same struct; its measure is a number, as what is out
+// of range is refused with 1.
 #[repr(C)]
 #[derive(Clone, Copy)]
 pub struct Table {
@@ -11,18 +12,4 @@ pub struct Table {
     pub count: usize,
     // Nodes in use.
     pub used: usize,
-}
-
-// [3.16] What making an empty table answers.
-#[derive(Clone, Copy)]
-pub enum Made {
-    Table(Table),
-    Refused(u8),
-}
-
-// [3.14] What entering a run of claims answers: the table's header afterwards.
-#[derive(Clone, Copy)]
-pub enum Entered {
-    Table(Table),
-    Refused(u8),
 }

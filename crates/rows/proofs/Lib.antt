@@ -1,5 +1,1 @@
-pub mod Putting
 pub mod AnswerRows
-pub mod PlaceRows
-pub mod RoomForRows
-pub mod FilledFront

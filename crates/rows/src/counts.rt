@@ -6,8 +6,5 @@ pub fn has_rows(n: usize, w: usize, room: usize) -> bool
     requires { 1 ≤ w }
     ensures { result ≡ leb (n * w) room }
 {
-    if room / w < n {
-        return false;
-    }
-    true
+    n <= room / w
 }

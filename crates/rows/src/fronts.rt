@@ -6,8 +6,8 @@ pub fn front<'a>(room: &'a [u64], count: usize) -> &'a [u64]
     ensures { result.now ≡ take (3 * count) room.now }
 {
     if count <= room.len() / 3 {
-        let n = 3 * count;
-        return &room[0..n];
+        &room[..3 * count]
+    } else {
+        room
     }
-    room
 }

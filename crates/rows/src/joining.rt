@@ -7,9 +7,5 @@ pub fn join(room: &mut [u64], at: usize, items: &[u64], n: usize)
     requires { (at + n ≤ length room.old) × (n ≤ length items.now) }
     ensures { room.new ≡ paste room.old at items.now n }
 {
-    let mut i = 0;
-    while i < n {
-        room[at + i] = items[i];
-        i += 1;
-    }
+    room[at..at + n].copy_from_slice(&items[..n]);
 }

@@ -1,4 +1,5 @@
-// Numbers in lent rooms: rows of them, the filled front of a room, and items joined to those that stand in one.
+// Numbers in lent rooms: rows of them, the filled front of a room, and items joined to those that stand in one. Rooms are numbers and no structs,
+// as C lends them.
 #![tactic(auto)]
 
 mod answers;
@@ -12,5 +13,5 @@ pub use answers::{put_found, put_page};
 pub use counts::has_rows;
 pub use fronts::front;
 pub use joining::join;
-pub use numbers::put_three;
+pub use numbers::put;
 pub use places::{PLACE_NUMBERS, order_at, place_at};

@@ -9,6 +9,7 @@ use paper::orders::{Mark, Order, Place};
 pub const PLACE_NUMBERS: usize = 5;
 
 // [4.18] The order of question i, the first number of its row: 0 where it is near, and otherwise anything else.
+#[tactic(auto, unfolding(crate::specs::Places::order_at))]
 pub fn order_at(places: &[u64], i: usize) -> Order
     requires { i * place_numbers + place_numbers ≤ length places.now }
     ensures { result ≡ order_at places.now i }
@@ -18,6 +19,7 @@ pub fn order_at(places: &[u64], i: usize) -> Order
 }
 
 // [4.18] The place of question i, the other four: 0 where it is the start, and otherwise anything else; snapshot; the mark.
+#[tactic(auto, unfolding(crate::specs::Places::place_at))]
 pub fn place_at(places: &[u64], i: usize) -> Place
     requires { i * place_numbers + place_numbers ≤ length places.now }
     ensures { result ≡ place_at places.now i }

@@ -4,10 +4,10 @@ use mathlib.Core.Path.{◌≡◌, refl, sym, ap, ◌∙◌}
 use mathlib.Core.List.{List, [], ◌∷◌, ◌++◌, append_assoc, append-nil}
 use native.Mathlib.Omega.{arith}
 use native.Mathlib.Numerals.{add-one}
-use native.Mathlib.Nat.{le_refl, mul_comm, suc-mul}
+use native.Mathlib.Nat.{mul_comm, suc-mul}
 use lib.IntN.{ℤ}
-use lib.ListN.{length, get_or, set, take, drop, length-set}
-use lib.Seq.{take_all, take-take, get_or-set_same, get_or-set_other, paste, length-paste}
+use lib.ListN.{length, get_or, set, take, length-set}
+use lib.Seq.{take_all, get_or-set_same, get_or-set_other, paste, length-paste}
 use Rattle.paper.specs.declared.tables.Table.{Table}
 use Rattle.paper.specs.Points.{Claim, point}
 use Rattle.paper.specs.Tree.{grown, built, Store, store, apart, apart_in, reference_at, with_reference, claims_from, claims_in}
@@ -101,19 +101,13 @@ unfolding added
 added_kept s r p = record { number = refl; measure = refl; d = refl; capacity = refl; count = refl }
 
 -- the stores of `add` are `added`
-pub add_way : (s : Store) (r u : ℕ) (points l : List ℤ) (i : ℕ) (references nodes : List ℕ)
+pub add_way : (s : Store) (r u : ℕ) (p l : List ℤ) (references nodes : List ℕ)
     → references ≡ with_reference s.references s.table.count r
-    → l ≡ paste s.coordinates (s.table.count * s.table.d) (drop (i * s.table.d) points) s.table.d
+    → l ≡ paste s.coordinates (s.table.count * s.table.d) p s.table.d
     → nodes ≡ (next_grown s l).nodes → u ≡ (next_grown s l).used
-    → store (counted s.table u) references l nodes ≡ added s r (point s.table.d points i)
-unfolding added point
-add_way s r u points l i references nodes g e f h =
-    let n : ℕ = s.table.count in
-    let d : ℕ = s.table.d in
-    let q : List ℤ = drop (i * d) points in
-    let e' : l ≡ paste s.coordinates (n * d) (take d q) d =
-    e ∙ ap (λ (x : List ℤ). take (n * d) s.coordinates ++ x ++ drop (n * d + d) s.coordinates) (sym (take-take d d q (le_refl d))) in
-    rw (g, f, h, ← e')
+    → store (counted s.table u) references l nodes ≡ added s r p
+unfolding added
+add_way s r u p l references nodes g e f h = rw (g, f, h, ← e)
 
 -- ---- a run
 

@@ -1,11 +1,10 @@
 -- What the numbers of a side say of the claims under it. Assumes nothing.
-use Prim.Native.Nat.{ℕ, zero, suc, ◌+◌, ◌-◌, ◌<◌}
+use Prim.Native.Nat.{ℕ, ◌+◌, ◌-◌, ◌<◌}
 use mathlib.Core.Path.{◌≡◌}
-use mathlib.Core.Logic.{◌⊎◌, inl, inr}
 use mathlib.Core.List.{List}
 use native.Mathlib.Omega.{arith}
 use Rattle.paper.specs.Tree.{field_at}
-use Rattle.tree.specs.BuiltNodes.{Linked, Under, here, deeper, Holds, Searchable}
+use Rattle.tree.specs.BuiltNodes.{Linked, Under, here, deeper, Searchable}
 
 module _ (nodes : List ℕ) (e : ℕ → ℕ → ℕ) (m s : ℕ) where
   pub not_free : (j : ℕ) → Under nodes e m s j → field_at nodes m s ≡ 0 → ⊥
@@ -16,14 +15,6 @@ module _ (nodes : List ℕ) (e : ℕ → ℕ → ℕ) (m s : ℕ) where
   pub only : (k j : ℕ) → field_at nodes m s ≡ k + 1 → field_at nodes m (4 + s) ≡ 0 → Under nodes e m s j → j ≡ k
   only k j at0 at4 (here p) = omega arith
   only k j at0 at4 (deeper l x w y p q f g t r h u) = absurd (omega arith)
-
-two_sides_at : (nodes : List ℕ) (e : ℕ → ℕ → ℕ) (m j s : ℕ) → s < 2 → Under nodes e m s j → Under nodes e m 0 j ⊎ Under nodes e m 1 j
-two_sides_at nodes e m j zero h u = inl u
-two_sides_at nodes e m j (suc zero) h u = inr u
-two_sides_at nodes e m j (suc (suc s)) h u = absurd (omega arith)
-
-pub two_sides : (nodes : List ℕ) (e : ℕ → ℕ → ℕ) (m j : ℕ) → Holds nodes e m j → Under nodes e m 0 j ⊎ Under nodes e m 1 j
-two_sides nodes e m j h = two_sides_at nodes e m j h.side h.which h.under
 
 -- a claim on a side is stored
 pub stored_here : (nodes : List ℕ) (used n m s : ℕ) → Searchable nodes used n m → s < 2 → (field_at nodes m s ≡ 0 → ⊥) → field_at nodes m s - 1 < n

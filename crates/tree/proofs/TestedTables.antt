@@ -12,6 +12,7 @@ use lib.Dec.{leb, eqb}
 use borrow.Author.Tests.{leb-true, eqb-true, le-leb, lt-leb, eq-eqb, ne_eqb}
 use Rattle.paper.specs.declared.tables.Table.{Table}
 use Rattle.paper.specs.Tree.{Grown, grown, entered, built, Store, apart, apart_in, fits, same_front, afresh, sound}
+use Rattle.paper.proofs.FreeNodes.{built_takes}
 use Rattle.tree.specs.BuiltNodes.{Neartree, Located, Enterable, IsBuilt}
 use Rattle.tree.specs.Soundness.{MemoryHolds, Fit, Good}
 use Rattle.tree.proofs.Building.{BuiltOver, build, build_alike, same_list, grown_eq}
@@ -97,11 +98,9 @@ module _ (measure d : ℕ) (coordinates : List ℤ) (nodes₀ nodes : List ℕ) 
       ∙ ap (λ (x : Grown). entered e x.used k x.nodes) is
       ∙ ap (λ (m : ℕ). built e m nodes₀) (sym (add-one k))
 
-  -- what rebuilding leaves of the memory
-  pub rebuild_few : k * 6 ≤ length nodes₀ → k ≤ most_claims → (used ≤ k) × (length nodes ≡ length nodes₀)
-  rebuild_few room few =
-      let b : BuiltOver (apart measure d coordinates) k nodes₀ (grown nodes used) = rw is (build (apart measure d coordinates) k nodes₀ room few) in
-      (b.few, b.long)
+  -- no node is in use without a claim
+  pub rebuild_few : used ≤ k
+  rebuild_few = omega (arith, ap (λ (x : Grown). x.used) is, built_takes (apart measure d coordinates) k nodes₀)
 
 pub rebuild_start : (e : ℕ → ℕ → ℕ) (nodes : List ℕ) → grown nodes 0 ≡ built e 0 nodes
 unfolding built

@@ -6,19 +6,13 @@ ghost use Rattle.tree.specs.BuiltNodes.{Inside, Enterable};
 use super::measuring::from_both;
 use super::nodes::{field, make, store};
 
-fn larger(a: u64, b: u64) -> u64
-    ensures { result ≡ max a b }
-{
-    if a < b { b } else { a }
-}
-
 // [3.9] Has the far distance of side s of node m reach as far as `distance`.
 fn widen(nodes: &mut [u64], m: usize, s: usize, distance: u64)
     requires { (s < 2) × Inside nodes.old m }
     ensures { nodes.new ≡ put_field nodes.old m (2 + s) (max (field_at nodes.old m (2 + s)) distance) }
 {
     let far = field(nodes, m, 2 + s);
-    store(nodes, m, 2 + s, larger(far, distance));
+    store(nodes, m, 2 + s, far.max(distance));
 }
 
 // [3.5] [3.7] [3.8] [3.10] [3.11] Enters claim k, below the nearer side of each node, the left one of two as near, and gives the number
@@ -39,6 +33,7 @@ pub fn enter(
         make(nodes, 0, k);
         return 1;
     }
+    // No index is counted: each node leads to the next.
     let mut m = 0;
     loop {
         if field(nodes, m, 1) == 0 {

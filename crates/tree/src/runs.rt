@@ -1,6 +1,6 @@
-// Entering claims in runs, where a table has node for them. What may be entered is tested above.
-ghost use Rattle.std.specs.Prelude.{◌≡◌, ◌+◌, ◌*◌, ◌≤◌, length, drop};
-ghost use Rattle.std.proofs.Math.Seq.{paste};
+// Entering claims in runs, where a table has node for them. What may be entered is tested above. Memory that is written stays parameters: of a slice
+// behind a `&mut` in a struct each contract would also have to say that the reference is the same (DECISIONS, "A table that is only read").
+ghost use Rattle.std.specs.Prelude.{◌≡◌, ◌+◌, ◌*◌, ◌≤◌, length};
 ghost use Rattle.paper.specs.Points.{point};
 ghost use Rattle.paper.specs.Tree.{lent_mut};
 ghost use Rattle.paper.specs.Runs.{added, added_run};
@@ -9,18 +9,6 @@ ghost use Rattle.tree.specs.Soundness.{Roomy};
 use super::entering::enter;
 use super::rows::put_reference;
 use paper::tables::Table;
-
-// Copies n coordinates from `from` of the given points to `at` of the lent memory.
-fn copy(coordinates: &mut [i32], at: usize, points: &[i32], from: usize, n: usize)
-    requires { (at + n ≤ length coordinates.old) × (from + n ≤ length points.now) }
-    ensures { coordinates.new ≡ paste coordinates.old at (drop from points.now) n }
-{
-    let mut i = 0;
-    while i < n {
-        coordinates[at + i] = points[from + i];
-        i += 1;
-    }
-}
 
 // [3.14] Enters claim i of a run into a sound table with node for it.
 pub fn add(
@@ -39,15 +27,12 @@ pub fn add(
     let k = t.count;
     let d = t.d;
     put_reference(references, k, reference);
-    copy(coordinates, k * d, points, i * d, d);
+    coordinates[k * d..k * d + d].copy_from_slice(&points[i * d..i * d + d]);
     let used = enter(nodes, t.measure, d, coordinates, t.used, k as u64);
     Table {
-        number: t.number,
-        measure: t.measure,
-        d: d,
-        capacity: t.capacity,
         count: k + 1,
-        used: used,
+        used,
+        ..t
     }
 }
 
@@ -65,10 +50,8 @@ pub fn add_run(
         ≡ added_run given.now points.now (length given.now) (lent_mut t references.entry coordinates.entry nodes.entry) }
 {
     let mut held = t;
-    let mut i = 0;
-    while i < given.len() {
-        held = add(held, references, coordinates, nodes, given[i], points, i);
-        i += 1;
+    for (i, reference) in given.iter().enumerate() {
+        held = add(held, references, coordinates, nodes, *reference, points, i);
     }
     held
 }

@@ -1,15 +1,14 @@
 -- References among others, and new ones: what the definitions say position by position. Assumes nothing.
-use Prim.Native.Nat.{ℕ, zero, suc, ◌+◌, ◌<◌}
-use mathlib.Core.Path.{◌≡◌, refl, sym, ap, ◌∙◌}
+use Prim.Native.Nat.{ℕ, zero, suc, ◌<◌}
+use mathlib.Core.Path.{◌≡◌, refl, sym}
 use mathlib.Core.Bool.{Bool, true, false, ◌&&◌, ◌||◌, not}
 use mathlib.Core.List.{List, [], ◌∷◌, ◌++◌}
 use native.Mathlib.Omega.{arith}
-use native.Mathlib.Numerals.{add-one}
 use lib.Dec.{eqb}
-use lib.ListN.{length, get_or, take}
-use lib.Seq.{take-suc}
+use Rattle.std.proofs.Common.{append-nil}
+use lib.ListN.{length, get_or}
+use Rattle.std.specs.List.{fold}
 use borrow.Author.Tests.{eq-eqb, ne_eqb, not-true}
-use Rattle.paper.specs.Tree.{reference_at}
 use Rattle.paper.specs.References.{is_among, anew}
 use Rattle.paper.proofs.Tests.{never, and_first, and_second, or_right}
 use Rattle.tree_repeats.specs.NewReferences.{Lacks, NewAt}
@@ -33,29 +32,13 @@ pub among_lacks : (some : List ℕ) (r : ℕ) → is_among some r ≡ false → 
 unfolding Lacks
 among_lacks some r e i h q = never (is_among some r) (among_at some r i h q) e
 
--- one more, behind the others
-pub among_last : (some : List ℕ) (x r : ℕ) → is_among (some ++ (x ∷ [])) r ≡ (is_among some r || eqb x r)
+-- a search of all of them, from what is known before
+pub among_folded : (some : List ℕ) (r : ℕ) (known : Bool) → fold (λ (k : Bool) (x : ℕ). k || eqb x r) known some ≡ (known || is_among some r)
 unfolding is_among
-among_last [] x r = go (eqb x r)
-  where
-    go : (b : Bool) → (b || false) ≡ b
-    go true = refl
-    go false = refl
-among_last (y ∷ some) x r = rw (among_last some x r) (go (eqb y r) (is_among some r) (eqb x r))
-  where
-    go : (a b c : Bool) → (a || (b || c)) ≡ ((a || b) || c)
-    go true b c = refl
-    go false b c = refl
-
--- a search that looks at one reference after another: one more, and all
-module _ (references : List ℕ) (r : ℕ) (known : Bool) (i : ℕ) (so_far : known ≡ is_among (take i references) r) where
-  pub search_more : i < length references → (x wanted : ℕ) → x ≡ reference_at references i → wanted ≡ r
-      → (known || eqb x wanted) ≡ is_among (take (i + 1) references) r
-  search_more inside x wanted e w =
-      rw (so_far, e, w, add-one i, take-suc references i 0 inside) (sym (among_last (take i references) (reference_at references i) r))
-
-  pub search_all : (n : ℕ) → i ≡ n → known ≡ is_among (take n references) r
-  search_all n e = so_far ∙ ap (λ (k : ℕ). is_among (take k references) r) e
+among_folded [] r true = refl
+among_folded [] r false = refl
+among_folded (x ∷ some) r true = among_folded some r true
+among_folded (x ∷ some) r false = among_folded some r (eqb x r)
 
 -- ---- a run
 
@@ -92,14 +75,19 @@ anew_is known (r ∷ run) e (suc i) h =
     again n zero hj inside q = omega arith
     again n (suc j) hj inside q = n.once j (omega arith) (omega arith) q
 
-pub is_anew : (known run : List ℕ) → ((i : ℕ) → i < length run → NewAt known run i) → anew known run ≡ true
+-- one whose front is new is so where what is behind the front is
+pub anew_further : (known front behind : List ℕ) → ((i : ℕ) → i < length front → NewAt known (front ++ behind) i) → anew known (front ++ behind) ≡ anew known behind
 unfolding anew Lacks
-is_anew known [] new = refl
-is_anew known (r ∷ run) new =
-    let first = new 0 (omega arith) in
+anew_further known [] behind new = refl
+anew_further known (r ∷ front) behind new =
+    let n = new 0 (omega arith) in
     rw (
-      lacks_among known r first.free,
-      lacks_among run r (λ i h q. first.once (suc i) (omega arith) (omega arith) (sym q)),
-      is_anew known run (λ i h. let n = new (suc i) (omega arith) in
+      lacks_among known r n.free,
+      lacks_among (front ++ behind) r (λ i h q. n.once (suc i) (omega arith) (omega arith) (sym q)),
+      anew_further known front behind (λ i h. let n = new (suc i) (omega arith) in
           record { free = n.free; once = λ j hj inside q. n.once (suc j) (omega arith) (omega arith) q }),
     )
+
+pub is_anew : (known run : List ℕ) → ((i : ℕ) → i < length run → NewAt known run i) → anew known run ≡ true
+unfolding anew
+is_anew known run new = rw append-nil at (anew_further known run [] (rw append-nil new))

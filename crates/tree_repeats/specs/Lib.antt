@@ -1,3 +1,2 @@
 pub mod NewReferences
 pub mod Index
-pub mod Windows

@@ -7,50 +7,38 @@ ghost use Rattle.tree_repeats.specs.NewReferences.{Lacks, Differ, Decides};
 ghost use Rattle.tree_repeats.specs.Index.{bucket_of, Indexed};
 
 use paper::limits::MOST_CLAIMS;
-use tree::rows::reference;
 
 // The bucket of a reference: bits 20 to 31 of its product with an odd number that has no pattern, so that references which follow each
 // other, or are multiples of some number, spread.
-fn bucket(r: u64) -> usize
+#[tactic(auto, unfolding(crate::specs::Index::bucket_of))]
+fn bucket(r: u32) -> usize
     ensures { (result ≡ bucket_of r) × (result < most_claims) }
 {
-    (r % 4294967296 * 2654435761 / 1048576 % MOST_CLAIMS as u64) as usize
-}
-
-fn wide(x: u16) -> usize
-    ensures { result ≡ x }
-{
-    x as usize
+    (u64::from(r) * 2654435761 / 1048576) as usize % MOST_CLAIMS
 }
 
 // Whether r is none of the references that are indexed.
-fn lacks(heads: &[u16], links: &[u16], indexed: &[u32], r: u64) -> bool
+fn lacks(heads: &[u16], links: &[u16], indexed: &[u32], r: u32) -> bool
     requires { Indexed heads.now links.now indexed.now (length indexed.now) }
     ensures { Decides (Lacks indexed.now r) result }
 {
-    let mut x = wide(heads[bucket(r)]);
+    let mut x = usize::from(heads[bucket(r)]);
+    // No index is counted: each link leads to the next.
     while x != 0 {
-        if reference(indexed, x - 1) == r {
+        if indexed[x - 1] == r {
             return false;
         }
-        x = wide(links[x - 1]);
+        x = usize::from(links[x - 1]);
     }
     true
 }
 
-// Whether each of the first n of `others` is none of the references that are indexed.
-pub fn lacks_all(heads: &[u16], links: &[u16], indexed: &[u32], others: &[u32], n: usize) -> bool
-    requires { Indexed heads.now links.now indexed.now (length indexed.now) × (n ≤ length others.now) }
-    ensures { Decides ((k : ℕ) → k < n → Lacks indexed.now (reference_at others.now k)) result }
+// Whether each of the others is none of the references that are indexed.
+pub fn lacks_all(heads: &[u16], links: &[u16], indexed: &[u32], others: &[u32]) -> bool
+    requires { Indexed heads.now links.now indexed.now (length indexed.now) }
+    ensures { Decides ((k : ℕ) → k < length others.now → Lacks indexed.now (reference_at others.now k)) result }
 {
-    let mut k = 0;
-    while k < n {
-        if !lacks(heads, links, indexed, reference(others, k)) {
-            return false;
-        }
-        k += 1;
-    }
-    true
+    others.iter().all(|r| lacks(heads, links, indexed, *r))
 }
 
 // Indexes reference i, behind the i before it.
@@ -58,7 +46,7 @@ fn put(heads: &mut [u16], links: &mut [u16], given: &[u32], i: usize)
     requires { Indexed heads.old links.old given.now i × ((i < length given.now) × ((i < length links.old) × (i < most_claims))) }
     ensures { Indexed heads.new links.new given.now (i + 1) }
 {
-    let b = bucket(reference(given, i));
+    let b = bucket(given[i]);
     links[i] = heads[b];
     heads[b] = (i + 1) as u16;
 }
@@ -69,13 +57,11 @@ pub fn fill(heads: &mut [u16], links: &mut [u16], given: &[u32]) -> bool
     ensures differ { Decides (Differ given.now) result }
     ensures indexed { result ≡ true → Indexed heads.new links.new given.now (length given.now) }
 {
-    let mut i = 0;
-    while i < given.len() {
-        if !lacks(heads, links, &given[0..i], reference(given, i)) {
+    for (i, r) in given.iter().enumerate() {
+        if !lacks(heads, links, &given[..i], *r) {
             return false;
         }
         put(heads, links, given, i);
-        i += 1;
     }
     true
 }

@@ -4,13 +4,12 @@ use mathlib.Core.Path.{◌≡◌, refl, sym, ap, subst, ◌∙◌}
 use mathlib.Core.Bool.{Bool, true, false}
 use mathlib.Core.List.{List, [], ◌∷◌, ◌++◌}
 use native.Mathlib.Omega.{arith}
+use Rattle.std.specs.Prelude.{Option, None, Some}
 use lib.Dec.{leb}
 use lib.IntN.{ℤ}
 use lib.ListN.{length, get_or, take, drop, length-take}
 use lib.Seq.{take_at, take-take, paste}
 use borrow.Author.Tests.{lt-ltb, le-ltb, eq-eqb, ne_eqb}
-use Rattle.paper.specs.declared.orders.Found.{Found as Answer}
-use Rattle.paper.specs.declared.orders.Found.TheVariants.{Nothing, Item as AnItem}
 use Rattle.paper.specs.declared.orders.Mark.{Mark}
 use Rattle.paper.specs.declared.orders.Order.{Order}
 use Rattle.paper.specs.declared.orders.Order.TheVariants.{Near, Far}
@@ -20,13 +19,14 @@ use Rattle.paper.specs.declared.orders.Place.TheVariants.{Start, After}
 use Rattle.paper.specs.declared.points.Measure.{Measure}
 use Rattle.paper.specs.declared.tables.Table.{Table}
 use Rattle.paper.specs.Points.{measure_of, greatest_of, Claim}
-use Rattle.paper.specs.Orders.{Item, Query, item_of, listed, snapshot_of, following, page_of, paged_of, found_in, first_of, nearest_of, farthest_of, mark_holds, flat, fronted}
+use Rattle.paper.specs.declared.orders.Item.{Item}
+use Rattle.paper.specs.Orders.{Query, item_of, listed, snapshot_of, following, page_of, paged_of, first_of, nearest_of, farthest_of, mark_holds, flat, fronted}
 use Rattle.paper.specs.Tree.{Store, claims_from, claims_in}
 use Rattle.paper.specs.Calls.{table_query}
 use Rattle.tree.specs.Soundness.{Good}
 use Rattle.tree.proofs.TestedTables.{lent_located, good_tree}
-use Rattle.tree.proofs.PointsInMemory.{located_at, claims_length}
-use Rattle.walk.specs.Walking.{dist_of, InSight}
+use Rattle.tree.proofs.PointsInMemory.{claims_length}
+use Rattle.walk.specs.Walking.{dist_of}
 use Rattle.walk.specs.Asking.{Measurable, Answerable, Markable, Fills, PageFound, PageIs}
 use Rattle.orders.proofs.Lists.{front_length}
 use Rattle.orders.proofs.Rooms.{flat_length, flat_front}
@@ -87,29 +87,32 @@ module _ (s : Store) (order : Order) (probe : List ℤ) (reach : ℕ) where
       rw (claims_length s.table.d s.table.count s.references s.coordinates, rest_start order L)
 
   module _ (o o' : List ℕ) (r : ℕ) (h : Fills (page_of Q (claims_in s) Start 1) o o' r) where
-    pub first_none : r ≡ 0 → found_in Nothing ≡ first_of L
-    unfolding found_in first_of
+    abbrev first_in : Item
+    first_in = record { number = get_or o' 0 0; reference = get_or o' 1 0; distance = get_or o' 2 0 }
+
+    pub first_none : r ≡ 0 → None ≡ first_of L
+    unfolding first_of
     first_none z = go L (sym z ∙ h.counts ∙ ap length (start_page 1))
       where
-        go : (l : List Item) → 0 ≡ length (take 1 l) → found_in Nothing ≡ first_of l
+        go : (l : List Item) → 0 ≡ length (take 1 l) → None ≡ first_of l
         go [] e = refl
         go (a ∷ l) e = absurd (omega arith)
 
-    pub first_some : (r ≡ 0 → ⊥) → found_in (AnItem (get_or o' 0 0) (get_or o' 1 0) (get_or o' 2 0)) ≡ first_of L
-    unfolding found_in first_of fronted flat
+    pub first_some : (r ≡ 0 → ⊥) → Some first_in ≡ first_of L
+    unfolding first_of fronted flat
     first_some some = go L (h.counts ∙ ap length (start_page 1)) (h.room ∙ ap (λ (l : List Item). fronted l o) (start_page 1))
       where
-        go : (l : List Item) → r ≡ length (take 1 l) → o' ≡ fronted (take 1 l) o → found_in (AnItem (get_or o' 0 0) (get_or o' 1 0) (get_or o' 2 0)) ≡ first_of l
+        go : (l : List Item) → r ≡ length (take 1 l) → o' ≡ fronted (take 1 l) o → Some first_in ≡ first_of l
         go [] e f = absurd (some e)
         go (a ∷ l) e f = rw f
 
-module _ (s : Store) (probe : List ℤ) (r : Answer) where
-  pub nearest_is : (reach : ℕ) → found_in r ≡ first_of (L s Near probe reach) → found_in r ≡ nearest_of (table_query s.table Near probe reach) (claims_in s)
+module _ (s : Store) (probe : List ℤ) (r : Option Item) where
+  pub nearest_is : (reach : ℕ) → r ≡ first_of (L s Near probe reach) → r ≡ nearest_of (table_query s.table Near probe reach) (claims_in s)
   unfolding nearest_of
   nearest_is reach h = rw (claims_length s.table.d s.table.count s.references s.coordinates) h
 
   pub farthest_is : (m : Measure) (greatest : ℕ) → m ≡ measure_of s.table.measure → greatest ≡ greatest_of m s.table.d
-      → found_in r ≡ first_of (L s Far probe greatest) → found_in r ≡ farthest_of (table_query s.table Near probe 0) (claims_in s)
+      → r ≡ first_of (L s Far probe greatest) → r ≡ farthest_of (table_query s.table Near probe 0) (claims_in s)
   unfolding farthest_of
   farthest_is m greatest pm pg h = rw (claims_length s.table.d s.table.count s.references s.coordinates, ← pm, ← pg) h
 
@@ -126,14 +129,6 @@ module _ (t : Table) (coordinates probe : List ℤ) (reach : ℕ) (place : Place
   module _ (n : ℕ) (m : Mark) (is : place ≡ After n m) (h : Markable t coordinates probe place) where
     stored : n ≤ t.count
     stored = subst (λ (p : Place). snapshot_of p t.count ≤ t.count) is h.stored
-
-    pub mark_sight : m.number < n → InSight t.d m.number coordinates probe
-    mark_sight l =
-        record {
-          narrow = h.measurable.located.narrow;
-          inside = located_at t.d t.count m.number coordinates h.measurable.located (omega (arith, stored));
-          aimed = omega (arith, h.measurable.aimed);
-        }
 
     pub mark_late : n ≤ m.number → Holds false
     unfolding mark_holds

@@ -18,7 +18,8 @@ use Rattle.paper.specs.declared.tables.Table.{Table}
 use Rattle.paper.specs.Points.{measure_of, distance, Claim, zero_claim, point}
 use Rattle.paper.specs.Fields.{in_slots}
 use Rattle.paper.specs.Limits.{most_claims}
-use Rattle.paper.specs.Orders.{Item, Query, rank, before, earlier, item_of, listed, follows, rest, snapshot_of, following, page_of, flat, fronted}
+use Rattle.paper.specs.declared.orders.Item.{Item}
+use Rattle.paper.specs.Orders.{Query, rank, before, earlier, item_of, listed, follows, rest, snapshot_of, following, page_of, flat, fronted}
 use Rattle.paper.specs.Orders.{insert as put}
 use Rattle.paper.specs.Tree.{claims_from, reference_at}
 use Rattle.paper.specs.Calls.{table_query}

@@ -12,14 +12,14 @@ use Rattle.paper.specs.declared.orders.Order.{Order}
 use Rattle.paper.specs.declared.orders.Order.TheVariants.{Near, Far}
 use Rattle.paper.specs.Limits.{most_claims}
 use Rattle.paper.specs.Tree.{reference_at}
-use Rattle.walk_keep.specs.Asked.{Asked, Walkable, most_distance, top, rank_at, key_at, far_at, end_at, numbers_of}
+use Rattle.walk_keep.specs.declared.asked.Asked.{Asked}
+use Rattle.walk_keep.specs.Numbers.{most_distance, top, rank_at, key_at}
 use Rattle.walk_keep.specs.Page.{ranks, items, filled}
 use Rattle.walk_keep.specs.Kept.{ok_by, Holding}
 use Rattle.walk_keep.proofs.Keeping.{rising_at, rising_few, rising_ok}
-use Rattle.walk_keep.proofs.Admitting.{admitted_is, in_keys}
-use Rattle.walk_keep.proofs.Ranks.{rank_small}
+use Rattle.walk_keep.specs.Asked.{wanted_by}
+use Rattle.walk_keep.proofs.Admitting.{admitted_is, in_numbers}
 use Rattle.walk.specs.Walking.{GiveAsk, Gives}
-use Rattle.walk.proofs.Visiting.{far_told, size_told, fits_too}
 
 -- ---- what a key stands for
 
@@ -34,6 +34,14 @@ module _ (o : Order) (x k : ℕ) (near : x ≤ most_distance) (stored : k < most
   unfolding rank_at
   twice Near = refl
   twice Far = omega arith
+
+  small : y / most_claims ≤ top
+  unfolding rank_at
+  small = go o rank_of
+    where
+      go : (o : Order) → y / most_claims ≡ rank_at o x → y / most_claims ≤ top
+      go Near e = omega arith
+      go Far e = omega arith
 
   distance_of : rank_at o (y / most_claims) ≡ x
   distance_of = ap (rank_at o) rank_of ∙ twice o
@@ -79,88 +87,80 @@ module _ (ref dist : ℕ → ℕ) where
 
 -- ---- the loop that gives items
 
-pub record Giving (numbers references kept o₀ o : List ℕ) (i : ℕ) : Type 0 where
-  pub few : i ≤ get_or numbers 3 0
+pub record Giving (ask : Asked) (references kept o₀ o : List ℕ) (i : ℕ) : Type 0 where
   pub long : length o ≡ length o₀
-  pub given : (q : Asked) → numbers ≡ numbers_of q → (dist : ℕ → ℕ) (l : List ℕ) → Holding q dist kept l → (i ≤ length l) × (o ≡ filled (reference_at references) dist (take i l) o₀)
+  pub given : (dist : ℕ → ℕ) (l : List ℕ) → Holding ask dist kept l → (i ≤ length l) × (o ≡ filled (reference_at references) dist (take i l) o₀)
 
-pub giving_start : (numbers references kept o : List ℕ) → Giving numbers references kept o o 0
+pub giving_start : (ask : Asked) (references kept o : List ℕ) → Giving ask references kept o o 0
 unfolding items
-giving_start numbers references kept o = record { few = omega arith; long = refl; given = λ q is dist l h. (omega arith, refl) }
+giving_start ask references kept o = record { long = refl; given = λ dist l h. (omega arith, refl) }
 
 -- item i of a room that holds claims
-module _ (numbers kept : List ℕ) (q : Asked) (is : numbers ≡ numbers_of q) (fit : Walkable q) (dist : ℕ → ℕ) (l : List ℕ) (h : Holding q dist kept l) (i : ℕ) where
-  end_told : get_or numbers 7 0 ≡ end_at q
-  unfolding numbers_of
-  end_told = ap (λ (u : List ℕ). get_or u 7 0) is
-
-  held : i < get_or numbers 3 0 → (get_or kept i 0 ≡ get_or numbers 7 0 → ⊥) → i < length l
+module _ {ask : Asked} {dist : ℕ → ℕ} {kept l : List ℕ} (h : Holding ask dist kept l) (i : ℕ) where
+  held : i < ask.size → (get_or kept i 0 ≡ ask.end → ⊥) → i < length l
   held hi ne = go (ltb i (length l)) refl
     where
       go : (u : Bool) → ltb i (length l) ≡ u → i < length l
       go true p = ltb-true i (length l) p
-      go false p = absurd (ne (h.ends i (ltb-false i (length l) p) (omega (arith, size_told numbers q is)) ∙ sym end_told))
+      go false p = absurd (ne (h.ends i (ltb-false i (length l) p) hi))
 
-  numbered : i < length l → get_or l i 0 < most_claims
-  numbered hi = omega (arith, (rising_at (ranks q.order dist) (ok_by q dist) q.snapshot q.size zero l i h.rising hi).1, fit.stored)
+  module _ (hi : i < length l) where
+    abbrev K : ℕ
+    K = get_or l i 0
 
-  not_end : i < length l → get_or kept i 0 ≡ get_or numbers 7 0 → ⊥
-  not_end hi e =
-      let b = in_keys q (dist (get_or l i 0)) (get_or l i 0) (h.near i hi) (numbered hi) (admitted_is q (dist (get_or l i 0)) (get_or l i 0) (rising_ok (ranks q.order dist) (ok_by q dist) q.snapshot q.size zero l i h.rising hi)) in
-      omega (arith, b.1, h.keys i hi, end_told)
+    numbered : K < ask.snapshot
+    numbered = (rising_at (ranks ask.order dist) (ok_by ask dist) ask.snapshot ask.size zero l i h.rising hi).1
 
-module _ (numbers references kept o₀ : List ℕ) (asks : GiveAsk numbers references kept o₀) (o : List ℕ) (i : ℕ) (g : Giving numbers references kept o₀ o i) where
-  fits : (q : Asked) → numbers ≡ numbers_of q → Walkable q
-  fits q is = fits_too numbers asks.ask q asks.is is asks.fit
+    stored : K < most_claims
+    stored = omega (arith, numbered, ask.stored)
 
-  pub give_ready : i < get_or numbers 3 0 → (get_or kept i 0 ≡ get_or numbers 7 0 → ⊥)
+    not_end : get_or kept i 0 ≡ ask.end → ⊥
+    not_end e =
+        let b = in_numbers ask (dist K) K (h.near i hi) stored (admitted_is (wanted_by ask) (dist K) K (rising_ok (ranks ask.order dist) (ok_by ask dist) ask.snapshot ask.size zero l i h.rising hi)) in
+        omega (arith, b.1, h.keys i hi)
+
+    number_is : get_or kept i 0 % most_claims ≡ K
+    number_is = number_of ask.order (dist K) K (h.near i hi) stored (get_or kept i 0) (h.keys i hi)
+
+    rank_small : get_or kept i 0 / most_claims ≤ top
+    rank_small = small ask.order (dist K) K (h.near i hi) stored (get_or kept i 0) (h.keys i hi)
+
+    distance_is : rank_at ask.order (get_or kept i 0 / most_claims) ≡ dist K
+    distance_is = distance_of ask.order (dist K) K (h.near i hi) stored (get_or kept i 0) (h.keys i hi)
+
+module _ {ask : Asked} {references kept o₀ : List ℕ} (asks : GiveAsk ask references kept o₀) {o : List ℕ} {i : ℕ} (g : Giving ask references kept o₀ o i) where
+  pub give_ready : i < length kept → (get_or kept i 0 ≡ ask.end → ⊥)
       → ((get_or kept i 0 / most_claims ≤ top) × (get_or kept i 0 % most_claims < length references)) × (i * 3 + 3 ≤ length o)
   give_ready hi ne =
-      let q : Asked = asks.ask in
-      let l : List ℕ = asks.claims in
-      let hl : i < length l = held numbers kept q asks.is asks.fit asks.dist l asks.holds i hi ne in
-      let b = rising_at (ranks q.order asks.dist) (ok_by q asks.dist) q.snapshot q.size zero l i asks.holds.rising hl in
-      let k = number_of q.order (asks.dist (get_or l i 0)) (get_or l i 0) (asks.holds.near i hl) (omega (arith, b.1, asks.fit.stored)) (get_or kept i 0) (asks.holds.keys i hl) in
-      let r = rank_of q.order (asks.dist (get_or l i 0)) (get_or l i 0) (asks.holds.near i hl) (omega (arith, b.1, asks.fit.stored)) (get_or kept i 0) (asks.holds.keys i hl) in (
-        (rank_small q.order (asks.dist (get_or l i 0)) _ (omega (arith, asks.holds.near i hl)) r, omega (arith, k, b.1, asks.named)),
-        omega (arith, asks.long, g.long, size_told numbers q asks.is),
-      )
+      let hl = held asks.holds i (omega (arith, asks.few)) ne in
+      ((rank_small asks.holds i hl, omega (arith, number_is asks.holds i hl, numbered asks.holds i hl, asks.named)), omega (arith, asks.long, g.long))
 
-  -- item i, by its key
-  abbrev ItemBy : Order → List ℕ
-  ItemBy r = get_or kept i 0 % most_claims ∷ reference_at references (get_or kept i 0 % most_claims) ∷ rank_at r (get_or kept i 0 / most_claims) ∷ []
-
-  pub giving_turn : (o' : List ℕ) → i < get_or numbers 3 0 → (get_or kept i 0 ≡ get_or numbers 7 0 → ⊥)
-      → ((r : Order) → get_or numbers 0 0 ≡ far_at r → o' ≡ sets o (i * 3) (ItemBy r)) → Giving numbers references kept o₀ o' (i + 1)
-  giving_turn o' hi ne put =
+  pub giving_turn : {o' : List ℕ} → i < length kept → (get_or kept i 0 ≡ ask.end → ⊥)
+      → o' ≡ sets o (i * 3) (get_or kept i 0 % most_claims ∷ reference_at references (get_or kept i 0 % most_claims) ∷ rank_at ask.order (get_or kept i 0 / most_claims) ∷ []) → Giving ask references kept o₀ o' (i + 1)
+  giving_turn hi ne put =
       record {
-        few = omega arith;
-        long = ap length (put asks.ask.order (far_told numbers asks.ask asks.is)) ∙ length-sets o (i * 3) (ItemBy asks.ask.order) ∙ g.long;
-        given = λ q is dist l h.
-            let hl : i < length l = held numbers kept q is (fits q is) dist l h i hi ne in
-            let near : dist (get_or l i 0) ≤ most_distance = h.near i hl in
-            let stored : get_or l i 0 < most_claims = numbered numbers kept q is (fits q is) dist l h i hl in
-            let k = number_of q.order (dist (get_or l i 0)) (get_or l i 0) near stored (get_or kept i 0) (h.keys i hl) in
-            let x = distance_of q.order (dist (get_or l i 0)) (get_or l i 0) near stored (get_or kept i 0) (h.keys i hl) in (
+        long = simp length-sets at (ap length put) ∙ g.long;
+        given = λ dist l h.
+            let hl : i < length l = held h i (omega (arith, asks.few)) ne in (
               omega arith,
-              rw (k, x) at (put q.order (far_told numbers q is))
-                  ∙ ap (λ (u : List ℕ). sets u (i * 3) (get_or l i 0 ∷ reference_at references (get_or l i 0) ∷ dist (get_or l i 0) ∷ [])) (g.given q is dist l h).1
-                  ∙ fill_next (reference_at references) dist l o₀ i hl (omega (arith, asks.long, size_told numbers asks.ask asks.is)),
+              rw (number_is h i hl, distance_is h i hl) at put
+                  ∙ ap (λ (u : List ℕ). sets u (i * 3) (get_or l i 0 ∷ reference_at references (get_or l i 0) ∷ dist (get_or l i 0) ∷ [])) (g.given dist l h).1
+                  ∙ fill_next (reference_at references) dist l o₀ i hl (omega (arith, asks.long)),
             );
       }
 
-  module _ (q : Asked) (is : numbers ≡ numbers_of q) (dist : ℕ → ℕ) (l : List ℕ) (h : Holding q dist kept l) where
-    whole : i ≡ length l → Gives (reference_at references) dist l o₀ o i
-    whole e = record { room = (g.given q is dist l h).1 ∙ ap (λ (u : List ℕ). filled (reference_at references) dist u o₀) (take_all i l (omega arith)); counts = e }
+  module _ (dist : ℕ → ℕ) (l : List ℕ) (h : Holding ask dist kept l) where
+    whole : (n : ℕ) → i ≡ length l → n ≡ length l → Gives (reference_at references) dist l o₀ o n
+    whole n e f = record { room = (g.given dist l h).1 ∙ ap (λ (u : List ℕ). filled (reference_at references) dist u o₀) (take_all i l (omega arith)); counts = f }
 
-    pub given_end : get_or kept i 0 ≡ get_or numbers 7 0 → Gives (reference_at references) dist l o₀ o i
-    given_end e = whole (go (ltb i (length l)) refl)
+    pub given_end : get_or kept i 0 ≡ ask.end → Gives (reference_at references) dist l o₀ o i
+    given_end e = let all = go (ltb i (length l)) refl in whole i all all
       where
         go : (u : Bool) → ltb i (length l) ≡ u → i ≡ length l
-        go true p = absurd (not_end numbers kept q is (fits q is) dist l h i (ltb-true i (length l) p) e)
-        go false p = omega (arith, ltb-false i (length l) p, (g.given q is dist l h).0)
+        go true p = absurd (not_end h i (ltb-true i (length l) p) e)
+        go false p = omega (arith, ltb-false i (length l) p, (g.given dist l h).0)
 
-    pub given_all : get_or numbers 3 0 ≤ i → Gives (reference_at references) dist l o₀ o i
-    given_all hi =
-        whole
-        (omega (arith, (g.given q is dist l h).0, g.few, size_told numbers q is, rising_few (ranks q.order dist) (ok_by q dist) q.snapshot q.size zero l h.rising))
+    pub given_all : length kept ≤ i → Gives (reference_at references) dist l o₀ o (length kept)
+    given_all all =
+        let few = rising_few (ranks ask.order dist) (ok_by ask dist) ask.snapshot ask.size zero l h.rising in
+        whole (length kept) (omega (arith, asks.few, (g.given dist l h).0)) (omega (arith, asks.few, (g.given dist l h).0))

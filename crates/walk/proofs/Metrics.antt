@@ -6,7 +6,7 @@ use Rattle.paper.specs.declared.points.Measure.{Measure}
 use Rattle.paper.specs.Points.{distance}
 use Rattle.paper.specs.Tree.{apart}
 use Rattle.measure.proofs.Metric.{distance_sym, distance_triangle}
-use Rattle.walk_keep.specs.Asked.{Asked}
+use Rattle.walk_keep.specs.declared.asked.Asked.{Asked}
 use Rattle.walk.specs.Walking.{dist_of, dist_by, apart_by, Metric}
 
 -- the triangle inequality with symmetry, the three ways round

@@ -1,19 +1,19 @@
 -- The page of the root: what a walk from an empty room keeps, and gives. Assumes nothing.
-use Prim.Native.Nat.{ℕ, zero, suc, ◌+◌, ◌<◌, ◌≤◌}
-use mathlib.Core.Path.{◌≡◌, refl, sym, ap, ◌∙◌}
+use Prim.Native.Nat.{ℕ, zero, suc, ◌+◌, ◌<◌}
+use mathlib.Core.Path.{◌≡◌, refl, ◌∙◌}
 use mathlib.Core.List.{List, []}
 use native.Mathlib.Omega.{arith}
 use lib.IntN.{ℤ}
-use lib.ListN.{get_or, replicate, length-replicate}
+use lib.ListN.{length, get_or, take, replicate, length-take}
+use lib.Seq.{get_or-take}
 use Rattle.paper.specs.Limits.{most_page}
 use Rattle.paper.specs.Tree.{reference_at}
-use Rattle.tree.specs.BuiltNodes.{Holds, Neartree}
-use Rattle.walk_keep.specs.Asked.{Asked, Walkable, numbers_of}
+use Rattle.tree.specs.BuiltNodes.{Holds}
+use Rattle.walk_keep.specs.declared.asked.Asked.{Asked}
 use Rattle.walk_keep.specs.Page.{first_sorted, ranks}
 use Rattle.walk_keep.specs.Kept.{none, ok_by, Holding, Walked, WalkLeft}
-use Rattle.walk_keep.proofs.Keeping.{all_are_first}
-use Rattle.walk.specs.Walking.{dist_by, apart_by, NodeAsk, GiveAsk, Gives, PageAsk, AskFilled}
-use Rattle.walk.proofs.Visiting.{measure_told, d_told, snapshot_told, fits_too}
+use Rattle.walk_keep.proofs.Keeping.{rising_few, all_are_first}
+use Rattle.walk.specs.Walking.{dist_by, apart_by, GiveAsk, Gives, PageAsk, AskFilled}
 
 -- a room that has the end everywhere holds no claim
 ends_at : (n end i : ℕ) → i < n → get_or (replicate n end) i 0 ≡ end
@@ -21,58 +21,43 @@ ends_at zero end i h = absurd (omega arith)
 ends_at (suc n) end zero h = refl
 ends_at (suc n) end (suc i) h = ends_at n end i (omega arith)
 
-module _ (references : List ℕ) (coordinates : List ℤ) (nodes : List ℕ) (probe : List ℤ) (numbers room : List ℕ) (h : PageAsk references coordinates nodes probe numbers room) where
-  pub page_walks : NodeAsk nodes coordinates probe numbers 0
-  page_walks = record { used = h.used; claims = h.claims; walk = record { linked = h.tree.linked; room = h.tree.room; in_use = h.some }; lent = h.lent }
+module _ {references : List ℕ} {coordinates : List ℤ} {nodes : List ℕ} {ask : Asked} {room : List ℕ} (h : PageAsk references coordinates nodes ask room) where
+  module _ (probe : List ℤ) where
+    abbrev Dist : ℕ → ℕ
+    Dist = dist_by ask coordinates probe
 
-  module _ (kept : List ℕ) (w : (q : Asked) → numbers ≡ numbers_of q → Walked q (dist_by q coordinates probe) (Holds nodes (apart_by q coordinates) 0) (replicate (most_page + 1) (get_or numbers 7 0)) kept) where
-    module _ (q : Asked) (is : numbers ≡ numbers_of q) where
-      fits : Walkable q
-      fits = fits_too numbers h.lent.ask q h.lent.is is h.lent.fit
+    empty : Holding ask Dist (replicate (most_page + 1) ask.end) []
+    empty =
+        record {
+          keys = λ i hi. absurd (omega arith);
+          ends = λ i _ hi. ends_at (most_page + 1) ask.end i (omega (arith, ask.few));
+          near = λ i hi. absurd (omega arith);
+          rising = none;
+        }
 
-      empty : Holding q (dist_by q coordinates probe) (replicate (most_page + 1) (get_or numbers 7 0)) []
-      unfolding numbers_of
-      empty =
+    module _ (kept : List ℕ) (w : Walked ask Dist (Holds nodes (apart_by ask coordinates) 0) (replicate (most_page + 1) ask.end) kept) where
+      left : WalkLeft ask Dist (Holds nodes (apart_by ask coordinates) 0) [] kept
+      left = w [] empty
+
+      first : left.kept ≡ first_sorted (ranks ask.order Dist) (ok_by ask Dist) ask.snapshot ask.size
+      first =
+          all_are_first (ranks ask.order Dist) (ok_by ask Dist) ask.snapshot ask.size (Holds nodes (apart_by ask coordinates) 0) left.kept
+          ask.stored (λ j hj. h.tree.all j (omega (arith, h.stored))) left.is
+
+      -- the keys looked for are at the front of the room
+      front : {dist : ℕ → ℕ} {l : List ℕ} → Holding ask dist kept l → Holding ask dist (take ask.size kept) l
+      front {dist} {l} g =
+          let few = rising_few (ranks ask.order dist) (ok_by ask dist) ask.snapshot ask.size zero l g.rising in
           record {
-            long = rw length-replicate fits.few;
-            keys = λ i hi. absurd (omega arith);
-            ends = λ i _ hi. ends_at (most_page + 1) (get_or numbers 7 0) i (omega (arith, fits.few)) ∙ ap (λ (l : List ℕ). get_or l 7 0) is;
-            near = λ i hi. absurd (omega arith);
-            rising = none;
+            keys = λ i hi. get_or-take ask.size kept i 0 (omega arith) ∙ g.keys i hi;
+            ends = λ i hi hs. get_or-take ask.size kept i 0 hs ∙ g.ends i hi hs;
+            near = g.near;
+            rising = g.rising;
           }
 
-      left : WalkLeft q (dist_by q coordinates probe) (Holds nodes (apart_by q coordinates) 0) [] kept
-      left = w q is [] empty
+      pub page_filled : (o' : List ℕ) (r : ℕ) → ((dist : ℕ → ℕ) (l : List ℕ) → Holding ask dist (take ask.size kept) l → Gives (reference_at references) dist l room o' r)
+          → AskFilled ask references Dist room o' r
+      page_filled o' r g = let given = g Dist left.kept (front left.holds) in record { room = rw (← first) given.room; counts = rw (← first) given.counts }
 
-      -- the tree is one by this question's distances too
-      tree : Neartree nodes (apart_by q coordinates) h.used h.claims
-      tree =
-          let m : h.lent.ask.measure ≡ q.measure = sym (measure_told numbers h.lent.ask h.lent.is) ∙ measure_told numbers q is in
-          let d : h.lent.ask.d ≡ q.d = sym (d_told numbers h.lent.ask h.lent.is) ∙ d_told numbers q is in
-          rw (m, d) at h.tree
-
-      seen : q.snapshot ≤ h.claims
-      seen = omega (arith, h.stored, snapshot_told numbers h.lent.ask h.lent.is, snapshot_told numbers q is)
-
-      first : left.kept ≡ first_sorted (ranks q.order (dist_by q coordinates probe)) (ok_by q (dist_by q coordinates probe)) q.snapshot q.size
-      first =
-          all_are_first (ranks q.order (dist_by q coordinates probe)) (ok_by q (dist_by q coordinates probe)) q.snapshot q.size (Holds nodes (apart_by q coordinates) 0) left.kept
-          fits.stored (λ j hj. tree.all j (omega (arith, seen))) left.is
-
-      pub page_filled : (o' : List ℕ) (r : ℕ) → ((dist : ℕ → ℕ) (l : List ℕ) → Holding q dist kept l → Gives (reference_at references) dist l room o' r)
-          → AskFilled q references (dist_by q coordinates probe) room o' r
-      page_filled o' r g = let given = g (dist_by q coordinates probe) left.kept left.holds in record { room = rw (← first) given.room; counts = rw (← first) given.counts }
-
-    pub page_gives : GiveAsk numbers references kept room
-    page_gives =
-        let q : Asked = h.lent.ask in
-        record {
-          ask = q;
-          is = h.lent.is;
-          fit = h.lent.fit;
-          dist = dist_by q coordinates probe;
-          claims = (left q h.lent.is).kept;
-          holds = (left q h.lent.is).holds;
-          named = omega (arith, h.stored, h.named);
-          long = h.long;
-        }
+      pub page_gives : length kept ≡ most_page + 1 → GiveAsk ask references (take ask.size kept) room
+      page_gives long = record { dist = Dist; claims = left.kept; holds = front left.holds; few = length-take ask.size kept ∙ omega (arith, ask.few); named = omega (arith, h.stored, h.named); long = h.long }

@@ -1,41 +1,14 @@
 -- The three questions to a sound table, in the words of the rules. Definitions only.
-use Rattle.std.specs.Prelude.{ℕ, ◌+◌, ◌*◌, ◌<◌, ◌≤◌, ◌≡◌, true, false, List, ℤ, length, take}
-use Rattle.paper.specs.declared.orders.Order.{Order}
+use Rattle.std.specs.Prelude.{ℕ, ◌+◌, ◌*◌, ◌<◌, ◌≤◌, ◌≡◌, List, ℤ, length, take}
 use Rattle.paper.specs.declared.orders.Paged.{Paged}
 use Rattle.paper.specs.declared.orders.Place.{Place}
-use Rattle.paper.specs.declared.orders.Place.TheVariants.{Start, After}
 use Rattle.paper.specs.declared.tables.Table.{Table}
 use Rattle.paper.specs.Limits.{most_page}
 use Rattle.paper.specs.Points.{Claim, InRange}
-use Rattle.paper.specs.Orders.{Item, Query, start_mark, snapshot_of, following, page_of, last_of, flat, fronted}
+use Rattle.paper.specs.declared.orders.Item.{Item}
+use Rattle.paper.specs.Orders.{Query, snapshot_of, following, page_of, last_of, flat, fronted}
 use Rattle.paper.specs.Tree.{Store, apart_in}
 use Rattle.tree.specs.BuiltNodes.{Neartree, Located}
-use Rattle.walk_keep.specs.Asked.{Asked}
-
--- [4.4] [4.5] the question as the walk asks it: at the start its snapshot is the count, and it has no mark
-unfoldable pub asked_of : Table → Order → ℕ → Place → ℕ → Asked
-asked_of t order reach Start size =
-    record {
-      order = order;
-      measure = t.measure;
-      d = t.d;
-      reach = reach;
-      snapshot = t.count;
-      after = false;
-      mark = start_mark;
-      size = size;
-    }
-asked_of t order reach (After n m) size =
-    record {
-      order = order;
-      measure = t.measure;
-      d = t.d;
-      reach = reach;
-      snapshot = n;
-      after = true;
-      mark = m;
-      size = size;
-    }
 
 -- the claims and the probe are there to be measured
 pub record Measurable (t : Table) (coordinates probe : List ℤ) : Type 0 where

@@ -1,9 +1,10 @@
 -- What the walk of a node and of a side ask and give. Definitions only.
-use Rattle.std.specs.Prelude.{ℕ, zero, suc, ◌+◌, ◌-◌, ◌*◌, ◌<◌, ◌≤◌, ◌≡◌, ◌⊎◌, cond, List, ℤ, length, drop}
+use Rattle.std.specs.Prelude.{ℕ, ◌+◌, ◌-◌, ◌*◌, ◌<◌, ◌≤◌, ◌≡◌, ◌⊎◌, cond, eqb, Option, Some, None, List, ℤ, length, drop}
 use Rattle.paper.specs.Points.{measure_of, distance, greatest_of}
 use Rattle.paper.specs.Tree.{field_at, side_claim, apart, reference_at}
 use Rattle.tree.specs.BuiltNodes.{Inside, Holds, Searchable, Neartree, Located}
-use Rattle.walk_keep.specs.Asked.{Asked, Walkable, most_distance, top, rank_at, numbers_of}
+use Rattle.walk_keep.specs.declared.asked.Asked.{Asked}
+use Rattle.walk_keep.specs.Numbers.{most_distance, top, rank_at}
 use Rattle.walk_keep.specs.Page.{Filled, filled}
 use Rattle.walk_keep.specs.Kept.{ok_by, Holding, Walked}
 use Rattle.walk_keep.specs.Skips.{passed_at, beyond_at}
@@ -52,22 +53,28 @@ pub record Below (nodes : List ℕ) (e : ℕ → ℕ → ℕ) (m s k j : ℕ) : 
   pub leads : field_at nodes m (4 + s) ≡ room + 1
   pub holds : Holds nodes e room j
 
--- a claim in or below node `way` less one; none where `way` is 0
-pub record InOrBelow (nodes : List ℕ) (e : ℕ → ℕ → ℕ) (way j : ℕ) : Type 0 where
-  pub some : way ≡ 0 → ⊥
-  pub holds : Holds nodes e (way - 1) j
+-- the node below side s of node m, where there is one
+unfoldable pub link_at : List ℕ → ℕ → ℕ → Option ℕ
+link_at nodes m s = cond (eqb (field_at nodes m (4 + s)) 0) None (Some (field_at nodes m (4 + s) - 1))
 
--- [4.11] the node below side s of node m, plus one, or 0 where all below comes before the first rank wanted or is beyond the last key kept: the
+-- [4.11] the node to go to below side s of node m, or none where all below comes before the first rank wanted or is beyond the last key kept: the
 -- side's claim is at rank x, and no claim below is before rank `least`
-unfoldable pub way_down : List ℕ → List ℕ → ℕ → ℕ → ℕ → ℕ → List ℕ → ℕ
-way_down nodes numbers m s x least o =
-    cond (passed_at numbers x (field_at nodes m (2 + s))) 0
-    (cond (beyond_at numbers x (field_at nodes m (2 + s)) least (field_at nodes m 1) o) 0 (field_at nodes m (4 + s)))
+unfoldable pub way_down : List ℕ → Asked → ℕ → ℕ → ℕ → ℕ → List ℕ → Option ℕ
+way_down nodes ask m s x least o =
+    cond (passed_at ask x (field_at nodes m (2 + s))) None
+    (cond (beyond_at ask x (field_at nodes m (2 + s)) least (field_at nodes m 1) o) None (link_at nodes m s))
 
--- a, or b where a is 0
-unfoldable pub either_of : ℕ → ℕ → ℕ
-either_of zero b = b
-either_of (suc a) b = suc a
+-- a claim in or below the node to go to
+pub record InOrBelow (nodes : List ℕ) (e : ℕ → ℕ → ℕ) (way : Option ℕ) (j : ℕ) : Type 0 where
+  pub node : ℕ
+  pub is : way ≡ Some node
+  pub holds : Holds nodes e node j
+
+-- the numbers of node m's two claims: of its one claim twice, where it has no other
+pub record ClaimsOf (nodes : List ℕ) (m k j : ℕ) : Type 0 where
+  pub left : k ≡ side_claim nodes m 0
+  pub right : (field_at nodes m 1 ≡ 0 → ⊥) → j ≡ side_claim nodes m 1
+  pub alone : field_at nodes m 1 ≡ 0 → j ≡ k
 
 -- claim j stands on a side of node m
 abbrev pub On : List ℕ → ℕ → ℕ → Type 0
@@ -84,29 +91,23 @@ pub record Visits (ask : Asked) (coordinates probe : List ℤ) (nodes : List ℕ
   pub walked : Walked ask (dist_by ask coordinates probe) (On nodes m) o o'
   pub left_is : Ranked ask coordinates probe nodes m 0 left
   pub right_is : (field_at nodes m 1 ≡ 0 → ⊥) → Ranked ask coordinates probe nodes m 1 right
+  pub left_small : left ≤ top
   pub right_small : right ≤ top
 
--- the numbers are a question's, and the lent memory has what it reads of n claims
-pub record Readable (numbers : List ℕ) (coordinates probe : List ℤ) (n : ℕ) : Type 0 where
-  pub ask : Asked
-  pub is : numbers ≡ numbers_of ask
-  pub fit : Walkable ask
-  pub measure : ask.measure < 256
+-- the lent memory has what a question reads of n claims
+pub record Readable (ask : Asked) (coordinates : List ℤ) (n : ℕ) : Type 0 where
   pub located : Located ask.d n coordinates
   pub few : n ≤ most_claims
 
 -- what the walk of node m asks
-pub record NodeAsk (nodes : List ℕ) (coordinates probe : List ℤ) (numbers : List ℕ) (m : ℕ) : Type 0 where
+pub record NodeAsk (nodes : List ℕ) (coordinates : List ℤ) (ask : Asked) (m : ℕ) : Type 0 where
   pub used : ℕ
   pub claims : ℕ
   pub walk : Searchable nodes used claims m
-  pub lent : Readable numbers coordinates probe claims
+  pub lent : Readable ask coordinates claims
 
 -- what the tests of side s of node m ask
-pub record WayAsk (nodes numbers : List ℕ) (m s x least : ℕ) : Type 0 where
-  pub ask : Asked
-  pub is : numbers ≡ numbers_of ask
-  pub fit : Walkable ask
+pub record WayAsk (nodes : List ℕ) (m s x least : ℕ) : Type 0 where
   pub which : s < 2
   pub inside : Inside nodes m
   pub stored : field_at nodes m 1 ≤ most_claims
@@ -114,20 +115,18 @@ pub record WayAsk (nodes numbers : List ℕ) (m s x least : ℕ) : Type 0 where
   pub small : least ≤ top
 
 -- what the walk below a side asks
-pub record SideAsk (nodes : List ℕ) (coordinates probe : List ℤ) (numbers : List ℕ) (way : ℕ) : Type 0 where
+pub record SideAsk (nodes : List ℕ) (coordinates : List ℤ) (ask : Asked) (way : Option ℕ) : Type 0 where
   pub used : ℕ
   pub claims : ℕ
-  pub walk : (way ≡ 0 → ⊥) → Searchable nodes used claims (way - 1)
-  pub lent : Readable numbers coordinates probe claims
+  pub walk : (m : ℕ) → way ≡ Some m → Searchable nodes used claims m
+  pub lent : Readable ask coordinates claims
 
 -- the room holds keys of claims that have references, and what they are given to has place for them
-pub record GiveAsk (numbers references kept room : List ℕ) : Type 0 where
-  pub ask : Asked
-  pub is : numbers ≡ numbers_of ask
-  pub fit : Walkable ask
+pub record GiveAsk (ask : Asked) (references kept room : List ℕ) : Type 0 where
   pub dist : ℕ → ℕ
   pub claims : List ℕ
   pub holds : Holding ask dist kept claims
+  pub few : length kept ≡ ask.size
   pub named : ask.snapshot ≤ length references
   pub long : ask.size * 3 ≤ length room
 
@@ -137,15 +136,15 @@ pub record Gives (ref dist : ℕ → ℕ) (l before after : List ℕ) (count : �
   pub counts : count ≡ length l
 
 -- what a page asks of a table that has a claim
-pub record PageAsk (references : List ℕ) (coordinates : List ℤ) (nodes : List ℕ) (probe : List ℤ) (numbers room : List ℕ) : Type 0 where
+pub record PageAsk (references : List ℕ) (coordinates : List ℤ) (nodes : List ℕ) (ask : Asked) (room : List ℕ) : Type 0 where
   pub used : ℕ
   pub claims : ℕ
   pub some : 0 < used
-  pub lent : Readable numbers coordinates probe claims
-  pub tree : Neartree nodes (apart_by lent.ask coordinates) used claims
-  pub stored : lent.ask.snapshot ≤ claims
+  pub lent : Readable ask coordinates claims
+  pub tree : Neartree nodes (apart_by ask coordinates) used claims
+  pub stored : ask.snapshot ≤ claims
   pub named : claims ≤ length references
-  pub long : lent.ask.size * 3 ≤ length room
+  pub long : ask.size * 3 ≤ length room
 
 -- [4.6] [4.8] the first so many admitted claims stand at the front of the room
 abbrev pub AskFilled : Asked → List ℕ → (ℕ → ℕ) → List ℕ → List ℕ → ℕ → Type 0

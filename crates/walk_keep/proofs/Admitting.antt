@@ -1,17 +1,22 @@
--- What a question admits, by its record and by its numbers. Assumes nothing.
-use Prim.Native.Nat.{ℕ, ◌+◌, ◌<◌, ◌≤◌, min, max}
+-- What a question admits, by its reach and place and by its numbers. Assumes nothing.
+use Prim.Native.Nat.{ℕ, ◌+◌, ◌<◌, ◌≤◌, min}
 use mathlib.Core.Path.{◌≡◌, refl, sym}
 use mathlib.Core.Logic.{◌⊎◌, inl, inr}
-use mathlib.Core.Bool.{Bool, true, false, cond, ◌&&◌, ◌||◌}
+use mathlib.Core.Bool.{Bool, true, false, ◌&&◌, ◌||◌}
 use native.Mathlib.Omega.{arith}
 use lib.Dec.{ltb, leb, eqb}
 use borrow.Author.Tests.{ltb-true, ltb-false, leb-true, eqb-true, lt-ltb, le-leb, eq-eqb}
 use Rattle.paper.specs.declared.orders.Order.{Order}
 use Rattle.paper.specs.declared.orders.Order.TheVariants.{Near, Far}
 use Rattle.paper.specs.Limits.{most_claims, most_number}
-use Rattle.paper.specs.Orders.{rank, before}
+use Rattle.paper.specs.Orders.{rank, before, follows}
 use Rattle.paper.proofs.Tests.{no_way}
-use Rattle.walk_keep.specs.Asked.{Asked, admitted, most_distance, top, rank_at, key_at, front_at, behind_at, mark_at, low_at, end_at}
+use Rattle.paper.specs.declared.orders.Mark.{Mark}
+use Rattle.paper.specs.declared.orders.Place.{Place}
+use Rattle.paper.specs.declared.orders.Place.TheVariants.{Start, After}
+use Rattle.walk_keep.specs.declared.asked.Asked.{Asked}
+use Rattle.walk_keep.specs.Numbers.{most_distance, top, rank_at, key_at, front_at, behind_at, mark_at, low_at, end_at}
+use Rattle.walk_keep.specs.Asked.{Wanted, wants, wanted_by}
 
 -- ---- the order of ranks and numbers
 
@@ -40,32 +45,34 @@ module _ (o : Order) (x k y j : ℕ) where
 
 -- ---- an admitted claim
 
-module _ (ask : Asked) (x k : ℕ) where
+module _ (ask : Wanted) (x k : ℕ) where
   pub record Is : Type 0 where
     pub below : k < ask.snapshot
     pub within : x ≤ ask.reach
-    pub after : ask.after ≡ true → Comes ask.order ask.mark.distance ask.mark.number x k
+    pub after : (n : ℕ) (m : Mark) → ask.place ≡ After n m → Comes ask.order m.distance m.number x k
 
-  pub admitted_is : admitted ask x k ≡ true → Is
-  unfolding admitted
+  abbrev F : Place → Bool
+  F p = follows ask.order p (record { number = k; reference = 0; distance = x })
+
+  pub admitted_is : wants ask x k ≡ true → Is
+  unfolding wants follows
   admitted_is = go (ltb k ask.snapshot) (leb x ask.reach) refl refl
     where
-      B : Bool
-      B = before ask.order ask.mark.distance ask.mark.number x k
+      behind : F ask.place ≡ true → (n : ℕ) (m : Mark) → ask.place ≡ After n m → Comes ask.order m.distance m.number x k
+      behind h n m is = comes ask.order m.distance m.number x k (rw is at h)
 
-      go : (u v : Bool) → ltb k ask.snapshot ≡ u → leb x ask.reach ≡ v → (u && (v && cond ask.after B true)) ≡ true → Is
+      go : (u v : Bool) → ltb k ask.snapshot ≡ u → leb x ask.reach ≡ v → (u && (v && F ask.place)) ≡ true → Is
       go false v p q h = absurd (no_way (sym h))
       go true false p q h = absurd (no_way (sym h))
-      go true true p q h =
-          record { below = ltb-true k ask.snapshot p; within = leb-true x ask.reach q; after = λ a. comes ask.order ask.mark.distance ask.mark.number x k (rw a at h) }
+      go true true p q h = record { below = ltb-true k ask.snapshot p; within = leb-true x ask.reach q; after = behind h }
 
-  pub is_admitted : Is → admitted ask x k ≡ true
-  unfolding admitted
-  is_admitted h = rw (lt-ltb k ask.snapshot h.below, le-leb x ask.reach h.within) (go ask.after refl)
+  pub is_admitted : Is → wants ask x k ≡ true
+  unfolding wants follows
+  is_admitted h = rw (lt-ltb k ask.snapshot h.below, le-leb x ask.reach h.within) (go ask.place refl)
     where
-      go : (u : Bool) → ask.after ≡ u → cond u (before ask.order ask.mark.distance ask.mark.number x k) true ≡ true
-      go true p = comes_before ask.order ask.mark.distance ask.mark.number x k (h.after p)
-      go false p = refl
+      go : (p : Place) → ask.place ≡ p → F p ≡ true
+      go Start is = refl
+      go (After n m) is = comes_before ask.order m.distance m.number x k (h.after n m is)
 
 -- ---- by the numbers: not before the first key wanted, and before the end
 
@@ -104,39 +111,44 @@ module _ (mx mk x k : ℕ) (near : x ≤ most_distance) (stored : k < most_claim
       go true p = inl (ltb-true (rank o mx) (rank o x) p)
       go false p = inr (mark_at_lem o h (ltb-false (rank o mx) (rank o x) p))
 
-module _ (ask : Asked) (x k : ℕ) (near : x ≤ most_distance) (stored : k < most_claims) where
+module _ (ask : Wanted) (x k : ℕ) (near : x ≤ most_distance) (stored : k < most_claims) where
   abbrev Y : ℕ
   Y = key_at (rank_at ask.order x) k
 
-  abbrev Front : ℕ
-  Front = key_at (front_at ask.order ask.reach) 0
-
-  abbrev Mark' : ℕ
-  Mark' = key_at (mark_at ask) (min ask.mark.number most_number) + 1
-
-  pub in_keys : Is ask x k → (low_at ask ≤ Y) × (Y < end_at ask)
+  pub in_keys : Is ask x k → (low_at ask.order ask.reach ask.place ≤ Y) × (Y < end_at ask.order ask.reach)
   unfolding low_at end_at
-  in_keys h = let r = in_reach ask.reach x k near stored ask.order h.within in (go ask.after refl, r.1)
+  in_keys h = (go ask.place refl, reached.1)
     where
-      go : (u : Bool) → ask.after ≡ u → cond u (max Front Mark') Front ≤ Y
-      go true p =
-          let m = behind_mark ask.mark.distance ask.mark.number x k near stored ask.order (h.after p) in
-          omega (arith, (in_reach ask.reach x k near stored ask.order h.within).0)
-      go false p = (in_reach ask.reach x k near stored ask.order h.within).0
+      reached : (key_at (front_at ask.order ask.reach) 0 ≤ Y) × (Y < key_at (behind_at ask.order ask.reach) 0)
+      reached = in_reach ask.reach x k near stored ask.order h.within
 
-  pub keys_in : k < ask.snapshot → low_at ask ≤ Y → Y < end_at ask → Is ask x k
+      go : (p : Place) → ask.place ≡ p → low_at ask.order ask.reach p ≤ Y
+      go Start is = reached.0
+      go (After n m) is = omega (arith, reached.0, behind_mark m.distance m.number x k near stored ask.order (h.after n m is))
+
+  pub keys_in : k < ask.snapshot → low_at ask.order ask.reach ask.place ≤ Y → Y < end_at ask.order ask.reach → Is ask x k
   unfolding low_at end_at
   keys_in below low end =
       record {
         below = below;
-        within = reach_in ask.reach x k near stored ask.order (front ask.after low) end;
-        after = λ p. mark_behind ask.mark.distance ask.mark.number x k near stored ask.order (marked ask.after p low);
+        within = reach_in ask.reach x k near stored ask.order (front ask.place low) end;
+        after = λ n m is. mark_behind m.distance m.number x k near stored ask.order (marked n m (rw is at low));
       }
     where
-      front : (u : Bool) → cond u (max Front Mark') Front ≤ Y → Front ≤ Y
-      front true h = omega arith
-      front false h = h
+      front : (p : Place) → low_at ask.order ask.reach p ≤ Y → key_at (front_at ask.order ask.reach) 0 ≤ Y
+      front Start h = h
+      front (After n m) h = omega arith
 
-      marked : (u : Bool) → u ≡ true → cond u (max Front Mark') Front ≤ Y → Mark' ≤ Y
-      marked true p h = omega arith
-      marked false p h = absurd (no_way (sym p))
+      marked : (n : ℕ) (m : Mark) → low_at ask.order ask.reach (After n m) ≤ Y → key_at (mark_at ask.order m) (min m.number most_number) + 1 ≤ Y
+      marked n m h = omega arith
+
+-- the same by the numbers of a question
+module _ (ask : Asked) (x k : ℕ) (near : x ≤ most_distance) (stored : k < most_claims) where
+  abbrev K : ℕ
+  K = key_at (rank_at ask.order x) k
+
+  pub in_numbers : Is (wanted_by ask) x k → (ask.low ≤ K) × (K < ask.end)
+  in_numbers h = let b = in_keys (wanted_by ask) x k near stored h in (rw ask.low_is b.0, rw ask.end_is b.1)
+
+  pub numbers_in : k < ask.snapshot → ask.low ≤ K → K < ask.end → Is (wanted_by ask) x k
+  numbers_in below low end = keys_in (wanted_by ask) x k near stored below (rw ask.low_is at low) (rw ask.end_is at end)

@@ -127,15 +127,6 @@ module _ (rank : ℕ → ℕ) (ok : ℕ → Bool) (n : ℕ) where
       let f : key rank k < key rank j = omega (arith, p.0, last) in
       past f (rising_covers s (key rank k + 1) j l hn hj d (omega arith) last)
 
-  -- the last is the greatest
-  pub rising_last : (s lo : ℕ) (l : List ℕ) (i m : ℕ) → RisingClaims rank ok n s lo l → i ≤ m → m < length l → key rank (get_or l i 0) ≤ key rank (get_or l m 0)
-  rising_last zero lo (k ∷ l) i m r hi h = elim r [ ]
-  rising_last s lo [] i m none hi h = absurd (omega arith)
-  rising_last (suc s) lo (k ∷ l) zero zero (more a b c d) hi h = le_refl _
-  rising_last (suc s) lo (k ∷ l) (suc i) zero (more a b c d) hi h = absurd (omega arith)
-  rising_last (suc s) lo (k ∷ l) zero (suc m) (more a b c d) hi h = let p = rising_at s (key rank k + 1) l m d (omega arith) in omega (arith, p.0)
-  rising_last (suc s) lo (k ∷ l) (suc i) (suc m) (more a b c d) hi h = rising_last s (key rank k + 1) l i m d (omega arith) (omega arith)
-
   -- ---- insertion
 
   module _ (k : ℕ) (hn : n ≤ most_claims) (hk : k < n) where

@@ -1,7 +1,6 @@
 pub mod Keeping
 pub mod Insertion
 pub mod Places
-pub mod Ranks
 pub mod Admitting
 pub mod Walks
 pub mod Stepping

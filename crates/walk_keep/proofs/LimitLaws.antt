@@ -8,23 +8,24 @@ use lib.Dec.{ltb}
 use lib.ListN.{get_or}
 use borrow.Author.Tests.{ltb-true, ltb-false, lt-ltb, le-ltb, le-leb}
 use Rattle.paper.specs.Limits.{most_claims}
-use Rattle.walk_keep.specs.Asked.{key_at, size_in}
+use Rattle.walk_keep.specs.declared.asked.Asked.{Asked}
+use Rattle.walk_keep.specs.Numbers.{key_at}
 use Rattle.walk_keep.specs.Kept.{late, KeepIs}
 use Rattle.walk_keep.specs.Skips.{beyond_at, limit_at, beyond_limit}
 
-module _ (numbers : List ℕ) (o : List ℕ) (far x : ℕ) (beyond : beyond_limit (get_or o (size_in numbers - 1) 0) far x ≡ true) where
+module _ (ask : Asked) (o : List ℕ) (far x : ℕ) (beyond : beyond_limit (get_or o (ask.size - 1) 0) far x ≡ true) where
   abbrev Last : ℕ
-  Last = get_or o (size_in numbers - 1) 0
+  Last = get_or o (ask.size - 1) 0
 
   -- the step of the claim is none
-  pub limit_kept : (k : ℕ) → KeepIs numbers k (key_at x k) o o
+  pub limit_kept : (k : ℕ) → KeepIs ask k (key_at x k) o o
   unfolding beyond_limit
   limit_kept k =
       let h = ltb-true (limit_at Last far) x beyond in
-      record { put = λ _ _. late (omega arith) refl; left = λ _. refl }
+      record { put = λ _. late (omega arith) refl; left = λ _. refl }
 
   -- and its side is skipped, whatever the other tests say
-  pub limit_beyond : (least f : ℕ) → beyond_at numbers x far least f o ≡ true
+  pub limit_beyond : (least f : ℕ) → beyond_at ask x far least f o ≡ true
   unfolding beyond_limit beyond_at
   limit_beyond least f =
       let h = ltb-true (limit_at Last far) x beyond in

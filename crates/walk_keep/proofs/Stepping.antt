@@ -15,12 +15,14 @@ use Rattle.paper.specs.declared.orders.Order.TheVariants.{Near, Far}
 use Rattle.paper.specs.Limits.{most_claims}
 use Rattle.paper.specs.Orders.{rank}
 use Rattle.paper.proofs.Tests.{no_way}
-use Rattle.walk_keep.specs.Asked.{Asked, Walkable, most_distance, rank_at, key_at, low_at, end_at, numbers_of}
+use Rattle.walk_keep.specs.declared.asked.Asked.{Asked}
+use Rattle.walk_keep.specs.Numbers.{most_distance, rank_at, key_at}
 use Rattle.walk_keep.specs.Page.{ranks, sooner, insert_by}
 use Rattle.walk_keep.specs.Kept.{key, RisingClaims, ok_by, key_by, Holding, WalkLeft, Walked, Pushed, put, held, late, KeepIs}
 use Rattle.walk_keep.proofs.Keeping.{sooner_true, key_sooner, rising_at, rising_ok, rising_few, rising_take, insert_rising, one}
 use Rattle.walk_keep.proofs.Insertion.{PositionIn, insert_at, insert_same, With, with_length, with_front, with_here, with_behind}
-use Rattle.walk_keep.proofs.Admitting.{Is, admitted_is, is_admitted, in_keys, keys_in}
+use Rattle.walk_keep.specs.Asked.{wanted_by}
+use Rattle.walk_keep.proofs.Admitting.{Is, admitted_is, is_admitted, in_numbers, numbers_in}
 use Rattle.walk_keep.proofs.Walks.{walked_still}
 
 -- ---- a key of 48 bits is the order's key, less what far order's ranks have in common
@@ -39,7 +41,7 @@ key_is ask dist k h = go ask.order
 
 -- ---- a key put in a room that holds claims
 
-module _ (ask : Asked) (fit : Walkable ask) (dist : ℕ → ℕ) (k y : ℕ) (stored : k < most_claims) (near : dist k ≤ most_distance) (is : y ≡ key_by ask dist k) where
+module _ (ask : Asked) (dist : ℕ → ℕ) (k y : ℕ) (stored : k < most_claims) (near : dist k ≤ most_distance) (is : y ≡ key_by ask dist k) where
   abbrev R : ℕ → ℕ
   R = ranks ask.order dist
 
@@ -52,13 +54,13 @@ module _ (ask : Asked) (fit : Walkable ask) (dist : ℕ → ℕ) (k y : ℕ) (st
 
   module _ (o l : List ℕ) (h : Holding ask dist o l) where
     stored_at : (i : ℕ) → i < length l → get_or l i 0 < most_claims
-    stored_at i hi = omega (arith, (rising_at R (ok_by ask dist) ask.snapshot ask.size zero l i h.rising hi).1, fit.stored)
+    stored_at i hi = omega (arith, (rising_at R (ok_by ask dist) ask.snapshot ask.size zero l i h.rising hi).1, ask.stored)
 
     key_at_lem : (i : ℕ) → i < length l → key R (get_or l i 0) ≡ get_or o i 0 + above ask.order
     key_at_lem i hi = key_is ask dist (get_or l i 0) (h.near i hi) ∙ ap (λ (u : ℕ). u + above ask.order) (sym (h.keys i hi))
 
     -- a place that is not at the end is a claim's
-    claimed : (i : ℕ) → i < ask.size → (get_or o i 0 ≡ end_at ask → ⊥) → i < length l
+    claimed : (i : ℕ) → i < ask.size → (get_or o i 0 ≡ ask.end → ⊥) → i < length l
     claimed i hi ne = go (ltb i (length l)) refl
       where
         go : (u : Bool) → ltb i (length l) ≡ u → i < length l
@@ -70,11 +72,11 @@ module _ (ask : Asked) (fit : Walkable ask) (dist : ℕ → ℕ) (k y : ℕ) (st
     same_claim i hi e = omega (arith, key_at_lem i hi, own, stored_at i hi)
 
     module _ (ok : ok_by ask dist k ≡ true) where
-      admits : Is ask (dist k) k
-      admits = admitted_is ask (dist k) k ok
+      admits : Is (wanted_by ask) (dist k) k
+      admits = admitted_is (wanted_by ask) (dist k) k ok
 
-      ends_behind : y < end_at ask
-      ends_behind = rw is (in_keys ask (dist k) k near stored admits).1
+      ends_behind : y < ask.end
+      ends_behind = rw is (in_numbers ask (dist k) k near stored admits).1
 
       abbrev After : List ℕ
       After = take ask.size (insert_by R k l)
@@ -82,7 +84,7 @@ module _ (ask : Asked) (fit : Walkable ask) (dist : ℕ → ℕ) (k y : ℕ) (st
       rises : RisingClaims R (ok_by ask dist) ask.snapshot ask.size zero After
       rises =
           rising_take R (ok_by ask dist) ask.snapshot ask.size (suc ask.size) zero (insert_by R k l)
-          (insert_rising R (ok_by ask dist) ask.snapshot k fit.stored admits.below ask.size zero l (omega arith) ok h.rising)
+          (insert_rising R (ok_by ask dist) ask.snapshot k ask.stored admits.below ask.size zero l (omega arith) ok h.rising)
 
       -- where nothing moves
       stays : insert_by R k l ≡ l → After ≡ l
@@ -91,7 +93,7 @@ module _ (ask : Asked) (fit : Walkable ask) (dist : ℕ → ℕ) (k y : ℕ) (st
       found : (i : ℕ) → i < ask.size → get_or o i 0 ≡ y → Holding ask dist o After
       found i hi e =
           let here : i < length l = claimed i hi (λ q. omega (arith, ends_behind)) in
-          rw (stays (insert_same R (ok_by ask dist) ask.snapshot k fit.stored admits.below ask.size zero l i h.rising here (same_claim i here e))) h
+          rw (stays (insert_same R (ok_by ask dist) ask.snapshot k ask.stored admits.below ask.size zero l i h.rising here (same_claim i here e))) h
 
       module _ (p : ℕ) (within : p ≤ length l) (front : 0 < p → get_or o (p - 1) 0 < y) (behind : p < length l → y < get_or o p 0) where
         position : PositionIn R l k p
@@ -111,7 +113,7 @@ module _ (ask : Asked) (fit : Walkable ask) (dist : ℕ → ℕ) (k y : ℕ) (st
 
         inserted : insert_by R k l ≡ take p l ++ (k ∷ drop p l)
         inserted =
-            insert_at R (ok_by ask dist) ask.snapshot k fit.stored admits.below ask.size zero l p h.rising position
+            insert_at R (ok_by ask dist) ask.snapshot k ask.stored admits.below ask.size zero l p h.rising position
             (λ hp e. let c : key R (get_or l p 0) ≡ key R k = ap (key R) e in omega (arith, key_at_lem p hp, own, behind hp))
 
       -- in its place
@@ -136,7 +138,7 @@ module _ (ask : Asked) (fit : Walkable ask) (dist : ℕ → ℕ) (k y : ℕ) (st
                 rw (with_behind l k p ask.size within i b (omega (arith, few_in)), moved i b (omega (arith, few_in)))
                 (h.keys (i - 1) (omega (arith, few_in)), h.near (i - 1) (omega (arith, few_in)))
 
-        behind_ends : (i : ℕ) → length N ≤ i → i < ask.size → get_or o' i 0 ≡ end_at ask
+        behind_ends : (i : ℕ) → length N ≤ i → i < ask.size → get_or o' i 0 ≡ ask.end
         behind_ends i hi hs = moved i (omega (arith, few_in)) hs ∙ h.ends (i - 1) (omega (arith, few_in)) (omega arith)
 
         put_in : Holding ask dist o' After
@@ -144,7 +146,6 @@ module _ (ask : Asked) (fit : Walkable ask) (dist : ℕ → ℕ) (k y : ℕ) (st
             let e : After ≡ N = ap (take ask.size) (inserted p within front (λ _. last)) in
             rw e
             (record {
-              long = omega (arith, h.long);
               keys = λ i hi. (has i hi).0;
               ends = behind_ends;
               near = λ i hi. (has i hi).1;
@@ -162,7 +163,7 @@ module _ (ask : Asked) (fit : Walkable ask) (dist : ℕ → ℕ) (k y : ℕ) (st
       -- behind all
       past : get_or o (ask.size - 1) 0 < y → Holding ask dist o After
       past last =
-          let here : ask.size - 1 < length l = claimed (ask.size - 1) (omega (arith, fit.some)) (λ q. omega (arith, ends_behind)) in
+          let here : ask.size - 1 < length l = claimed (ask.size - 1) (omega (arith, ask.some)) (λ q. omega (arith, ends_behind)) in
           let whole : length l ≡ ask.size = omega (arith, rising_few R (ok_by ask dist) ask.snapshot ask.size zero l h.rising) in
           let w : ask.size - 1 ≡ length l - 1 = omega arith in
           let i = inserted (length l) (le_refl (length l)) (λ _. rw (← w) last) (λ hp. absurd (omega arith)) in
@@ -172,51 +173,50 @@ module _ (ask : Asked) (fit : Walkable ask) (dist : ℕ → ℕ) (k y : ℕ) (st
       stepped : (o' : List ℕ) → Pushed ask.size y o o' → Holding ask dist o' After
       stepped o' (put p long hp front last same here moved) = put_in p (before_ends p hp front) hp front last o' long same here moved
       stepped o' (held p hp e same) = rw same (found p hp e)
-      stepped o' (late last same) = rw same (⊎_elim (λ e. found (ask.size - 1) (omega (arith, fit.some)) e) past (eq-or-lt_of_le last))
+      stepped o' (late last same) = rw same (⊎_elim (λ e. found (ask.size - 1) (omega (arith, ask.some)) e) past (eq-or-lt_of_le last))
 
     -- a key that is not before the end is not put
-    kept_out : end_at ask ≤ y → (o' : List ℕ) → Pushed ask.size y o o' → o' ≡ o
+    kept_out : ask.end ≤ y → (o' : List ℕ) → Pushed ask.size y o o' → o' ≡ o
     kept_out late' o' (put p long hp front last same here moved) = absurd (go (ltb p (length l)) refl)
       where
         go : (u : Bool) → ltb p (length l) ≡ u → ⊥
         go true q =
             let hi : p < length l = ltb-true p (length l) q in
-            let b = in_keys ask (dist (get_or l p 0)) (get_or l p 0) (h.near p hi) (stored_at p hi) (admitted_is ask (dist (get_or l p 0)) (get_or l p 0) (rising_ok R (ok_by ask dist) ask.snapshot ask.size zero l p h.rising hi)) in
+            let b = in_numbers ask (dist (get_or l p 0)) (get_or l p 0) (h.near p hi) (stored_at p hi) (admitted_is (wanted_by ask) (dist (get_or l p 0)) (get_or l p 0) (rising_ok R (ok_by ask dist) ask.snapshot ask.size zero l p h.rising hi)) in
             omega (arith, b.1, h.keys p hi)
         go false q = omega (arith, h.ends p (ltb-false p (length l) q) hp)
     kept_out late' o' (held p hp e same) = same
     kept_out late' o' (late last same) = same
 
   -- the step of claim k
-  pub claim_step : (o o' : List ℕ) → KeepIs (numbers_of ask) k y o o' → Walked ask dist (λ j. j ≡ k) o o'
-  unfolding numbers_of
+  pub claim_step : (o o' : List ℕ) → KeepIs ask k y o o' → Walked ask dist (λ j. j ≡ k) o o'
   claim_step o o' g l h = go (ok_by ask dist k) refl
     where
-      taken : k < ask.snapshot → low_at ask ≤ y → Pushed ask.size y o o'
-      taken below low = g.put (rw (lt-ltb k ask.snapshot below, le-leb (low_at ask) y low)) h.long
+      taken : k < ask.snapshot → ask.low ≤ y → Pushed ask.size y o o'
+      taken below low = g.put (rw (lt-ltb k ask.snapshot below, le-leb ask.low y low))
 
-      late' : k < ask.snapshot → low_at ask ≤ y → ok_by ask dist k ≡ false → (u : Bool) → ltb y (end_at ask) ≡ u → end_at ask ≤ y
-      late' below low off false q = ltb-false y (end_at ask) q
+      late' : k < ask.snapshot → ask.low ≤ y → ok_by ask dist k ≡ false → (u : Bool) → ltb y ask.end ≡ u → ask.end ≤ y
+      late' below low off false q = ltb-false y ask.end q
       late' below low off true q =
-          absurd (no_way (sym (is_admitted ask (dist k) k (keys_in ask (dist k) k near stored below (rw (← is) low) (rw (← is) (ltb-true y (end_at ask) q)))) ∙ off))
+          absurd (no_way (sym (is_admitted (wanted_by ask) (dist k) k (numbers_in ask (dist k) k near stored below (rw (← is) low) (rw (← is) (ltb-true y ask.end q)))) ∙ off))
 
-      out : (u v : Bool) → ltb k ask.snapshot ≡ u → leb (low_at ask) y ≡ v → ok_by ask dist k ≡ false → o' ≡ o
+      out : (u v : Bool) → ltb k ask.snapshot ≡ u → leb ask.low y ≡ v → ok_by ask dist k ≡ false → o' ≡ o
       out false v p q off = g.left (rw p)
       out true false p q off = g.left (rw (p, q))
       out true true p q off =
           let below : k < ask.snapshot = ltb-true k ask.snapshot p in
-          let low : low_at ask ≤ y = leb-true (low_at ask) y q in
-          kept_out o l h (late' below low off (ltb y (end_at ask)) refl) o' (taken below low)
+          let low : ask.low ≤ y = leb-true ask.low y q in
+          kept_out o l h (late' below low off (ltb y ask.end) refl) o' (taken below low)
 
       go : (u : Bool) → ok_by ask dist k ≡ u → WalkLeft ask dist (λ j. j ≡ k) l o'
       go true ok =
-          let i : Is ask (dist k) k = admits o l h ok in
-          let b = in_keys ask (dist k) k near stored i in
+          let i : Is (wanted_by ask) (dist k) k = admits o l h ok in
+          let b = in_numbers ask (dist k) k near stored i in
           record {
             kept = take ask.size (insert_by R k l);
             holds = stepped o l h ok o' (taken i.below (rw is b.0));
-            is = one R (ok_by ask dist) ask.snapshot ask.size k l fit.stored i.below ok h.rising;
+            is = one R (ok_by ask dist) ask.snapshot ask.size k l ask.stored i.below ok h.rising;
           }
       go false off =
-          rw (out (ltb k ask.snapshot) (leb (low_at ask) y) refl refl off)
+          rw (out (ltb k ask.snapshot) (leb ask.low y) refl refl off)
           (walked_still ask dist (λ j. j ≡ k) o (λ l g j e yes'. absurd (no_way (sym yes' ∙ rw e off))) l h)

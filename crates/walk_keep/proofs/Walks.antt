@@ -4,7 +4,7 @@ use mathlib.Core.Path.{◌≡◌}
 use mathlib.Core.Logic.{◌⊎◌}
 use mathlib.Core.Bool.{true}
 use mathlib.Core.List.{List}
-use Rattle.walk_keep.specs.Asked.{Asked}
+use Rattle.walk_keep.specs.declared.asked.Asked.{Asked}
 use Rattle.walk_keep.specs.Page.{ranks}
 use Rattle.walk_keep.specs.Kept.{Covered, ok_by, Holding, Walked}
 use Rattle.walk_keep.proofs.Keeping.{still, then, fewer}

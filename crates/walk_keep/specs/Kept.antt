@@ -1,7 +1,9 @@
 -- What a walk keeps: the first so many, in order, of what it had and the claims that it went over. Definitions only.
 use Rattle.std.specs.Prelude.{ℕ, zero, suc, ◌+◌, ◌-◌, ◌*◌, ◌<◌, ◌≤◌, ◌≡◌, Bool, true, false, ◌&&◌, List, [], ◌∷◌, ltb, leb, length, get_or}
 use Rattle.paper.specs.Limits.{most_claims}
-use Rattle.walk_keep.specs.Asked.{Asked, admitted, most_distance, rank_at, key_at, end_at, size_in, snapshot_in, low_in}
+use Rattle.walk_keep.specs.declared.asked.Asked.{Asked}
+use Rattle.walk_keep.specs.Numbers.{most_distance, rank_at, key_at}
+use Rattle.walk_keep.specs.Asked.{admitted}
 use Rattle.walk_keep.specs.Page.{ranks}
 
 -- an order as one number
@@ -37,9 +39,8 @@ key_by ask dist k = key_at (rank_at ask.order (dist k)) k
 
 -- the room has the keys of the claims of l, which were measured, and no other before the end
 pub record Holding (ask : Asked) (dist : ℕ → ℕ) (room l : List ℕ) : Type 0 where
-  pub long : ask.size ≤ length room
   pub keys : (i : ℕ) → i < length l → get_or room i 0 ≡ key_by ask dist (get_or l i 0)
-  pub ends : (i : ℕ) → length l ≤ i → i < ask.size → get_or room i 0 ≡ end_at ask
+  pub ends : (i : ℕ) → length l ≤ i → i < ask.size → get_or room i 0 ≡ ask.end
   pub near : (i : ℕ) → i < length l → dist (get_or l i 0) ≤ most_distance
   pub rising : RisingClaims (ranks ask.order dist) (ok_by ask dist) ask.snapshot ask.size zero l
 
@@ -55,17 +56,11 @@ Walked ask dist C o o' = (l : List ℕ) → Holding ask dist o l → WalkLeft as
 
 -- ---- a key put in its place
 
--- the place of key y among the first n: it is behind the key in front, and not behind the one there
-pub record PositionIs (room : List ℕ) (n y p : ℕ) : Type 0 where
-  pub few : p ≤ n
-  pub front : 0 < p → get_or room (p - 1) 0 < y
-  pub behind : p < n → y ≤ get_or room p 0
-
 -- the first n keys of o from p on moved up by one; the last falls out
 pub record Shifted (p n : ℕ) (o o' : List ℕ) : Type 0 where
   pub long : length o' ≡ length o
   pub front : (i : ℕ) → i ≤ p → get_or o' i 0 ≡ get_or o i 0
-  pub behind : n ≤ length o → (i : ℕ) → p < i → i < n → get_or o' i 0 ≡ get_or o (i - 1) 0
+  pub behind : (i : ℕ) → p < i → i < n → get_or o' i 0 ≡ get_or o (i - 1) 0
 
 -- key y was put among the first n keys: in its place, or it is there already, or it is not before the last
 pub data Pushed (n y : ℕ) (o o' : List ℕ) : Type 0 where
@@ -74,7 +69,7 @@ pub data Pushed (n y : ℕ) (o o' : List ℕ) : Type 0 where
   held : (p : ℕ) → p < n → get_or o p 0 ≡ y → o' ≡ o → Pushed n y o o'
   late : get_or o (n - 1) 0 ≤ y → o' ≡ o → Pushed n y o o'
 
--- the step of claim k, at key y, by a question's numbers: below the snapshot and not before the first key wanted it is put
-pub record KeepIs (numbers : List ℕ) (k y : ℕ) (o o' : List ℕ) : Type 0 where
-  pub put : (ltb k (snapshot_in numbers) && leb (low_in numbers) y) ≡ true → size_in numbers ≤ length o → Pushed (size_in numbers) y o o'
-  pub left : (ltb k (snapshot_in numbers) && leb (low_in numbers) y) ≡ false → o' ≡ o
+-- the step of claim k, at key y: below the snapshot and not before the first key wanted it is put
+pub record KeepIs (ask : Asked) (k y : ℕ) (o o' : List ℕ) : Type 0 where
+  pub put : (ltb k ask.snapshot && leb ask.low y) ≡ true → Pushed ask.size y o o'
+  pub left : (ltb k ask.snapshot && leb ask.low y) ≡ false → o' ≡ o

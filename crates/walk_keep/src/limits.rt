@@ -2,7 +2,6 @@
 ghost use Rattle.std.specs.Prelude.{◌≡◌, ◌&&◌};
 ghost use Rattle.walk_keep.specs.Skips.{beyond_limit};
 
-use crate::keys::{lesser, over};
 use paper::limits::MOST_CLAIMS;
 
 // [4.13] Whether the claims of two sides, at ranks x and y, are both beyond their limits. There is one branch for both: one for each would be
@@ -10,5 +9,5 @@ use paper::limits::MOST_CLAIMS;
 pub fn both_beyond(last: u64, x: u64, xfar: u64, y: u64, yfar: u64) -> bool
     ensures { result ≡ (beyond_limit last xfar x && beyond_limit last yfar y) }
 {
-    last / (MOST_CLAIMS as u64) < lesser(over(x, xfar), over(y, yfar))
+    last / (MOST_CLAIMS as u64) < x.saturating_sub(xfar).min(y.saturating_sub(yfar))
 }

@@ -1,6 +1,7 @@
 // What the number of items found tells of a page.
 ghost use Rattle.std.specs.Prelude.{◌≡◌, ◌+◌, length, take, List};
-ghost use Rattle.paper.specs.Orders.{Item, paged_of};
+ghost use Rattle.paper.specs.declared.orders.Item.{Item};
+ghost use Rattle.paper.specs.Orders.{paged_of};
 
 use paper::orders::Paged;
 
@@ -9,14 +10,8 @@ use paper::orders::Paged;
 pub fn counted(size: usize, found: usize) -> Paged
     ensures { (l : List Item) → found ≡ length (take (size + 1) l) → result ≡ paged_of size l }
 {
-    if size < found {
-        return Paged {
-            count: size,
-            last: false,
-        };
-    }
     Paged {
-        count: found,
-        last: true,
+        count: found.min(size),
+        last: found <= size,
     }
 }

@@ -9,7 +9,6 @@ use lib.IntN.{ℤ}
 use lib.ListN.{length}
 use borrow.Author.Tests.{le-leb, lt-leb, leb-true}
 use Rattle.paper.specs.declared.orders.Order.{Order}
-use Rattle.paper.specs.declared.orders.Page as Pages
 use Rattle.paper.specs.declared.orders.Paged.{Paged}
 use Rattle.paper.specs.declared.orders.Place.{Place}
 use Rattle.paper.specs.Limits.{most_page}
@@ -112,11 +111,11 @@ module _ (order : Order) (s : Store) (probe : List ℤ) (reach : ℕ) (place : P
   there = page_call s order probe reach place size (length room)
 
   -- a refusal as the call shows it
-  pub page_refusal : (n : ℕ) → there ≡ refused n → Promise page_shown put_page there room (Pages.TheVariants.Refused n) room
-  page_refusal n e = promise_refused page_shown put_page there room n (Pages.TheVariants.Refused n) e refl
+  pub page_refusal : (n : ℕ) → there ≡ refused n → Promise page_shown put_page there room (refused n) room
+  page_refusal n e = promise_refused page_shown put_page there room n (refused n) e refl
 
   module _ (k : Askable s (length probe) size) (n : ℕ) (ne : n ≡ number there) where
-    pub page_refuses : (n ≡ 0 → ⊥) → Promise page_shown put_page there room (Pages.TheVariants.Refused n) room
+    pub page_refuses : (n ≡ 0 → ⊥) → Promise page_shown put_page there room (refused n) room
     page_refuses h = page_refusal n (number_is there n ne h)
 
     module _ (z : n ≡ 0) where
@@ -156,9 +155,9 @@ module _ (order : Order) (s : Store) (probe : List ℤ) (reach : ℕ) (place : P
           }
 
       pub page_filled : (p : Paged) (after : List ℕ) → PageIs (table_query s.table order probe reach) (claims_in s) place size room after p
-          → Promise page_shown put_page there room (Pages.TheVariants.Filled p) after
+          → Promise page_shown put_page there room (gives p) after
       unfolding the_page
       page_filled p after w =
-          promise_given page_shown put_page there room (the_page (table_query s.table order probe reach) s place size) (Pages.TheVariants.Filled p) after page_gives
-          (ap Pages.TheVariants.Filled (λ i. record { count = w.count i; last = w.last i }))
+          promise_given page_shown put_page there room (the_page (table_query s.table order probe reach) s place size) (gives p) after page_gives
+          (ap (λ (x : Paged). gives x) (λ i. record { count = w.count i; last = w.last i }))
           w.room

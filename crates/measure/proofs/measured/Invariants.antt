@@ -1,12 +1,12 @@
--- `measure::measured` meets its contract: after i turns the sum is the distance over the first i coordinates. Assumes nothing.
-use Prim.Native.Nat.{◌≤◌, ◌*◌, ◌-◌}
+-- `measure::measured` meets its contract: the sum is the distance over the coordinates so far. Assumes nothing.
+use Prim.Native.Nat.{◌≤◌}
 use mathlib.Core.Path.{◌≡◌}
-use lib.ListN.{drop}
+use lib.ListN.{length, drop}
 use Rattle.paper.specs.Points.{distance, greatest_of}
 use Rattle.measure.proofs.measured.Given as goal
 
-abbrev pub invariant-loop-i : goal.invariant-loop-i
-invariant-loop-i l = (l.i ≤ l.d) × (l.sum ≡ distance l.m l.i (drop l.at l.a) (drop l.bt l.b)) × (l.sum ≤ l.i * 4294967295) × (l.sum ≤ greatest_of l.m l.i)
-
-abbrev pub decreases-loop-i : goal.decreases-loop-i
-decreases-loop-i l = l.d - l.i
+abbrev pub invariant-loop-x : goal.invariant-loop-x
+invariant-loop-x l = record {
+  exact : l.sum ≡ distance l.m (length l.yielded) (drop l.at l.a) (drop l.bt l.b);
+  bounded : l.sum ≤ greatest_of l.m (length l.yielded);
+}

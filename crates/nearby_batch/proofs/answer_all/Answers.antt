@@ -1,25 +1,17 @@
 -- `nearby_batch::answer_all` meets its contract: 12, 1, 2, and then line after line. Assumes nothing.
-use Rattle.paper.specs.Tree.{store}
+use mathlib.Core.Path.{refl}
+use Rattle.paper.proofs.Outcomes.{err_number, ok_number, told_on, numbered}
 use Rattle.nearby_batch.proofs.Whole.{all_12, all_refused, all_answered}
 use Rattle.nearby_batch.proofs.answer_all.Goals as goal
 
 pub returns-then-out-lt-LONGEST_ANSWER : goal.returns-then-out-lt-LONGEST_ANSWER
-returns-then-out-lt-LONGEST_ANSWER c =
-    let a = c.args in
-    let s = store a.t a.references.now a.coordinates.now a.nodes.now in
-    all_12 s a.asks.now a.outcomes.now a.out.now _ c.if-out-lt-LONGEST_ANSWER.true c.refused.ensures
+returns-then-out-lt-LONGEST_ANSWER c = all_12 _ _ _ _ c.if-out-lt-LONGEST_ANSWER.true
 
-pub returns-then-why-ne0 : goal.returns-then-why-ne0
-returns-then-why-ne0 c =
-    let a = c.args in
-    let s = store a.t a.references.now a.coordinates.now a.nodes.now in
-    all_refused s a.asks.now a.outcomes.now a.out.now _ c.if-out-lt-LONGEST_ANSWER.false _ c.table_refusal-why.ensures c.if-why-ne0.true c.refused-then-why-ne0.ensures
+pub returns-in_err-test_table : goal.returns-in_err-test_table
+returns-in_err-test_table c =
+    rw (told_on _ _ c.from_residual.ensures.1)
+    (all_refused _ _ _ _ c.if-out-lt-LONGEST_ANSWER.false _ (err_number _ _ c.test_table.ensures _ c.in_err-test_table.was) (numbered _))
 
 pub returns : goal.returns
 returns c =
-    let args = c.args in
-    let if1 = c.if-out-lt-LONGEST_ANSWER in
-    let if2 = c.if-why-ne0 in
-    let a = args in
-    let s = store a.t a.references.now a.coordinates.now a.nodes.now in
-    all_answered s a.asks.now a.outcomes.now a.out.now _ if1.false _ c.table_refusal-why.ensures if2.false _ _ c.answer_lines.ensures
+    all_answered _ _ _ _ c.if-out-lt-LONGEST_ANSWER.false _ (ok_number _ _ c.test_table.ensures _ c.in_ok-test_table.was) refl _ _ _ c.answer_lines.ensures

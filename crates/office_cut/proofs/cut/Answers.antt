@@ -1,15 +1,16 @@
--- `office_cut::cut` meets its contract: what is left to cut stays the same. Assumes nothing.
-use mathlib.Core.Path.{sym, ◌∙◌}
-use Rattle.office_cut.proofs.LinesCut.{cut_ends, cut_goes, cut_none}
+-- `office_cut::cut` meets its contract. Assumes nothing.
+use Rattle.std.proofs.Common.{◌≡◌, ◌∙◌, arith, drop, length-drop, ap, length}
+use Rattle.office_cut.specs.Cut.{line_in, has_end}
+use Rattle.office_cut.proofs.LinesCut.{rest_from, line_short, cut_done}
 use Rattle.office_cut.proofs.cut.Goals as goal
 
-pub returns-then-b-eq10 : goal.returns-then-b-eq10
-returns-then-b-eq10 c =
-    cut_ends _ _ _ _ _ _ _ _ c.loop-i.invariant.2 c.loop-i-test.true c.if-b-eq10.true c.keep.ensures c.grow-n.ensures
-
-pub loop-i-preserved : goal.loop-i-preserved
-loop-i-preserved c =
-    let l = c.loop-i in (c.keep.auto.line ∙ l.invariant.0, l.invariant.1, cut_goes _ _ _ _ _ _ _ _ l.invariant.2 c.loop-i-test.true c.if-b-eq10.false c.keep.ensures c.grow-n.ensures)
+pub overflow_add-result : goal.overflow_add-result
+overflow_add-result c =
+    let e : c.first_line-whole.result.0.now ≡ line_in (drop c.args.from c.args.chunk.now) = c.first_line-whole.ensures.line ∙ ap line_in (rest_from _ _ _ c.min.ensures) in
+    omega (arith, ap length e, line_short (drop c.args.from c.args.chunk.now), length-drop c.args.from c.args.chunk.now)
 
 pub returns : goal.returns
-returns c = let l = c.loop-i in sym (cut_none _ _ _ _ _ c.loop-i-test.false) ∙ l.invariant.2
+returns c =
+    let e = rest_from c.args.chunk.now _ _ c.min.ensures in
+    let f = c.first_line-whole.ensures in
+    cut_done _ _ _ _ _ _ _ _ c.keep.ensures (f.line ∙ ap line_in e) (f.end ∙ ap has_end e) c.grow.ensures

@@ -1,31 +1,29 @@
 -- `walk_tested::page_here` meets its contract: refused before anything is written, or the walk's page. Assumes nothing.
-use Rattle.paper.specs.Tree.{store}
+use mathlib.Core.Path.{refl}
+use Rattle.paper.proofs.Outcomes.{err_number, ok_number, told_on, numbered}
 use Rattle.walk_tested.proofs.PageLaws.{page_refuses, page_answerable, page_few, page_pageable, page_filled}
 use Rattle.walk_tested.proofs.page_here.Goals as goal
 
-pub returns-then-why-ne0 : goal.returns-then-why-ne0
-returns-then-why-ne0 c =
+pub returns-in_err-test_place : goal.returns-in_err-test_place
+returns-in_err-test_place c =
     let a = c.args in
-    page_refuses a.order (store a.t a.references.now a.coordinates.now a.nodes.now) a.probe.now a.reach a.place a.size a.room.now c.requires _ c.place_refusal-why.ensures c.if-why-ne0.true
+    rw (told_on _ _ c.from_residual.ensures.1)
+    (page_refuses a.order a.table.now a.probe.now a.reach a.place a.size a.room.now c.requires
+    _ (err_number _ _ c.test_place.ensures _ c.in_err-test_place.was) (numbered _))
 
-pub page_of-paged-requires : goal.page_of-paged-requires
-page_of-paged-requires c =
-    let args = c.args in
-    let pre = c.requires in
-    let place-refusal = c.place_refusal-why in
-    let if1 = c.if-why-ne0 in
-    let a = args in
-    let s = store a.t a.references.now a.coordinates.now a.nodes.now in
+pub page_of-requires : goal.page_of-requires
+page_of-requires c =
+    let a = c.args in
+    let s = a.table.now in
+    let none = ok_number _ _ c.test_place.ensures _ c.in_ok-test_place.was in
     record {
-      answerable = page_answerable a.order s a.probe.now a.reach a.place a.size a.room.now pre _ place-refusal.ensures if1.false;
-      size_le_most_page = page_few s _ a.size pre;
-      pageable = page_pageable a.order s a.probe.now a.reach a.place a.size a.room.now pre _ place-refusal.ensures if1.false;
+      answerable = page_answerable a.order s a.probe.now a.reach a.place a.size a.room.now c.requires _ none refl;
+      size_le_most_page = page_few s _ a.size c.requires;
+      pageable = page_pageable a.order s a.probe.now a.reach a.place a.size a.room.now c.requires _ none refl;
     }
 
 pub returns : goal.returns
 returns c =
-    let args = c.args in
-    let pre = c.requires in
-    let place-refusal = c.place_refusal-why in
-    let a = args in
-    page_filled a.order (store a.t a.references.now a.coordinates.now a.nodes.now) a.probe.now a.reach a.place a.size a.room.now pre _ place-refusal.ensures c.if-why-ne0.false _ _ c.page_of-paged.ensures
+    let a = c.args in
+    let none = ok_number _ _ c.test_place.ensures _ c.in_ok-test_place.was in
+    page_filled a.order a.table.now a.probe.now a.reach a.place a.size a.room.now c.requires _ none refl _ _ c.page_of.ensures

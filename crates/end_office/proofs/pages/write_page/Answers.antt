@@ -5,7 +5,6 @@ use native.Mathlib.Omega.{arith}
 use lib.Dec.{lit≤}
 use lib.ListN.{length, take}
 use lib.Seq.{length-take-le}
-use Rattle.paper.specs.Tree.{store}
 use Rattle.end_office.proofs.PageLines.{scope_from_lem, aimed, pageable, page_count, page_written}
 use Rattle.walk.proofs.Answers.{good_answerable}
 use borrow.Author.Rules.{rules}
@@ -24,7 +23,7 @@ slice_bounds-find_page-end c =
 pub find_page-paged-requires : goal.find_page-paged-requires
 find_page-paged-requires c =
     let a = c.args in
-    let s = store a.t a.references.now a.coordinates.now a.nodes.now in
+    let s = a.table.now in
     let long : 7 < length a.q.probe = search (rules, c.well_formed.1.1.1.1.0) in
     record {
       answerable = good_answerable s c.requires.asking.is_open.good (take a.q.d a.q.probe) (aimed s a.q a.p a.size _ c.requires.asking long);
@@ -37,21 +36,21 @@ answer_scope-scope-requires c = scope_from_lem c.args.p c.requires.asking.ask.sc
 pub overflow_mul-n : goal.overflow_mul-n
 overflow_mul-n c =
     let a = c.args in
-    let s = store a.t a.references.now a.coordinates.now a.nodes.now in
+    let s = a.table.now in
     let f = page_count s a.q a.p a.size _ c.requires _ _ _ c.place_of-place.ensures c.find_page-paged.ensures in
     omega arith
 
 pub overflow_cast-count : goal.overflow_cast-count
 overflow_cast-count c =
     let a = c.args in
-    let s = store a.t a.references.now a.coordinates.now a.nodes.now in
+    let s = a.table.now in
     let f = page_count s a.q a.p a.size _ c.requires _ _ _ c.place_of-place.ensures c.find_page-paged.ensures in
     omega arith
 
 pub slice_bounds-scratch-end : goal.slice_bounds-scratch-end
 slice_bounds-scratch-end c =
     let a = c.args in
-    let s = store a.t a.references.now a.coordinates.now a.nodes.now in
+    let s = a.table.now in
     let f = page_count s a.q a.p a.size _ c.requires _ _ _ c.place_of-place.ensures c.find_page-paged.ensures in
     let k = c.find_page-paged.auto.scratch in
     omega arith
@@ -59,7 +58,7 @@ slice_bounds-scratch-end c =
 pub slice_bounds-write_answer-end : goal.slice_bounds-write_answer-end
 slice_bounds-write_answer-end c =
     let a = c.args in
-    let s = store a.t a.references.now a.coordinates.now a.nodes.now in
+    let s = a.table.now in
     let f = page_count s a.q a.p a.size _ c.requires _ _ _ c.place_of-place.ensures c.find_page-paged.ensures in
     let k = c.find_page-paged.auto.scratch in
     sym (length-take-le _ _ (omega arith))
@@ -68,8 +67,8 @@ pub returns : goal.returns
 returns c =
     let a = c.args in
     let long : 7 < length a.q.probe = search (rules, c.well_formed.1.1.1.1.0) in
-    page_written (store a.t a.references.now a.coordinates.now a.nodes.now) a.q a.p a.size _ c.requires
+    page_written a.table.now a.q a.p a.size _ c.requires
     _ _ _ c.place_of-place.ensures c.find_page-paged.ensures
-    _ c.answer_scope-scope.ensures _ c.flag.ensures
-    _ refl (λ i. (search rules)) long
+    _ (rw (← c.table.view_is) c.answer_scope-scope.ensures) _ c.flag.ensures
+    _ refl (λ i. rw (← c.table.view_is) (c.table.invariant i)) long
     _ _ _ c.requires.asking.is_open.room c.write_answer.ensures

@@ -11,4 +11,4 @@ returns c =
     let long : 7 < length g.l.query.probe = search (rules, c.well_formed.0) in
     let pre = c.requires in
     ask_written_lem g.l g.room.now g.size pre.0 pre.1.0 pre.1.1.0 long _
-    c.present-p.ensures _ pre.1.1.1 _ _ c.write_ask.ensures
+    c.present.ensures _ pre.1.1.1 _ _ c.write_ask.ensures

@@ -8,7 +8,7 @@ use Rattle.end_tablet.proofs.taking.join_page.Goals as goal
 
 pub join-requires : goal.join-requires
 join-requires c =
-    let long : item_room - 1 < length c.args.y.items = search rules in
+    let long : item_room - 1 < length c.args.y.now.items = search rules in
     (omega arith, omega arith)
 
 pub returns : goal.returns

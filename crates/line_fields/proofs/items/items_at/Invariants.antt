@@ -1,4 +1,4 @@
-use Prim.Native.Nat.{◌-◌, ◌*◌, ◌≤◌}
+use Prim.Native.Nat.{◌-◌, ◌*◌}
 use mathlib.Core.Path.{◌≡◌}
 use mathlib.Core.List.{◌++◌}
 use lib.ListN.{drop, replicate}
@@ -8,7 +8,4 @@ use Rattle.paper.specs.Limits.{item_room}
 use Rattle.line_fields.proofs.items.items_at.Given as goal
 
 abbrev pub invariant-loop-i : goal.invariant-loop-i
-invariant-loop-i l = (l.i ≤ l.k) × (l.found ≡ item_numbers l.i (drop l.at (frame_of l.line)) ++ replicate (item_room - 3 * l.i) 0)
-
-abbrev pub decreases-loop-i : goal.decreases-loop-i
-decreases-loop-i l = l.k - l.i
+invariant-loop-i l = l.found ≡ item_numbers l.i (drop l.at (frame_of l.line)) ++ replicate (item_room - 3 * l.i) 0

@@ -1,50 +1,21 @@
-use Prim.Native.Nat.{ℕ, ◌-◌, ◌*◌, ◌≤◌}
+use Prim.Native.Nat.{◌/◌}
 use native.Mathlib.Omega.{arith}
-use mathlib.Core.Path.{◌≡◌, refl, sym, ◌∙◌}
-use mathlib.Core.Bool.{Bool, true, false, ◌&&◌}
-use mathlib.Core.List.{List, [], ◌∷◌}
-use lib.ListN.{length, drop, length-drop}
-use lib.Dec.{eqb}
-use borrow.Author.Tests.{eq-eqb, ne_eqb}
-use Rattle.paper.specs.Fields.{references_ok, numbers_ok}
-use Rattle.line_fields.proofs.ItemLaws.{fitting, fit_more, fit_number, fit_reference}
+use mathlib.Core.Path.{◌≡◌, ◌∙◌}
+use mathlib.Core.Bool.{◌&&◌}
+use borrow.Author.Rules.{rules}
+use borrow.Author.Tests.{tests, eq-eqb}
+use lib.Dec.{leb, ltb}
+use lib.ListN.{length, get_or}
+use Rattle.std.specs.Simd.{first_chunks}
+use Rattle.std.proofs.lemmas.Iterator.{YieldsList-from_slice}
+use Rattle.std.proofs.lemmas.Iterator.Search.{all_from_yields_List}
+use Rattle.paper.specs.Limits.{most_number}
+use Rattle.line_fields.proofs.ItemLaws.{fit_all}
 use Rattle.line_fields.proofs.items.items_fit.Goals as goal
 
--- none is left
-none : (ns : List ℕ) → length ns ≤ 0 → fitting ns ≡ true
-unfolding fitting references_ok numbers_ok
-none [] h = refl
-none (n ∷ ns) h = absurd (omega arith)
-
--- as many as there should be, and what is left to test
-counted : (ns : List ℕ) (n : ℕ) (t : Bool) → length ns ≡ n → fitting ns ≡ t → t ≡ eqb (length ns) n && (references_ok ns && numbers_ok ns)
-unfolding fitting
-counted ns n t e f = rw (eq-eqb (length ns) n e) (sym f)
-
 pub returns-then-items-k : goal.returns-then-items-k
-returns-then-items-k c = rw (ne_eqb _ _ c.if-items-k.true)
-
-pub returns-then-items-j-gt-MOST_NUMBER : goal.returns-then-items-j-gt-MOST_NUMBER
-returns-then-items-j-gt-MOST_NUMBER c =
+returns-then-items-k c =
     let ns = c.args.items.now in
-    let l = c.loop-j in
-    counted ns (3 * c.args.k) false l.invariant.0 (l.invariant.1.1.1 ∙ fit_number ns l.j (omega arith) c.if-items-j-gt-MOST_NUMBER.true)
-
-pub returns-then-items-j-gt4294967295 : goal.returns-then-items-j-gt4294967295
-returns-then-items-j-gt4294967295 c =
-    let ns = c.args.items.now in
-    let l = c.loop-j in
-    counted ns (3 * c.args.k) false l.invariant.0 (l.invariant.1.1.1 ∙ fit_reference ns l.j (omega arith) c.if-items-j-gt4294967295.true)
-
-pub loop-j-preserved : goal.loop-j-preserved
-loop-j-preserved c =
-    let ns = c.args.items.now in
-    let l = c.loop-j in
-    (l.invariant.0, (omega arith, (omega arith, l.invariant.1.1.1 ∙ fit_more ns l.j (omega arith) c.if-items-j-gt-MOST_NUMBER.false c.if-items-j-gt4294967295.false)))
-
-pub returns : goal.returns
-returns c =
-    let ns = c.args.items.now in
-    let l = c.loop-j in
-    let n : length (drop l.j ns) ≡ length ns - l.j = length-drop l.j ns in
-    counted ns (3 * c.args.k) true l.invariant.0 (l.invariant.1.1.1 ∙ none (drop l.j ns) (omega arith))
+    let k : length ns / 3 ≡ c.args.k = omega arith in
+    all_from_yields_List (λ t. leb (get_or t 0 0) most_number && ltb (get_or t 1 0) 4294967296) _ _ _ c.all.ensures.ran (YieldsList-from_slice (first_chunks 3 (length ns / 3) ns) cc) (λ x b q k. search (rules, tests))
+    ∙ rw k (fit_all c.args.k ns c.if-items-k.true ∙ rw (eq-eqb _ _ c.if-items-k.true))

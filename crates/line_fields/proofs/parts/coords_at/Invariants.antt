@@ -1,4 +1,4 @@
-use Prim.Native.Nat.{◌-◌, ◌≤◌}
+use Prim.Native.Nat.{◌-◌}
 use mathlib.Core.Path.{◌≡◌}
 use mathlib.Core.List.{◌++◌}
 use lib.ListN.{drop, replicate}
@@ -8,7 +8,4 @@ use Rattle.paper.specs.Fields.{coords_in}
 use Rattle.line_fields.proofs.parts.coords_at.Given as goal
 
 abbrev pub invariant-loop-i : goal.invariant-loop-i
-invariant-loop-i l = (l.i ≤ l.d) × (l.found ≡ coords_in l.i (drop l.at (frame_of l.line)) ++ replicate (8 - l.i) (pos 0))
-
-abbrev pub decreases-loop-i : goal.decreases-loop-i
-decreases-loop-i l = l.d - l.i
+invariant-loop-i l = l.found ≡ coords_in l.i (drop l.at (frame_of l.line)) ++ replicate (8 - l.i) (pos 0)

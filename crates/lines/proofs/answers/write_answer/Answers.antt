@@ -6,18 +6,18 @@ use Rattle.lines.proofs.AnswerTests.{answer_fits_lem}
 use Rattle.lines.proofs.answers.write_answer.Goals as goal
 
 pub returns-then-out-lt-LONGEST_ANSWER : goal.returns-then-out-lt-LONGEST_ANSWER
-returns-then-out-lt-LONGEST_ANSWER c = refused_12 _ _ _ _ (sym c.answer_fits.ensures ∙ c.if-answer_fits.true) c.if-out-lt-LONGEST_ANSWER.true
+returns-then-out-lt-LONGEST_ANSWER c = refused_12 _ _ _ _ (sym c.answer_fits.ensures ∙ c.if-not-answer_fits.false) c.if-out-lt-LONGEST_ANSWER.true
 
-pub fill_answer-n-requires : goal.fill_answer-n-requires
-fill_answer-n-requires c =
+pub fill_answer-requires : goal.fill_answer-requires
+fill_answer-requires c =
     let a = c.args in
-    let w = answer_fits_lem (query_in a.q) a.p a.last a.count a.items.now (sym c.answer_fits.ensures ∙ c.if-answer_fits.true) in
+    let w = answer_fits_lem (query_in a.q) a.p a.last a.count a.items.now (sym c.answer_fits.ensures ∙ c.if-not-answer_fits.false) in
     omega (arith, w.query.range.narrow)
 
-pub returns-then-answer_fits : goal.returns-then-answer_fits
-returns-then-answer_fits c =
-    let e = c.fill_answer-n.ensures in
-    wrote_line _ _ _ _ _ _ (sym c.answer_fits.ensures ∙ c.if-answer_fits.true) c.if-out-lt-LONGEST_ANSWER.false e.0 e.1
-
 pub returns : goal.returns
-returns c = refused_10 _ _ _ _ (sym c.answer_fits.ensures ∙ c.if-answer_fits.false)
+returns c =
+    let e = c.fill_answer.ensures in
+    wrote_line _ _ _ _ _ _ (sym c.answer_fits.ensures ∙ c.if-not-answer_fits.false) c.if-out-lt-LONGEST_ANSWER.false e.0 e.1
+
+pub returns-then-not-answer_fits : goal.returns-then-not-answer_fits
+returns-then-not-answer_fits c = refused_10 _ _ _ _ (sym c.answer_fits.ensures ∙ c.if-not-answer_fits.true)

@@ -1,48 +1,29 @@
 -- `lines::claims::claim_in` meets its contract: 10 by the layout, or what the frame holds. Assumes nothing.
 use native.Mathlib.Omega.{arith}
-use mathlib.Core.Path.{refl, ◌∙◌}
+use mathlib.Core.Path.{refl}
 use Rattle.paper.specs.Lines.{claim_at}
 use Rattle.line_fields.proofs.PartLaws.{laid_bytes, laid_narrow}
 use Rattle.lines.proofs.ClaimTests.{unlaid_claim, claim_read_lem}
 use Rattle.lines.proofs.claims.claim_in.Goals as goal
 
 pub returns-then-not-layout_ok : goal.returns-then-not-layout_ok
-returns-then-not-layout_ok c = c.no_claim.ensures ∙ unlaid_claim _ c.requires _ c.layout_ok.ensures c.if-not-layout_ok.true
+returns-then-not-layout_ok c = unlaid_claim _ c.requires _ c.layout_ok.ensures c.if-not-layout_ok.true
 
 pub d-d-requires : goal.d-d-requires
 d-d-requires c = laid_bytes _ _ _ c.requires _ c.layout_ok.ensures c.if-not-layout_ok.false _ refl _ (omega arith)
 
 pub coords_at-coordinates-requires : goal.coords_at-coordinates-requires
 coords_at-coordinates-requires c =
-    let pre = c.requires in
-    let layout-ok = c.layout_ok in
-    let if1 = c.if-not-layout_ok in
-    let d = c.d-d in
-    (laid_bytes _ _ _ pre _ layout-ok.ensures if1.false _ d.ensures.value _ (omega arith), laid_narrow _ _ _ pre _ layout-ok.ensures if1.false _ d.ensures.value)
+    (laid_bytes _ _ _ c.requires _ c.layout_ok.ensures c.if-not-layout_ok.false _ c.d-d.ensures.value _ (omega arith), laid_narrow _ _ _ c.requires _ c.layout_ok.ensures c.if-not-layout_ok.false _ c.d-d.ensures.value)
 
 pub table-requires : goal.table-requires
-table-requires c =
-    let pre = c.requires in
-    let layout-ok = c.layout_ok in
-    let if1 = c.if-not-layout_ok in
-    let d = c.d-d in
-    laid_bytes _ _ _ pre _ layout-ok.ensures if1.false _ d.ensures.value _ (omega arith)
+table-requires c = laid_bytes _ _ _ c.requires _ c.layout_ok.ensures c.if-not-layout_ok.false _ c.d-d.ensures.value _ (omega arith)
 
 pub measure-requires : goal.measure-requires
-measure-requires c =
-    let pre = c.requires in
-    let layout-ok = c.layout_ok in
-    let if1 = c.if-not-layout_ok in
-    let d = c.d-d in
-    laid_bytes _ _ _ pre _ layout-ok.ensures if1.false _ d.ensures.value _ (omega arith)
+measure-requires c = laid_bytes _ _ _ c.requires _ c.layout_ok.ensures c.if-not-layout_ok.false _ c.d-d.ensures.value _ (omega arith)
 
 pub number-requires : goal.number-requires
-number-requires c =
-    let pre = c.requires in
-    let layout-ok = c.layout_ok in
-    let if1 = c.if-not-layout_ok in
-    let d = c.d-d in
-    (laid_bytes _ _ _ pre _ layout-ok.ensures if1.false _ d.ensures.value _ (omega arith), omega arith)
+number-requires c = (laid_bytes _ _ _ c.requires _ c.layout_ok.ensures c.if-not-layout_ok.false _ c.d-d.ensures.value _ (omega arith), omega arith)
 
 pub returns : goal.returns
 unfolding claim_at

@@ -1,54 +1,47 @@
--- `measure::limits::within` meets its contract: after i turns the sum is the distance over the first i coordinates, and not over the
--- limit. Assumes nothing.
-use Prim.Native.Nat.{ℕ, ◌+◌}
-use mathlib.Core.Path.{◌≡◌, refl, ap, ◌∙◌}
-use mathlib.Core.List.{List}
-use native.Mathlib.Omega.{arith}
-use lib.ListN.{get_or, drop}
-use lib.IntN.{ℤ, pos}
-use mir.Syntax.{w32}
-use mir.Val.{SFits}
-use Rattle.paper.specs.Points.{distance, joined, weigh}
-use Rattle.paper.specs.declared.points.Measure.{Measure}
-use Rattle.measure.proofs.Away.{B, same_args}
-use Rattle.measure.proofs.Joining.{one_more_lem}
+-- `measure::limits::within` meets its contract: the sum is the distance over the coordinates so far, and not over the limit. Assumes
+-- nothing.
+use Rattle.std.proofs.Common.{◌≡◌, length, drop, rules, arith}
+use Rattle.std.proofs.lemmas.List.{length_push}
+use Rattle.paper.specs.Points.{distance}
+use Rattle.measure.proofs.Joining.{one_more, bounded_more, room_for_one}
+use Rattle.measure.proofs.SideBySide.{side_by_side, side_by_side_all}
 use Rattle.measure.proofs.Limiting.{limited_at, limited_beyond}
-use borrow.Author.Rules.{rules}
 use Rattle.measure.proofs.limits.within.Goals as goal
 
--- once the coordinate is joined: the sum is the distance of one coordinate more
-one_more_is : (m : Measure) (i at bt sum r : ℕ) (a b : List ℤ) → SFits w32 (get_or a (at + i) (pos 0)) → SFits w32 (get_or b (bt + i) (pos 0)) → sum ≡ distance m i (drop at a) (drop bt b) → r ≡ joined m sum (weigh m (B (get_or a (at + i) (pos 0))) (B (get_or b (bt + i) (pos 0)))) → r ≡ distance m (i + 1) (drop at a) (drop bt b)
-one_more_is m i at bt sum r a b hx hy e is =
-    is
-    ∙ same_args (λ (u v : ℤ). joined m sum (weigh m u v)) hx hy
-    ∙ one_more_lem m i at bt sum a b e
-
-pub loop-i-init : goal.loop-i-init
+pub loop-x-init : goal.loop-x-init
 unfolding distance
-loop-i-init c = (omega arith, refl, omega arith, omega arith)
+loop-x-init c = search rules
+
+pub with_one-sum-requires : goal.with_one-sum-requires
+with_one-sum-requires c =
+    let g = c.args in
+    let l = c.loop-x in
+    let t = side_by_side g.at g.bt g.d g.a.now g.b.now l.yielded _ l.x-iterator c.next.new.self _ (search rules) (search rules) l.yielded_by _ c.in-Some.is c.next.ensures.steps in
+    room_for_one _ (omega (arith, t.0)) l.invariant.bounded
 
 pub returns-then-limit-sum : goal.returns-then-limit-sum
 returns-then-limit-sum c =
     let g = c.args in
-    let l = c.loop-i in
-    let m = c.numbered-m in
-    let more = one_more_is m.result l.i g.at g.bt l.sum c.with_one-sum.result g.a.now g.b.now (search rules) (search rules) l.invariant.1 c.with_one-sum.ensures.0 in
-    rw (← m.ensures) (limited_beyond m.result (drop g.at g.a.now) (drop g.bt g.b.now) more c.if-limit-sum.true (omega arith))
+    let l = c.loop-x in
+    let t = side_by_side g.at g.bt g.d g.a.now g.b.now l.yielded _ l.x-iterator c.next.new.self _ (search rules) (search rules) l.yielded_by _ c.in-Some.is c.next.ensures.steps in
+    let more = one_more _ (length l.yielded) _ _ t.1 t.2 (search rules) (search rules) l.invariant.exact c.with_one-sum.ensures.0 in
+    rw (← c.numbered-m.ensures) (limited_beyond _ (drop g.at g.a.now) (drop g.bt g.b.now) more c.if-limit-sum.true (omega (arith, t.0)))
 
-pub loop-i-preserved : goal.loop-i-preserved
-loop-i-preserved c =
+pub loop-x-preserved : goal.loop-x-preserved
+loop-x-preserved c =
     let g = c.args in
-    let l = c.loop-i in (
-      omega arith,
-      one_more_is c.numbered-m.result l.i g.at g.bt l.sum c.with_one-sum.result g.a.now g.b.now (search rules) (search rules) l.invariant.1 c.with_one-sum.ensures.0,
-      omega (arith, c.with_one-sum.ensures.1),
-      omega arith,
-    )
+    let l = c.loop-x in
+    let t = side_by_side g.at g.bt g.d g.a.now g.b.now l.yielded _ l.x-iterator c.next.new.self _ (search rules) (search rules) l.yielded_by _ c.in-Some.is c.next.ensures.steps in
+    rw (length_push l.yielded (c.in-Some.x, c.in-Some.y)) record {
+      exact = one_more _ (length l.yielded) _ _ t.1 t.2 (search rules) (search rules) l.invariant.exact c.with_one-sum.ensures.0;
+      bounded = bounded_more _ (length l.yielded) _ _ t.1 t.2 (search rules) (search rules) l.invariant.exact c.with_one-sum.ensures.0 l.invariant.bounded;
+      kept = c.if-limit-sum.false;
+    }
 
 pub returns : goal.returns
 returns c =
     let g = c.args in
     let m = c.numbered-m in
-    let l = c.loop-i in
-    let e : l.i ≡ g.d = omega arith in
-    rw (← m.ensures) (limited_at (l.invariant.1 ∙ ap (λ (n : ℕ). distance m.result n (drop g.at g.a.now) (drop g.bt g.b.now)) e) l.invariant.3)
+    let l = c.loop-x in
+    let e : length l.yielded ≡ g.d = side_by_side_all g.at g.bt g.d g.a.now g.b.now l.yielded _ l.x-iterator c.next.new.self _ (search rules) (search rules) l.yielded_by (omega arith) (omega arith) c.in-None.is c.next.ensures.steps in
+    rw (← m.ensures) (limited_at (rw e at l.invariant.exact) l.invariant.kept)

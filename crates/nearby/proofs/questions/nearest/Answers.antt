@@ -1,34 +1,37 @@
 -- `nearby::questions::nearest` meets its contract: 1, 2, 5, and then what the walk gives. Assumes nothing.
+use mathlib.Core.Path.{refl}
+use Rattle.paper.proofs.Outcomes.{err_number, ok_number, told_on, numbered}
 use Rattle.paper.specs.declared.orders.Order.TheVariants.{Near}
 use Rattle.paper.specs.Orders.{nearest_of}
-use Rattle.paper.specs.Tree.{store, claims_in}
+use Rattle.paper.specs.Tree.{claims_in}
 use Rattle.paper.specs.Calls.{table_query, nearest_call}
 use Rattle.walk.proofs.Answers.{good_answerable}
 use Rattle.walk_tested.proofs.TableLaws.{table_good}
 use Rattle.nearby.proofs.QuestionsAndLists.{ask_refused, ask_5, ask_answered}
 use Rattle.nearby.proofs.questions.nearest.Goals as goal
 
-pub returns-then-why-ne0 : goal.returns-then-why-ne0
+pub returns-in_err-test_table : goal.returns-in_err-test_table
 unfolding nearest_call
-returns-then-why-ne0 c =
-    let s = store c.args.t c.args.references.now c.args.coordinates.now c.args.nodes.now in
-    ask_refused s c.args.probe.now _ c.table_refusal-why.ensures (nearest_of (table_query s.table Near c.args.probe.now c.args.reach) (claims_in s)) c.if-why-ne0.true
+returns-in_err-test_table c =
+    let s = c.args.table.now in
+    rw (told_on _ _ c.from_residual.ensures.1)
+    (ask_refused s c.args.probe.now _ (err_number _ _ c.test_table.ensures _ c.in_err-test_table.was) (nearest_of (table_query s.table Near c.args.probe.now c.args.reach) (claims_in s)) (numbered _))
 
-pub returns-then-probe-t : goal.returns-then-probe-t
+pub returns-then-probe-table : goal.returns-then-probe-table
 unfolding nearest_call
-returns-then-probe-t c =
+returns-then-probe-table c =
     let args = c.args in
-    let s = store args.t args.references.now args.coordinates.now args.nodes.now in
-    ask_5 s args.probe.now _ c.table_refusal-why.ensures (nearest_of (table_query s.table Near args.probe.now args.reach) (claims_in s)) c.if-why-ne0.false c.if-probe-t.true
+    let s = args.table.now in
+    ask_5 s args.probe.now _ (ok_number _ _ c.test_table.ensures _ c.in_ok-test_table.was) (nearest_of (table_query s.table Near args.probe.now args.reach) (claims_in s)) refl (rw (← c.table.view_is) c.if-probe-table.true)
 
-pub nearest-found-requires : goal.nearest-found-requires
-nearest-found-requires c =
+pub nearest-requires : goal.nearest-requires
+nearest-requires c =
     let args = c.args in
-    good_answerable (store args.t args.references.now args.coordinates.now args.nodes.now) (table_good _ _ c.table_refusal-why.ensures c.if-why-ne0.false) _ c.if-probe-t.false
+    good_answerable args.table.now (table_good _ _ (ok_number _ _ c.test_table.ensures _ c.in_ok-test_table.was) refl) _ (rw (← c.table.view_is) c.if-probe-table.false)
 
 pub returns : goal.returns
 unfolding nearest_call
 returns c =
     let args = c.args in
-    let s = store args.t args.references.now args.coordinates.now args.nodes.now in
-    ask_answered s args.probe.now _ c.table_refusal-why.ensures (nearest_of (table_query s.table Near args.probe.now args.reach) (claims_in s)) c.if-why-ne0.false c.if-probe-t.false _ c.nearest-found.ensures
+    let s = args.table.now in
+    ask_answered s args.probe.now _ (ok_number _ _ c.test_table.ensures _ c.in_ok-test_table.was) (nearest_of (table_query s.table Near args.probe.now args.reach) (claims_in s)) refl (rw (← c.table.view_is) c.if-probe-table.false) _ c.nearest.ensures

@@ -1,33 +1,21 @@
 -- `nearby_batch::turns::answer_lines` meets its contract: steps add up, and the bytes bound them. Assumes nothing.
-use mathlib.Core.Path.{refl}
-use Rattle.nearby_batch.proofs.Steps.{goes_is}
+use mathlib.Core.Path.{sym, ◌∙◌}
 use Rattle.nearby_batch.proofs.Loops.{going_start, going_on, going_less, going_done}
 use Rattle.nearby_batch.proofs.turns.answer_lines.Goals as goal
 
-pub loop-t-init : goal.loop-t-init
-loop-t-init c = (going_start _ _ _ _, refl)
+pub loop-outcomes-init : goal.loop-outcomes-init
+loop-outcomes-init c = going_start _ _
 
 pub answer_next-done-requires : goal.answer_next-done-requires
-answer_next-done-requires c = record { sound = c.requires; more = goes_is _ _ _ _ c.goes_on.ensures c.loop-t-test.true }
+answer_next-done-requires c = record { sound = c.requires; more = sym c.goes_on.ensures ∙ c.loop-outcomes-test.true }
 
-pub loop-t-smaller : goal.loop-t-smaller
-loop-t-smaller c =
-    let loop = c.loop-t in
-    let goes_on = c.goes_on in
-    let if1 = c.loop-t-test in
-    going_less _ _ _ _ loop.invariant.0 (goes_is _ _ _ _ goes_on.ensures if1.true) _ c.answer_next-done.ensures.batch
+pub loop-outcomes-smaller : goal.loop-outcomes-smaller
+loop-outcomes-smaller c =
+    going_less c.loop-outcomes.invariant (sym c.goes_on.ensures ∙ c.loop-outcomes-test.true) _ c.answer_next-done.ensures
 
-pub loop-t-preserved : goal.loop-t-preserved
-loop-t-preserved c =
-    let loop = c.loop-t in
-    let goes_on = c.goes_on in
-    let if1 = c.loop-t-test in
-    let answer-next = c.answer_next-done in
-    (going_on _ _ _ _ loop.invariant.0 (goes_is _ _ _ _ goes_on.ensures if1.true) _ answer-next.ensures.batch answer-next.auto.outcomes answer-next.auto.out, answer-next.ensures.refusal)
+pub loop-outcomes-preserved : goal.loop-outcomes-preserved
+loop-outcomes-preserved c =
+    going_on c.loop-outcomes.invariant (sym c.goes_on.ensures ∙ c.loop-outcomes-test.true) _ c.answer_next-done.ensures c.answer_next-done.auto.outcomes c.answer_next-done.auto.out
 
 pub returns : goal.returns
-returns c =
-    record {
-      refusal = c.loop-t.invariant.1;
-      batch = going_done _ _ _ _ c.loop-t.invariant.0 (goes_is _ _ _ _ c.goes_on.ensures c.loop-t-test.false);
-    }
+returns c = going_done c.loop-outcomes.invariant (sym c.goes_on.ensures ∙ c.loop-outcomes-test.false)

@@ -1,22 +1,10 @@
 -- `office_serve::one_line::serve_cut` meets its contract: a longer line is refused as its front would be. Assumes nothing.
-use Prim.Native.Nat.{◌-◌}
 use native.Mathlib.Omega.{arith}
-use Rattle.paper.specs.Tree.{store}
 use Rattle.office_serve.proofs.OneLineServed.{cut_long, cut_line}
 use Rattle.office_serve.proofs.one_line.serve_cut.Goals as goal
 
-pub returns-then-line-size : goal.returns-then-line-size
-returns-then-line-size c =
-    let args = c.args in
-    let pre = c.requires in
-    let a = args in
-    cut_long (store a.t a.references.now a.coordinates.now a.nodes.now) a.line.now a.size pre.1 a.out.now a.at _ _ pre.0.ready c.if-line-size.true c.refuse-end.ensures
+pub returns-then-size-line : goal.returns-then-size-line
+returns-then-size-line c = cut_line _ _ _ c.requires.1 _ _ _ _ _ _ c.if-size-line.true (omega arith) c.serve_line.ensures
 
-pub returns : goal.returns
-returns c =
-    let args = c.args in
-    let pre = c.requires in
-    let if1 = c.if-line-size in
-    let serve-line = c.serve_line in
-    let a = args in
-    cut_line (store a.t a.references.now a.coordinates.now a.nodes.now) a.line.now a.size pre.1 a.out.now a.at _ _ _ (a.size - 0) if1.false (omega arith) serve-line.ensures
+pub returns-else-size-line : goal.returns-else-size-line
+returns-else-size-line c = cut_long _ _ _ c.requires.1 _ _ _ _ c.requires.0.ready c.if-size-line.false c.refuse.ensures

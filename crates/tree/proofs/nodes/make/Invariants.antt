@@ -1,12 +1,8 @@
 -- `tree::nodes::make` meets its contract: a store, and one for each further field. Assumes nothing.
-use Prim.Native.Nat.{◌-◌, ◌≤◌}
+use Prim.Native.Nat.{◌-◌}
 use mathlib.Core.Path.{◌≡◌}
-use lib.ListN.{length}
 use Rattle.paper.specs.Tree.{cleared}
 use Rattle.tree.proofs.nodes.make.Given as goal
 
 abbrev pub invariant-loop-f : goal.invariant-loop-f
-invariant-loop-f l = (l.f ≤ 5) × (length l.nodes ≡ length l.initial.nodes) × (l.nodes ≡ cleared l.initial.nodes l.w l.f)
-
-abbrev pub decreases-loop-f : goal.decreases-loop-f
-decreases-loop-f l = 5 - l.f
+invariant-loop-f l = l.nodes ≡ cleared l.initial.nodes l.w (l.f - 1)

@@ -1,5 +1,5 @@
 -- `tree::runs::add_run` meets its contract. Assumes nothing.
-use Prim.Native.Nat.{ℕ, ◌-◌, ◌≤◌}
+use Prim.Native.Nat.{ℕ, ◌-◌}
 use mathlib.Core.Path.{◌≡◌}
 use mathlib.Core.List.{List}
 use lib.IntN.{ℤ}
@@ -11,17 +11,10 @@ use Rattle.tree.proofs.runs.add_run.Given as goal
 
 -- after i claims of the run
 pub record Running (given : List ℕ) (points : List ℤ) (s x : Store) (i : ℕ) : Type 0 where
-  pub low : i ≤ length given
   pub roomy : Roomy x (length given - i)
   pub d : x.table.d ≡ s.table.d
   pub same : x ≡ added_run given points i s
-  pub references : length x.references ≡ length s.references
-  pub coordinates : length x.coordinates ≡ length s.coordinates
-  pub nodes : length x.nodes ≡ length s.nodes
 
 abbrev pub invariant-loop-i : goal.invariant-loop-i
 invariant-loop-i l =
     Running l.given l.points (store l.initial.held l.initial.references l.initial.coordinates l.initial.nodes) (store l.held l.references l.coordinates l.nodes) l.i
-
-abbrev pub decreases-loop-i : goal.decreases-loop-i
-decreases-loop-i l = length l.given - l.i

@@ -1,11 +1,11 @@
--- `tree_repeats::runs::are_new` meets its contract: window after window is new. Assumes nothing.
-use Prim.Native.Nat.{◌-◌, ◌≤◌}
-use lib.ListN.{length, take}
-use Rattle.tree_repeats.proofs.Windows.{AllNew}
+-- `tree_repeats::runs::are_new` meets its contract: the rest of the run decides. Assumes nothing.
+use mathlib.Core.Path.{◌≡◌}
+use lib.ListN.{length}
+use Rattle.paper.specs.References.{anew}
 use Rattle.tree_repeats.proofs.runs.are_new.Given as goal
 
-abbrev pub invariant-loop-from : goal.invariant-loop-from
-invariant-loop-from l = (l.from ≤ length l.given) × AllNew (take l.n l.references) l.given 0 l.from
+abbrev pub invariant-loop-known : goal.invariant-loop-known
+invariant-loop-known l = anew l.known l.given ≡ anew l.known l.rest
 
-abbrev pub decreases-loop-from : goal.decreases-loop-from
-decreases-loop-from l = length l.given - l.from
+abbrev pub decreases-loop-known : goal.decreases-loop-known
+decreases-loop-known l = length l.rest

@@ -1,10 +1,6 @@
 -- `walk::pages::give` meets its contract: after i turns the first i claims stand in the room. Assumes nothing.
-use Prim.Native.Nat.{◌-◌}
 use Rattle.walk.proofs.Giving.{Giving}
 use Rattle.walk.proofs.pages.give.Given as goal
 
 abbrev pub invariant-loop-i : goal.invariant-loop-i
 invariant-loop-i l = Giving l.ask l.references l.kept l.initial.room l.room l.i
-
-abbrev pub decreases-loop-i : goal.decreases-loop-i
-decreases-loop-i l = l.size - l.i

@@ -1,7 +1,6 @@
 -- `walk::questions::nearest` meets its contract. Assumes nothing.
 use Rattle.walk.proofs.Answers.{nearest_is}
-use Rattle.paper.specs.Tree.{store}
 use Rattle.walk.proofs.questions.nearest.Goals as goal
 
 pub returns : goal.returns
-returns c = let a = c.args in nearest_is (store a.t a.references.now a.coordinates.now a.nodes.now) a.probe.now _ a.reach c.first.ensures.found
+returns c = let a = c.args in nearest_is a.table.now a.probe.now _ a.reach c.first.ensures.found

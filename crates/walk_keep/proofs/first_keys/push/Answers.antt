@@ -1,11 +1,15 @@
 -- `walk_keep::first_keys::push` meets its contract. Assumes nothing.
-use Rattle.walk_keep.proofs.Places.{pushed_held, pushed_put}
+use mathlib.Core.Path.{refl}
+use native.Mathlib.Omega.{arith}
+use Rattle.std.proofs.lemmas.Grind.{common_steps}
+use Rattle.walk_keep.specs.Kept.{held}
+use Rattle.walk_keep.proofs.Places.{pushed_put}
 use Rattle.walk_keep.proofs.first_keys.push.Goals as goal
 
 pub returns-then-room-p : goal.returns-then-room-p
-returns-then-room-p c long = pushed_held _ _ _ _ c.position-p.ensures c.requires.0 c.if-room-p.true
+returns-then-room-p c = held _ (omega (arith, c.position-p.ensures.few)) c.if-room-p.true refl
 
 pub returns : goal.returns
-returns c long =
-    let start = c in
-    pushed_put _ _ _ _ c.position-p.ensures start.requires.0 _ c.shift.ensures long start.requires.2 c.if-room-p.false
+returns c =
+    let at = c.position-p.ensures in
+    pushed_put _ _ _ _ _ (omega arith) at.front (grind (arith, common_steps)) c.shift.ensures (omega arith)
