@@ -13,7 +13,7 @@ use tree::runs::add_run;
 use tree::soundness::{is_fit, is_sound};
 use tree_repeats::runs::are_new;
 
-// [9.4] [3.16] Refusal 1. The header alone is made: the lent memory keeps what it holds.
+// [9.4] [3.16] Refusal 1. The header alone is made: the lent memory keeps what it holds, and comes in parts, as there is no table to lend yet.
 pub fn make_table(
     number: u32,
     measure: u8,

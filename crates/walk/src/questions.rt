@@ -129,7 +129,7 @@ pub fn farthest(table: &LentTable<'_>, probe: &[i32]) -> Option<Item>
     first(table, far, probe, greatest)
 }
 
-// How far claim k is from the probe.
+// How far claim k is from the probe. The measure is a number, as `distance` takes it.
 #[tactic(auto, unfolding(crate::specs::Walking::dist_of))]
 fn from_probe(measure: u8, d: usize, coordinates: &[i32], probe: &[i32], k: u64) -> u64
     requires { InSight d k coordinates.now probe.now }

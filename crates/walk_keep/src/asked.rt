@@ -1,5 +1,4 @@
-// What a question asks of a walk, and the numbers that the walk compares in place of its reach and its mark. A level of the walk hands on one
-// reference to it.
+// What a question asks of a walk, and the numbers that the walk compares in place of its reach and its mark.
 ghost use Rattle.std.specs.Prelude.{◌≡◌, ◌+◌, ◌<◌, ◌≤◌, min};
 ghost use Rattle.paper.specs.Limits.{most_claims, most_page};
 ghost use Rattle.paper.specs.Orders.{snapshot_of};
