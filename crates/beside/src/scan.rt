@@ -49,7 +49,7 @@ impl Scan<'_> {
         let gaps = point
             .iter()
             .zip(self.probe)
-            .map(|(a, b)| u64::from(a.abs_diff(*b)));
+            .map(|(a, b)| (i64::from(*a) - i64::from(*b)).unsigned_abs());
         match self.measure {
             Measure::CityBlock => gaps.sum(),
             Measure::Maximum => gaps.max().unwrap_or(0),

@@ -89,6 +89,22 @@ ask_fields a =
       size = a.size;
     }
 
+-- the ask whose fields these are
+abbrev pub ask_in : AskFields → Ask
+ask_in a =
+    record {
+      query = record {
+        order = order_in a.order;
+        table = a.table;
+        measure = a.measure;
+        d = a.d;
+        probe = a.probe;
+        reach = a.scope.reach;
+      };
+      scope = scope_from a.scope;
+      size = a.size;
+    }
+
 abbrev pub ask_out : Outcome Ask → AskShown
 ask_out (refused n) = record { refusal = n; ask = ask_fields (record { query = no_query; scope = no_scope; size = 0 }) }
 ask_out (gives a) = record { refusal = 0; ask = ask_fields a }
@@ -102,6 +118,24 @@ answer_fields y =
       d = y.query.d;
       probe = y.query.probe;
       scope = extent_out y.query.reach y.scope;
+      last = y.last;
+      count = y.count;
+      items = y.items;
+    }
+
+-- the answer whose fields these are
+abbrev pub answer_in : AnswerFields → Answer
+answer_in y =
+    record {
+      query = record {
+        order = order_in y.order;
+        table = y.table;
+        measure = y.measure;
+        d = y.d;
+        probe = y.probe;
+        reach = y.scope.reach;
+      };
+      scope = scope_from y.scope;
       last = y.last;
       count = y.count;
       items = y.items;

@@ -65,7 +65,7 @@ over_none o at zero n e = over_nil o at
 over_none o at (suc i) n e = absurd (omega arith)
 
 -- writing g, and then f before it, is writing both
-over_over : (o : List ℕ) (at : ℕ) (f g : List ℕ) → 2 * (at + length f + length g) ≤ length o
+pub over_over : (o : List ℕ) (at : ℕ) (f g : List ℕ) → 2 * (at + length f + length g) ≤ length o
     → overlaid (overlaid o (at + length f) g) at f ≡ overlaid o at (f ++ g)
 unfolding overlaid
 over_over o at f g h =

@@ -11,7 +11,7 @@ ghost use Rattle.paper.specs.Outcomes.{told};
 
 use paper::lent::LentTable;
 use paper::limits::LONGEST_ANSWER;
-use paper::lines::Answered;
+pub use paper::lines::Answered;
 use paper::refusals::Refusal;
 use turns::answer_lines;
 

@@ -1,2 +1,4 @@
 pub mod Exports
 pub mod ExportsSettled
+pub mod Given
+pub mod LinesAgain

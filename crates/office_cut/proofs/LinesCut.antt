@@ -71,7 +71,7 @@ kept_no_more l n = simp (take-nil, add-zero, take-append-drop)
 kept_past : (l : List ℕ) (n : ℕ) (ys : List ℕ) → length l ≤ n → kept_of l n ys ≡ l
 kept_past l n ys h = grind (arith, common_steps)
 
-kept_next : (most : ℕ) (l : List ℕ) (n x : ℕ) (ys : List ℕ) → length l ≡ most → kept_of (set l n x) (one_more most n) ys ≡ kept_of l n (x ∷ ys)
+pub kept_next : (most : ℕ) (l : List ℕ) (n x : ℕ) (ys : List ℕ) → length l ≡ most → kept_of (set l n x) (one_more most n) ys ≡ kept_of l n (x ∷ ys)
 unfolding one_more
 kept_next most l n x ys e = go (dec_le (suc n) most)
   where
@@ -87,7 +87,7 @@ kept_next most l n x ys e = go (dec_le (suc n) most)
 grown_no_more : (most n : ℕ) → grown most n 0 ≡ n
 grown_no_more most n = grind (arith, nat_tests)
 
-grown_next : (most n k : ℕ) → grown most (one_more most n) k ≡ grown most n (suc k)
+pub grown_next : (most n k : ℕ) → grown most (one_more most n) k ≡ grown most n (suc k)
 unfolding one_more
 grown_next most n k = grind (arith, nat_tests)
 
@@ -129,7 +129,7 @@ kept_none l = record { room = refl; size = omega arith; front = λ h. refl }
 front_kept : (l ys : List ℕ) (n : ℕ) → n + length ys ≤ length l → take (n + length ys) (kept_of l n ys) ≡ take n l ++ ys
 front_kept l ys n h = grind (arith, common_steps)
 
-kept_more : (most : ℕ) (l ys : List ℕ) (n : ℕ) (h : List ℕ) → LineHeld most l n h → LineHeld most (kept_of l n ys) (grown most n (length ys)) (h ++ ys)
+pub kept_more : (most : ℕ) (l ys : List ℕ) (n : ℕ) (h : List ℕ) → LineHeld most l n h → LineHeld most (kept_of l n ys) (grown most n (length ys)) (h ++ ys)
 kept_more most l ys n h k = record {
   room = length_kept l n ys ∙ k.room;
   size = grind (arith, nat_tests, length-append h ys, k.size);
@@ -165,12 +165,12 @@ cut_means most chunk xs l n i h d k =
 -- ---- a cut goes on
 
 -- a cut of a chunk that is not used up goes on
-line_some : (xs : List ℕ) → 0 < length xs → 0 < length (line_in xs)
+pub line_some : (xs : List ℕ) → 0 < length xs → 0 < length (line_in xs)
 unfolding line_in
 line_some [] h = absurd (omega arith)
 line_some (x ∷ xs) h = omega arith
 
-cut_at : (most : ℕ) (xs l : List ℕ) (n i : ℕ) → (cut_of most l n i xs).piece.at ≡ i + length (line_in xs)
+pub cut_at : (most : ℕ) (xs l : List ℕ) (n i : ℕ) → (cut_of most l n i xs).piece.at ≡ i + length (line_in xs)
 unfolding cut_of line_in
 cut_at most [] l n i = omega arith
 cut_at most (x ∷ xs) l n i = go (eqb x 10) (cut_at most xs (set l n x) (one_more most n) (i + 1))

@@ -7,6 +7,7 @@ pub mod ProgramExample
 pub mod Tests
 pub mod Ranges
 pub mod Outcomes
+pub mod Results
 pub mod Reading
 pub mod FreeNodes
 pub mod NodesUntested

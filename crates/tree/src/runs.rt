@@ -1,6 +1,7 @@
 // Entering claims in runs, where a table has node for them. What may be entered is tested above. Memory that is written stays parameters: of a slice
 // behind a `&mut` in a struct each contract would also have to say that the reference is the same (DECISIONS, "A table that is only read").
-ghost use Rattle.std.specs.Prelude.{◌≡◌, ◌+◌, ◌*◌, ◌≤◌, length};
+ghost use Rattle.std.specs.Prelude.{◌≡◌, ◌+◌, ◌*◌, ◌≤◌, length, drop};
+ghost use Rattle.std.proofs.Math.Seq.{paste};
 ghost use Rattle.paper.specs.Points.{point};
 ghost use Rattle.paper.specs.Tree.{lent_mut};
 ghost use Rattle.paper.specs.Runs.{added, added_run};
@@ -9,6 +10,17 @@ ghost use Rattle.tree.specs.Soundness.{Roomy};
 use super::entering::enter;
 use super::rows::put_reference;
 use paper::tables::Table;
+
+// Copies n coordinates from `from` of the given points to `at` of the lent memory, one by one: of a slice's own copy the compiler makes a call of
+// `memmove`, as both are lent, and the archive for C needs nothing from outside but `memcpy` and `memset`.
+fn copy(coordinates: &mut [i32], at: usize, points: &[i32], from: usize, n: usize)
+    requires { (at + n ≤ length coordinates.old) × (from + n ≤ length points.now) }
+    ensures { coordinates.new ≡ paste coordinates.old at (drop from points.now) n }
+{
+    for i in 0..n {
+        coordinates[at + i] = points[from + i];
+    }
+}
 
 // [3.14] Enters claim i of a run into a sound table with node for it.
 pub fn add(
@@ -27,7 +39,7 @@ pub fn add(
     let k = t.count;
     let d = t.d;
     put_reference(references, k, reference);
-    coordinates[k * d..k * d + d].copy_from_slice(&points[i * d..i * d + d]);
+    copy(coordinates, k * d, points, i * d, d);
     let used = enter(nodes, t.measure, d, coordinates, t.used, k as u64);
     Table {
         count: k + 1,

@@ -97,7 +97,7 @@ giving_start ask references kept o = record { long = refl; given = λ dist l h. 
 
 -- item i of a room that holds claims
 module _ {ask : Asked} {dist : ℕ → ℕ} {kept l : List ℕ} (h : Holding ask dist kept l) (i : ℕ) where
-  held : i < ask.size → (get_or kept i 0 ≡ ask.end → ⊥) → i < length l
+  held : i < ask.sought.size → (get_or kept i 0 ≡ ask.end → ⊥) → i < length l
   held hi ne = go (ltb i (length l)) refl
     where
       go : (u : Bool) → ltb i (length l) ≡ u → i < length l
@@ -108,15 +108,15 @@ module _ {ask : Asked} {dist : ℕ → ℕ} {kept l : List ℕ} (h : Holding ask
     abbrev K : ℕ
     K = get_or l i 0
 
-    numbered : K < ask.snapshot
-    numbered = (rising_at (ranks ask.order dist) (ok_by ask dist) ask.snapshot ask.size zero l i h.rising hi).1
+    numbered : K < ask.sought.snapshot
+    numbered = (rising_at (ranks ask.order dist) (ok_by ask dist) ask.sought.snapshot ask.sought.size zero l i h.rising hi).1
 
     stored : K < most_claims
     stored = omega (arith, numbered, ask.stored)
 
     not_end : get_or kept i 0 ≡ ask.end → ⊥
     not_end e =
-        let b = in_numbers ask (dist K) K (h.near i hi) stored (admitted_is (wanted_by ask) (dist K) K (rising_ok (ranks ask.order dist) (ok_by ask dist) ask.snapshot ask.size zero l i h.rising hi)) in
+        let b = in_numbers ask (dist K) K (h.near i hi) stored (admitted_is (wanted_by ask) (dist K) K (rising_ok (ranks ask.order dist) (ok_by ask dist) ask.sought.snapshot ask.sought.size zero l i h.rising hi)) in
         omega (arith, b.1, h.keys i hi)
 
     number_is : get_or kept i 0 % most_claims ≡ K
@@ -162,5 +162,5 @@ module _ {ask : Asked} {references kept o₀ : List ℕ} (asks : GiveAsk ask ref
 
     pub given_all : length kept ≤ i → Gives (reference_at references) dist l o₀ o (length kept)
     given_all all =
-        let few = rising_few (ranks ask.order dist) (ok_by ask dist) ask.snapshot ask.size zero l h.rising in
+        let few = rising_few (ranks ask.order dist) (ok_by ask dist) ask.sought.snapshot ask.sought.size zero l h.rising in
         whole (length kept) (omega (arith, asks.few, (g.given dist l h).0)) (omega (arith, asks.few, (g.given dist l h).0))

@@ -30,7 +30,7 @@ module _ {references : List ℕ} {coordinates : List ℤ} {nodes : List ℕ} {as
     empty =
         record {
           keys = λ i hi. absurd (omega arith);
-          ends = λ i _ hi. ends_at (most_page + 1) ask.end i (omega (arith, ask.few));
+          ends = λ i _ hi. ends_at (most_page + 1) ask.end i (omega (arith, ask.sought.few));
           near = λ i hi. absurd (omega arith);
           rising = none;
         }
@@ -39,25 +39,25 @@ module _ {references : List ℕ} {coordinates : List ℤ} {nodes : List ℕ} {as
       left : WalkLeft ask Dist (Holds nodes (apart_by ask coordinates) 0) [] kept
       left = w [] empty
 
-      first : left.kept ≡ first_sorted (ranks ask.order Dist) (ok_by ask Dist) ask.snapshot ask.size
+      first : left.kept ≡ first_sorted (ranks ask.order Dist) (ok_by ask Dist) ask.sought.snapshot ask.sought.size
       first =
-          all_are_first (ranks ask.order Dist) (ok_by ask Dist) ask.snapshot ask.size (Holds nodes (apart_by ask coordinates) 0) left.kept
+          all_are_first (ranks ask.order Dist) (ok_by ask Dist) ask.sought.snapshot ask.sought.size (Holds nodes (apart_by ask coordinates) 0) left.kept
           ask.stored (λ j hj. h.tree.all j (omega (arith, h.stored))) left.is
 
       -- the keys looked for are at the front of the room
-      front : {dist : ℕ → ℕ} {l : List ℕ} → Holding ask dist kept l → Holding ask dist (take ask.size kept) l
+      front : {dist : ℕ → ℕ} {l : List ℕ} → Holding ask dist kept l → Holding ask dist (take ask.sought.size kept) l
       front {dist} {l} g =
-          let few = rising_few (ranks ask.order dist) (ok_by ask dist) ask.snapshot ask.size zero l g.rising in
+          let few = rising_few (ranks ask.order dist) (ok_by ask dist) ask.sought.snapshot ask.sought.size zero l g.rising in
           record {
-            keys = λ i hi. get_or-take ask.size kept i 0 (omega arith) ∙ g.keys i hi;
-            ends = λ i hi hs. get_or-take ask.size kept i 0 hs ∙ g.ends i hi hs;
+            keys = λ i hi. get_or-take ask.sought.size kept i 0 (omega arith) ∙ g.keys i hi;
+            ends = λ i hi hs. get_or-take ask.sought.size kept i 0 hs ∙ g.ends i hi hs;
             near = g.near;
             rising = g.rising;
           }
 
-      pub page_filled : (o' : List ℕ) (r : ℕ) → ((dist : ℕ → ℕ) (l : List ℕ) → Holding ask dist (take ask.size kept) l → Gives (reference_at references) dist l room o' r)
+      pub page_filled : (o' : List ℕ) (r : ℕ) → ((dist : ℕ → ℕ) (l : List ℕ) → Holding ask dist (take ask.sought.size kept) l → Gives (reference_at references) dist l room o' r)
           → AskFilled ask references Dist room o' r
       page_filled o' r g = let given = g Dist left.kept (front left.holds) in record { room = rw (← first) given.room; counts = rw (← first) given.counts }
 
-      pub page_gives : length kept ≡ most_page + 1 → GiveAsk ask references (take ask.size kept) room
-      page_gives long = record { dist = Dist; claims = left.kept; holds = front left.holds; few = length-take ask.size kept ∙ omega (arith, ask.few); named = omega (arith, h.stored, h.named); long = h.long }
+      pub page_gives : length kept ≡ most_page + 1 → GiveAsk ask references (take ask.sought.size kept) room
+      page_gives long = record { dist = Dist; claims = left.kept; holds = front left.holds; few = length-take ask.sought.size kept ∙ omega (arith, ask.sought.few); named = omega (arith, h.stored, h.named); long = h.long }

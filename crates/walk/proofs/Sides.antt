@@ -46,13 +46,13 @@ module _ (nodes : List ℕ) (ask : Asked) (m s x least : ℕ) (o : List ℕ) (fa
   way_passed h = rw (← read, lt-ltb x (ask.first - far) h)
 
   module _ (open' : ask.first - far ≤ x) (y : ℕ) (bound : y ≡ key_at (max (x - far) least) (field_at nodes m 1)) where
-    pub way_beyond : get_or o (ask.size - 1) 0 ≤ y → None ≡ Way
+    pub way_beyond : get_or o (ask.sought.size - 1) 0 ≤ y → None ≡ Way
     unfolding way_down passed_at beyond_at
-    way_beyond h = rw (← read, ← bound, le-ltb x (ask.first - far) open', le-leb (get_or o (ask.size - 1) 0) y h)
+    way_beyond h = rw (← read, ← bound, le-ltb x (ask.first - far) open', le-leb (get_or o (ask.sought.size - 1) 0) y h)
 
-    pub way_open : y < get_or o (ask.size - 1) 0 → link_at nodes m s ≡ Way
+    pub way_open : y < get_or o (ask.sought.size - 1) 0 → link_at nodes m s ≡ Way
     unfolding way_down passed_at beyond_at
-    way_open h = rw (← read, ← bound, le-ltb x (ask.first - far) open', lt-leb (get_or o (ask.size - 1) 0) y h)
+    way_open h = rw (← read, ← bound, le-ltb x (ask.first - far) open', lt-leb (get_or o (ask.sought.size - 1) 0) y h)
 
 pub way_leads : (nodes : List ℕ) (ask : Asked) (m s x least : ℕ) (o : List ℕ) (w : ℕ) → way_down nodes ask m s x least o ≡ Some w → field_at nodes m (4 + s) ≡ w + 1
 unfolding way_down

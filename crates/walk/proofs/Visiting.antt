@@ -79,7 +79,7 @@ module _ {nodes : List ℕ} {coordinates : List ℤ} {ask : Asked} {m : ℕ} (h 
       unfolding dist_of
       y_is = pair.right_is.exact
 
-      stepped : (k u r y : ℕ) (o o' : List ℕ) → k < most_claims → u ≡ D k → u ≤ most_distance → r ≡ rank_at ask.order u → y ≡ key_at r k → KeepIs ask k y o o' → Walked ask D (λ j. j ≡ k) o o'
+      stepped : (k u r y : ℕ) (o o' : List ℕ) → k < most_claims → u ≡ D k → u ≤ most_distance → r ≡ rank_at ask.order u → y ≡ key_at r k → KeepIs ask.sought k y o o' → Walked ask D (λ j. j ≡ k) o o'
       stepped k u r y o o' few is near ranked py keep = claim_step ask D k y few (rw is at near) (py ∙ rw (ranked, is)) o o' keep
 
       ranked_at : (s k u r : ℕ) → k ≡ side_claim nodes m s → u ≡ D k → u ≤ greatest_of (measure_of ask.measure) ask.d → u ≤ most_distance → r ≡ rank_at ask.order u
@@ -89,7 +89,7 @@ module _ {nodes : List ℕ} {coordinates : List ℤ} {ask : Asked} {m : ℕ} (h 
           record { rank = rw (← f) ranked; bounded = rw (← f) bounded; near = rw (← f) near }
 
       pub visited : {rx ry kx ky : ℕ} {o o₁ o₂ : List ℕ} → rx ≡ rank_at ask.order x → ry ≡ rank_at ask.order y → rx ≤ top → ry ≤ top → kx ≡ key_at rx k → ky ≡ key_at ry j
-          → KeepIs ask k kx o o₁ → KeepIs ask j ky o₁ o₂ → Visits ask coordinates probe nodes m o o₂ rx ry
+          → KeepIs ask.sought k kx o o₁ → KeepIs ask.sought j ky o₁ o₂ → Visits ask coordinates probe nodes m o o₂ rx ry
       visited {rx} {ry} {kx} {ky} {o} {o₁} {o₂} px py sx sy qx qy k₁ k₂ =
           record {
             walked = walked_then ask D (On nodes m) (λ i. i ≡ k) (λ i. i ≡ j) o o₁ o₂

@@ -126,9 +126,9 @@ pub record GiveAsk (ask : Asked) (references kept room : List ℕ) : Type 0 wher
   pub dist : ℕ → ℕ
   pub claims : List ℕ
   pub holds : Holding ask dist kept claims
-  pub few : length kept ≡ ask.size
-  pub named : ask.snapshot ≤ length references
-  pub long : ask.size * 3 ≤ length room
+  pub few : length kept ≡ ask.sought.size
+  pub named : ask.sought.snapshot ≤ length references
+  pub long : ask.sought.size * 3 ≤ length room
 
 -- [4.8] the claims of l were put at the front of the room
 pub record Gives (ref dist : ℕ → ℕ) (l before after : List ℕ) (count : ℕ) : Type 0 where
@@ -142,10 +142,10 @@ pub record PageAsk (references : List ℕ) (coordinates : List ℤ) (nodes : Lis
   pub some : 0 < used
   pub lent : Readable ask coordinates claims
   pub tree : Neartree nodes (apart_by ask coordinates) used claims
-  pub stored : ask.snapshot ≤ claims
+  pub stored : ask.sought.snapshot ≤ claims
   pub named : claims ≤ length references
-  pub long : ask.size * 3 ≤ length room
+  pub long : ask.sought.size * 3 ≤ length room
 
 -- [4.6] [4.8] the first so many admitted claims stand at the front of the room
 abbrev pub AskFilled : Asked → List ℕ → (ℕ → ℕ) → List ℕ → List ℕ → ℕ → Type 0
-AskFilled ask references dist o o' r = Filled ask.order (reference_at references) dist (ok_by ask dist) ask.snapshot ask.size o o' r
+AskFilled ask references dist o o' r = Filled ask.order (reference_at references) dist (ok_by ask dist) ask.sought.snapshot ask.sought.size o o' r

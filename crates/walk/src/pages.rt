@@ -48,5 +48,5 @@ pub fn page(references: &[u32], walk: &Walk<'_>, room: &mut [u64]) -> usize
 {
     let mut kept = [walk.ask.end; KEYS];
     walk.node(0, &mut kept);
-    give(references, &walk.ask, &kept[..walk.ask.size], room)
+    give(references, &walk.ask, &kept[..walk.ask.sought.size], room)
 }

@@ -1,9 +1,9 @@
 // Nearest, farthest and page of a sound table, by the definitions in paper/specs.
-ghost use Rattle.std.specs.Prelude.{◌≡◌, ◌+◌, ◌≤◌};
+ghost use Rattle.std.specs.Prelude.{◌≡◌, ℕ, ◌+◌, ◌≤◌, List};
 ghost use Rattle.paper.specs.declared.orders.Order.{Order};
 ghost use Rattle.paper.specs.declared.orders.Order.TheVariants.{Near, Far};
 ghost use Rattle.paper.specs.Orders.{listed, page_of, first_of, nearest_of, farthest_of, mark_holds};
-ghost use Rattle.paper.specs.Tree.{claims_in};
+ghost use Rattle.paper.specs.Tree.{claims_from, claims_in};
 ghost use Rattle.paper.specs.Outcomes.{gives};
 ghost use Rattle.paper.specs.Calls.{table_query, NothingJust};
 ghost use Rattle.paper.specs.Limits.{most_page};
@@ -141,7 +141,7 @@ fn from_probe(measure: u8, d: usize, coordinates: &[i32], probe: &[i32], k: u64)
 // [8.8] Whether a place's mark is a claim of its snapshot, at that claim's distance, within reach.
 pub fn mark_holds(table: &LentTable<'_>, probe: &[i32], reach: u64, place: Place) -> bool
     requires { Markable table.now.table table.now.coordinates probe.now place }
-    ensures { (order : Order) → result ≡ mark_holds (table_query table.now.table order probe.now reach) (claims_in table.now) place }
+    ensures { (order : Order) (references : List ℕ) → result ≡ mark_holds (table_query table.now.table order probe.now reach) (claims_from table.now.table.d table.now.table.count references table.now.coordinates) place }
 {
     let Place::After(snapshot, mark) = place else {
         return true;

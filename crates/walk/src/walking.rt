@@ -68,8 +68,8 @@ impl Walk<'_> {
         );
         let left = rank(self.ask.order, x.left);
         let right = rank(self.ask.order, x.right);
-        self.ask.keep(room, k, key(left, k));
-        self.ask.keep(room, j, key(right, j));
+        self.ask.sought.keep(room, k, key(left, k));
+        self.ask.sought.keep(room, j, key(right, j));
         Visited { left, right }
     }
 
@@ -85,7 +85,7 @@ impl Walk<'_> {
             return None;
         }
         let bound = x.saturating_sub(far).max(least);
-        if self.ask.wanted(room) <= key(bound, field(self.nodes, m, 1)) {
+        if self.ask.sought.wanted(room) <= key(bound, field(self.nodes, m, 1)) {
             return None;
         }
         link(self.nodes, m, s)

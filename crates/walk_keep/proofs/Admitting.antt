@@ -147,8 +147,8 @@ module _ (ask : Asked) (x k : ℕ) (near : x ≤ most_distance) (stored : k < mo
   abbrev K : ℕ
   K = key_at (rank_at ask.order x) k
 
-  pub in_numbers : Is (wanted_by ask) x k → (ask.low ≤ K) × (K < ask.end)
+  pub in_numbers : Is (wanted_by ask) x k → (ask.sought.low ≤ K) × (K < ask.end)
   in_numbers h = let b = in_keys (wanted_by ask) x k near stored h in (rw ask.low_is b.0, rw ask.end_is b.1)
 
-  pub numbers_in : k < ask.snapshot → ask.low ≤ K → K < ask.end → Is (wanted_by ask) x k
+  pub numbers_in : k < ask.sought.snapshot → ask.sought.low ≤ K → K < ask.end → Is (wanted_by ask) x k
   numbers_in below low end = keys_in (wanted_by ask) x k near stored below (rw ask.low_is at low) (rw ask.end_is at end)

@@ -9,27 +9,32 @@ use lib.ListN.{get_or}
 use borrow.Author.Tests.{ltb-true, ltb-false, lt-ltb, le-ltb, le-leb}
 use Rattle.paper.specs.Limits.{most_claims}
 use Rattle.walk_keep.specs.declared.asked.Asked.{Asked}
+use Rattle.walk_keep.specs.declared.sought.Sought.{Sought}
 use Rattle.walk_keep.specs.Numbers.{key_at}
 use Rattle.walk_keep.specs.Kept.{late, KeepIs}
 use Rattle.walk_keep.specs.Skips.{beyond_at, limit_at, beyond_limit}
 
-module _ (ask : Asked) (o : List ℕ) (far x : ℕ) (beyond : beyond_limit (get_or o (ask.size - 1) 0) far x ≡ true) where
+module _ (sought : Sought) (o : List ℕ) (far x : ℕ) (beyond : beyond_limit (get_or o (sought.size - 1) 0) far x ≡ true) where
   abbrev Last : ℕ
-  Last = get_or o (ask.size - 1) 0
+  Last = get_or o (sought.size - 1) 0
 
   -- the step of the claim is none
-  pub limit_kept : (k : ℕ) → KeepIs ask k (key_at x k) o o
+  pub limit_kept : (k : ℕ) → KeepIs sought k (key_at x k) o o
   unfolding beyond_limit
   limit_kept k =
       let h = ltb-true (limit_at Last far) x beyond in
       record { put = λ _. late (omega arith) refl; left = λ _. refl }
 
-  -- and its side is skipped, whatever the other tests say
+-- and its side is skipped, whatever the other tests say
+module _ (ask : Asked) (o : List ℕ) (far x : ℕ) (beyond : beyond_limit (get_or o (ask.sought.size - 1) 0) far x ≡ true) where
+  abbrev Kept : ℕ
+  Kept = get_or o (ask.sought.size - 1) 0
+
   pub limit_beyond : (least f : ℕ) → beyond_at ask x far least f o ≡ true
   unfolding beyond_limit beyond_at
   limit_beyond least f =
-      let h = ltb-true (limit_at Last far) x beyond in
-      le-leb Last (key_at (max (x - far) least) f) (omega arith)
+      let h = ltb-true (limit_at Kept far) x beyond in
+      le-leb Kept (key_at (max (x - far) least) f) (omega arith)
 
 -- one comparison tells it of two sides
 pub both_limits : (last x xfar y yfar r : ℕ) → r ≡ min (x - xfar) (y - yfar) → ltb (last / most_claims) r ≡ (beyond_limit last xfar x && beyond_limit last yfar y)

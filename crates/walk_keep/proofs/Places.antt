@@ -9,7 +9,7 @@ use lib.ListN.{length, get_or, set, length-set}
 use lib.Seq.{get_or-set_same, get_or-set_other, set-get_or}
 use borrow.Author.Tests.{ltb-true, ltb-false, lt-ltb, le-leb}
 use Rattle.paper.proofs.Tests.{no_way}
-use Rattle.walk_keep.specs.declared.asked.Asked.{Asked}
+use Rattle.walk_keep.specs.declared.sought.Sought.{Sought}
 use Rattle.walk_keep.specs.Kept.{Shifted, Pushed, put, late, KeepIs}
 
 module _ (n y : ℕ) (o : List ℕ) where
@@ -35,9 +35,9 @@ module _ (n y : ℕ) (o : List ℕ) where
           let z : n - 1 ≡ 0 = omega arith in
           late (rw z l) (ap (set o 0) m ∙ set-get_or o 0 0)
 
-module _ (ask : Asked) (k y : ℕ) (o : List ℕ) (seen : k < ask.snapshot) (later : ask.low ≤ y) where
-  pub keep_pushed : (o' : List ℕ) → Pushed ask.size y o o' → KeepIs ask k y o o'
+module _ (sought : Sought) (k y : ℕ) (o : List ℕ) (seen : k < sought.snapshot) (later : sought.low ≤ y) where
+  pub keep_pushed : (o' : List ℕ) → Pushed sought.size y o o' → KeepIs sought k y o o'
   keep_pushed o' p =
-      let e = lt-ltb k ask.snapshot seen in
-      let f = le-leb ask.low y later in
+      let e = lt-ltb k sought.snapshot seen in
+      let f = le-leb sought.low y later in
       record { put = λ _. p; left = λ q. absurd (no_way (rw (e, f) at q)) }

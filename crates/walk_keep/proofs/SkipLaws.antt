@@ -105,29 +105,29 @@ module _ (ask : Asked) (dist : ℕ → ℕ) (o l : List ℕ) (h : Holding ask di
   stored = omega (arith, (admitted_is (wanted_by ask) (dist j) j ok).below, ask.stored)
 
   -- so many claims, the last of which does not come behind j
-  covered_last : (n : ℕ) → 0 < n → RisingClaims R (ok_by ask dist) ask.snapshot n zero l → length l ≡ n → key R (get_or l (n - 1) 0) ≤ key R j → Covered R j n l
+  covered_last : (n : ℕ) → 0 < n → RisingClaims R (ok_by ask dist) ask.sought.snapshot n zero l → length l ≡ n → key R (get_or l (n - 1) 0) ≤ key R j → Covered R j n l
   covered_last zero some rising len last = absurd (omega arith)
   covered_last (suc n) some rising len last =
       let w : suc n - 1 ≡ n = omega arith in
-      rising_covers R (ok_by ask dist) ask.snapshot n zero j l ask.stored stored rising len (rw w at last)
+      rising_covers R (ok_by ask dist) ask.sought.snapshot n zero j l ask.stored stored rising len (rw w at last)
 
   -- [4.13] [4.14] nothing below the side comes before the last key kept
   pub beyond_covered : (dk e far least f x : ℕ) → dk ≤ most_distance → dk ≤ e + dist j → dist j ≤ e + dk → e ≤ far → least ≤ most_distance
-      → (ask.order ≡ Near → least ≤ dist j) × (ask.order ≡ Far → least ≡ 0) → f ≤ j → x ≡ rank_at ask.order dk → beyond_at ask x far least f o ≡ true → Covered R j ask.size l
+      → (ask.order ≡ Near → least ≤ dist j) × (ask.order ≡ Far → least ≡ 0) → f ≤ j → x ≡ rank_at ask.order dk → beyond_at ask x far least f o ≡ true → Covered R j ask.sought.size l
   unfolding beyond_at end_at
-  beyond_covered dk e far least f x near there back within small halfway later is test = go (ltb (length l) ask.size) refl
+  beyond_covered dk e far least f x near there back within small halfway later is test = go (ltb (length l) ask.sought.size) refl
     where
-      last : get_or o (ask.size - 1) 0 ≤ Bound dk (dist j) e far near there back within least f j small later stored ask.order
-      last = rw is at (leb-true (get_or o (ask.size - 1) 0) _ test)
+      last : get_or o (ask.sought.size - 1) 0 ≤ Bound dk (dist j) e far near there back within least f j small later stored ask.order
+      last = rw is at (leb-true (get_or o (ask.sought.size - 1) 0) _ test)
 
-      go : (u : Bool) → ltb (length l) ask.size ≡ u → Covered R j ask.size l
+      go : (u : Bool) → ltb (length l) ask.sought.size ≡ u → Covered R j ask.sought.size l
       go true q =
-          let end = h.ends (ask.size - 1) (omega (arith, ltb-true (length l) ask.size q)) (omega (arith, ask.some)) in
+          let end = h.ends (ask.sought.size - 1) (omega (arith, ltb-true (length l) ask.sought.size q)) (omega (arith, ask.sought.some)) in
           absurd (not_end dk (dist j) e far near there back within least f j small later stored ask.order ask.reach halfway (admitted_is (wanted_by ask) (dist j) j ok).within (rw (end, ask.end_is) at last))
       go false q =
-          let len : length l ≡ ask.size = omega (arith, ltb-false (length l) ask.size q, rising_few R (ok_by ask dist) ask.snapshot ask.size zero l h.rising) in
-          let hi : ask.size - 1 < length l = omega (arith, ask.some) in
-          let b = rising_at R (ok_by ask dist) ask.snapshot ask.size zero l (ask.size - 1) h.rising hi in
-          covered_last ask.size ask.some h.rising len
-          (not_before dk (dist j) e far near there back within least f j small later stored ask.order (dist (get_or l (ask.size - 1) 0)) (get_or l (ask.size - 1) 0)
-          (h.near (ask.size - 1) hi) (omega (arith, b.1, ask.stored)) halfway (rw (h.keys (ask.size - 1) hi) at last))
+          let len : length l ≡ ask.sought.size = omega (arith, ltb-false (length l) ask.sought.size q, rising_few R (ok_by ask dist) ask.sought.snapshot ask.sought.size zero l h.rising) in
+          let hi : ask.sought.size - 1 < length l = omega (arith, ask.sought.some) in
+          let b = rising_at R (ok_by ask dist) ask.sought.snapshot ask.sought.size zero l (ask.sought.size - 1) h.rising hi in
+          covered_last ask.sought.size ask.sought.some h.rising len
+          (not_before dk (dist j) e far near there back within least f j small later stored ask.order (dist (get_or l (ask.sought.size - 1) 0)) (get_or l (ask.sought.size - 1) 0)
+          (h.near (ask.sought.size - 1) hi) (omega (arith, b.1, ask.stored)) halfway (rw (h.keys (ask.sought.size - 1) hi) at last))

@@ -20,7 +20,7 @@ wants w x k = ltb k w.snapshot && (leb x w.reach && follows w.order w.place (rec
 
 -- the same of a question
 abbrev pub wanted_by : Asked → Wanted
-wanted_by ask = record { order = ask.order; reach = ask.reach; place = ask.place; snapshot = ask.snapshot }
+wanted_by ask = record { order = ask.order; reach = ask.reach; place = ask.place; snapshot = ask.sought.snapshot }
 
 abbrev pub admitted : Asked → ℕ → ℕ → Bool
 admitted ask = wants (wanted_by ask)
@@ -38,5 +38,5 @@ pub record AsksFor (t : Table) (order : Order) (reach : ℕ) (place : Place) (si
   pub d_is : ask.d ≡ t.d
   pub reach_is : ask.reach ≡ reach
   pub place_is : ask.place ≡ place
-  pub snapshot_is : ask.snapshot ≡ snapshot_of place t.count
-  pub size_is : ask.size ≡ size
+  pub snapshot_is : ask.sought.snapshot ≡ snapshot_of place t.count
+  pub size_is : ask.sought.size ≡ size

@@ -2,6 +2,7 @@
 use Rattle.std.specs.Prelude.{ℕ, zero, suc, ◌+◌, ◌-◌, ◌*◌, ◌<◌, ◌≤◌, ◌≡◌, Bool, true, false, ◌&&◌, List, [], ◌∷◌, ltb, leb, length, get_or}
 use Rattle.paper.specs.Limits.{most_claims}
 use Rattle.walk_keep.specs.declared.asked.Asked.{Asked}
+use Rattle.walk_keep.specs.declared.sought.Sought.{Sought}
 use Rattle.walk_keep.specs.Numbers.{most_distance, rank_at, key_at}
 use Rattle.walk_keep.specs.Asked.{admitted}
 use Rattle.walk_keep.specs.Page.{ranks}
@@ -40,15 +41,15 @@ key_by ask dist k = key_at (rank_at ask.order (dist k)) k
 -- the room has the keys of the claims of l, which were measured, and no other before the end
 pub record Holding (ask : Asked) (dist : ℕ → ℕ) (room l : List ℕ) : Type 0 where
   pub keys : (i : ℕ) → i < length l → get_or room i 0 ≡ key_by ask dist (get_or l i 0)
-  pub ends : (i : ℕ) → length l ≤ i → i < ask.size → get_or room i 0 ≡ ask.end
+  pub ends : (i : ℕ) → length l ≤ i → i < ask.sought.size → get_or room i 0 ≡ ask.end
   pub near : (i : ℕ) → i < length l → dist (get_or l i 0) ≤ most_distance
-  pub rising : RisingClaims (ranks ask.order dist) (ok_by ask dist) ask.snapshot ask.size zero l
+  pub rising : RisingClaims (ranks ask.order dist) (ok_by ask dist) ask.sought.snapshot ask.sought.size zero l
 
 -- a walk over the claims of C that had kept l left the room so
 pub record WalkLeft (ask : Asked) (dist : ℕ → ℕ) (C : ℕ → Type 0) (l room : List ℕ) : Type 0 where
   pub kept : List ℕ
   pub holds : Holding ask dist room kept
-  pub is : Kept (ranks ask.order dist) (ok_by ask dist) ask.snapshot ask.size C l kept
+  pub is : Kept (ranks ask.order dist) (ok_by ask dist) ask.sought.snapshot ask.sought.size C l kept
 
 -- a walk over the claims of C took the room from o to o'
 abbrev pub Walked : Asked → (ℕ → ℕ) → (ℕ → Type 0) → List ℕ → List ℕ → Type 0
@@ -70,6 +71,6 @@ pub data Pushed (n y : ℕ) (o o' : List ℕ) : Type 0 where
   late : get_or o (n - 1) 0 ≤ y → o' ≡ o → Pushed n y o o'
 
 -- the step of claim k, at key y: below the snapshot and not before the first key wanted it is put
-pub record KeepIs (ask : Asked) (k y : ℕ) (o o' : List ℕ) : Type 0 where
-  pub put : (ltb k ask.snapshot && leb ask.low y) ≡ true → Pushed ask.size y o o'
-  pub left : (ltb k ask.snapshot && leb ask.low y) ≡ false → o' ≡ o
+pub record KeepIs (sought : Sought) (k y : ℕ) (o o' : List ℕ) : Type 0 where
+  pub put : (ltb k sought.snapshot && leb sought.low y) ≡ true → Pushed sought.size y o o'
+  pub left : (ltb k sought.snapshot && leb sought.low y) ≡ false → o' ≡ o

@@ -10,7 +10,7 @@ passed_at ask x far = ltb x (ask.first - far)
 
 -- [4.13] [4.14] no claim below a side whose claim is at rank x, numbered from f on and at rank `least` or behind, comes before the last key kept
 unfoldable pub beyond_at : Asked → ℕ → ℕ → ℕ → ℕ → List ℕ → Bool
-beyond_at ask x far least f o = leb (get_or o (ask.size - 1) 0) (key_at (max (x - far) least) f)
+beyond_at ask x far least f o = leb (get_or o (ask.sought.size - 1) 0) (key_at (max (x - far) least) f)
 
 -- [4.13] how far the claim of a side may rank, where `last` is the last key kept: as far as that, and by the far distance more
 abbrev pub limit_at : ℕ → ℕ → ℕ

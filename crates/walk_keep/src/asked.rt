@@ -5,6 +5,7 @@ ghost use Rattle.paper.specs.Orders.{snapshot_of};
 ghost use Rattle.walk_keep.specs.Numbers.{top, mark_at, front_at, behind_at, first_at, low_at, end_at};
 
 use crate::keys::{TOP, key, rank};
+use crate::sought::Sought;
 use paper::limits::MOST_NUMBER;
 use paper::orders::{Mark, Order, Place};
 use paper::tables::Table;
@@ -15,26 +16,20 @@ pub struct Asked {
     // By its number, as `from_both` takes it.
     pub measure: u8,
     pub d: usize,
-    // How many items are looked for.
-    pub size: usize,
-    // How many claims the question may see.
-    pub snapshot: u64,
-    // The first key wanted.
-    pub low: u64,
+    // How many items, among which claims, and from which key on.
+    pub sought: Sought,
     // The first rank wanted.
     pub first: u64,
     // The end: every key that is admitted comes before it.
     pub end: u64,
-    // What these three follow from.
+    // What the first key, the first rank and the end follow from.
     pub reach: u64,
     pub place: Place,
-    pub ghost low_is: { low ≡ low_at order reach place },
+    pub ghost low_is: { sought.low ≡ low_at order reach place },
     pub ghost first_is: { first ≡ first_at order reach place },
     pub ghost end_is: { end ≡ end_at order reach },
-    // What a walk may be asked: its claims have keys, and there is room for what is looked for.
-    pub ghost stored: { snapshot ≤ most_claims },
-    pub ghost some: { 0 < size },
-    pub ghost few: { size ≤ most_page + 1 },
+    // What a walk may be asked: its claims have keys.
+    pub ghost stored: { sought.snapshot ≤ most_claims },
 }
 
 impl Asked {
@@ -50,9 +45,11 @@ impl Asked {
             order,
             measure: t.measure,
             d: t.d,
-            size,
-            snapshot: snapshot(place, t.count),
-            low: low(order, reach, place),
+            sought: Sought {
+                size,
+                snapshot: snapshot(place, t.count),
+                low: low(order, reach, place),
+            },
             first: first(order, reach, place),
             end: end(order, reach),
             reach,

@@ -3,7 +3,7 @@ ghost use Rattle.std.specs.Prelude.{◌≡◌, ◌+◌, ◌-◌, ◌<◌, ◌≤
 ghost use Rattle.paper.specs.Limits.{most_page};
 ghost use Rattle.walk_keep.specs.Kept.{Shifted, Pushed, KeepIs};
 
-use crate::asked::Asked;
+use crate::sought::Sought;
 use paper::limits::MOST_PAGE;
 
 // [4.7] Keys of the items that are looked for: those of a page, and one that tells whether the page is the last.
@@ -43,7 +43,7 @@ fn push(room: &mut [u64; KEYS], n: usize, y: u64)
     room[p] = y;
 }
 
-impl Asked {
+impl Sought {
     // [2.5] [2.7] The step of claim k, at key y. In a room of one key there is no branch on y.
     pub fn keep(&self, room: &mut [u64; KEYS], k: u64, y: u64)
         ensures { KeepIs self.now k y room.old room.new }

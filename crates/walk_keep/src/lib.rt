@@ -7,3 +7,4 @@ pub mod first_keys;
 pub mod keys;
 pub mod limits;
 pub mod pages;
+pub mod sought;

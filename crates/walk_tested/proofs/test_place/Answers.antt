@@ -18,16 +18,16 @@ pub returns-then-not-mark_holds : goal.returns-then-not-mark_holds
 returns-then-not-mark_holds c =
     let a = c.args in
     page_8 a.order a.table.now a.probe.now a.reach a.place a.size a.room c.requires _
-    (rw (← c.table.view_is) c.snapshot_holds.ensures) c.if-not-snapshot_holds.false _ (c.mark_holds.ensures a.order) c.if-not-mark_holds.true
+    (rw (← c.table.view_is) c.snapshot_holds.ensures) c.if-not-snapshot_holds.false _ (c.mark_holds.ensures a.order _) c.if-not-mark_holds.true
 
 pub returns-then-room-size : goal.returns-then-room-size
 returns-then-room-size c =
     let a = c.args in
     page_12 a.order a.table.now a.probe.now a.reach a.place a.size a.room c.requires _
-    (rw (← c.table.view_is) c.snapshot_holds.ensures) c.if-not-snapshot_holds.false _ (c.mark_holds.ensures a.order) c.if-not-mark_holds.false c.if-room-size.true
+    (rw (← c.table.view_is) c.snapshot_holds.ensures) c.if-not-snapshot_holds.false _ (c.mark_holds.ensures a.order _) c.if-not-mark_holds.false c.if-room-size.true
 
 pub returns : goal.returns
 returns c =
     let a = c.args in
     page_0 a.order a.table.now a.probe.now a.reach a.place a.size a.room c.requires _
-    (rw (← c.table.view_is) c.snapshot_holds.ensures) c.if-not-snapshot_holds.false _ (c.mark_holds.ensures a.order) c.if-not-mark_holds.false c.if-room-size.false
+    (rw (← c.table.view_is) c.snapshot_holds.ensures) c.if-not-snapshot_holds.false _ (c.mark_holds.ensures a.order _) c.if-not-mark_holds.false c.if-room-size.false

@@ -33,7 +33,7 @@ returns-then-not-mark_holds c =
     let holds = stored_at a.p a.table.now.table.count _ _ c.place_of-place.ensures (rw (← c.table.view_is) c.snapshot_holds.ensures) in
     here_8 a.table.now a.q a.p a.size _ holds
     _ c.requires _ _ c.place_of-place.ensures
-    (c.mark_holds.ensures a.q.order) c.if-not-snapshot_holds.false _ c.if-not-mark_holds.true
+    (c.mark_holds.ensures a.q.order _) c.if-not-snapshot_holds.false _ c.if-not-mark_holds.true
 
 pub write_page-requires : goal.write_page-requires
 write_page-requires c =
@@ -51,4 +51,4 @@ returns c =
     let holds = stored_at a.p a.table.now.table.count _ _ c.place_of-place.ensures (rw (← c.table.view_is) c.snapshot_holds.ensures) in
     here_page a.table.now a.q a.p a.size _ holds
     _ c.requires _ _ c.place_of-place.ensures
-    (c.mark_holds.ensures a.q.order) c.if-not-snapshot_holds.false _ _ _ c.if-not-mark_holds.false c.write_page.ensures
+    (c.mark_holds.ensures a.q.order _) c.if-not-snapshot_holds.false _ _ _ c.if-not-mark_holds.false c.write_page.ensures
