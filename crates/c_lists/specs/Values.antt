@@ -5,6 +5,7 @@ use Rattle.paper.specs.declared.lines.Ask.{Ask}
 use Rattle.paper.specs.declared.lines.Answer.{Answer}
 use Rattle.paper.specs.declared.lines.ClaimLine.{ClaimLine}
 use Rattle.paper.specs.declared.lists.List as lists
+use Rattle.paper.specs.declared.queries.Query as queries
 use Rattle.paper.specs.declared.orders.Order.{Order}
 use Rattle.paper.specs.Orders.{Query, is_far, order_by}
 use Rattle.paper.specs.Outcomes.{Outcome, refused, gives, Promise}
@@ -89,18 +90,15 @@ ask_fields a =
       size = a.size;
     }
 
--- the ask whose fields these are
+-- the query, the ask and the answer whose fields these are
+abbrev pub query_back : ℕ → ℕ → ℕ → ℕ → List ℤ → ℕ → queries.Query
+query_back order table measure d probe reach =
+    record { order = order_in order; table = table; measure = measure; d = d; probe = probe; reach = reach }
+
 abbrev pub ask_in : AskFields → Ask
 ask_in a =
     record {
-      query = record {
-        order = order_in a.order;
-        table = a.table;
-        measure = a.measure;
-        d = a.d;
-        probe = a.probe;
-        reach = a.scope.reach;
-      };
+      query = query_back a.order a.table a.measure a.d a.probe a.scope.reach;
       scope = scope_from a.scope;
       size = a.size;
     }
@@ -123,18 +121,10 @@ answer_fields y =
       items = y.items;
     }
 
--- the answer whose fields these are
 abbrev pub answer_in : AnswerFields → Answer
 answer_in y =
     record {
-      query = record {
-        order = order_in y.order;
-        table = y.table;
-        measure = y.measure;
-        d = y.d;
-        probe = y.probe;
-        reach = y.scope.reach;
-      };
+      query = query_back y.order y.table y.measure y.d y.probe y.scope.reach;
       scope = scope_from y.scope;
       last = y.last;
       count = y.count;

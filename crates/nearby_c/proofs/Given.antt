@@ -8,6 +8,7 @@ use lib.Dec.{leb}
 use lib.ListN.{length}
 use Rattle.paper.specs.declared.orders.Order.{Order}
 use Rattle.paper.specs.declared.orders.Order.TheVariants.{Near, Far}
+use Rattle.paper.specs.declared.queries.Query.{Query}
 use Rattle.paper.specs.declared.lines.Ask.{Ask}
 use Rattle.paper.specs.declared.lines.Answer.{Answer}
 use Rattle.paper.specs.declared.lines.ClaimLine.{ClaimLine}
@@ -24,7 +25,7 @@ use Rattle.c_values.specs.Values.{answered_out}
 use Rattle.c_lists.specs.declared.AskShown.{AskShown}
 use Rattle.c_lists.specs.declared.AnswerShown.{AnswerShown}
 use Rattle.c_lists.specs.declared.ClaimShown.{ClaimShown}
-use Rattle.c_lists.specs.Values.{order_in, order_out, ask_fields, ask_in, ask_out, answer_fields, answer_in, answer_out, claim_out}
+use Rattle.c_lists.specs.Values.{order_in, order_out, query_back, ask_fields, ask_in, ask_out, answer_fields, answer_in, answer_out, claim_out}
 
 -- ---- what is shown of an outcome has its number, and all of its value
 
@@ -44,39 +45,14 @@ order_known : (o : Order) → order_in (order_out o) ≡ o
 order_known Near = refl
 order_known Far = refl
 
+query_known : (q : Query) → query_back (order_out q.order) q.table q.measure q.d q.probe q.reach ≡ q
+query_known q = ap (λ (o : Order). record { order = o; table = q.table; measure = q.measure; d = q.d; probe = q.probe; reach = q.reach }) (order_known q.order)
+
 ask_known : (a : Ask) → ask_in (ask_fields a) ≡ a
-ask_known a =
-    let o = order_known a.query.order in
-    λ i. record {
-      query = record {
-        order = o i;
-        table = a.query.table;
-        measure = a.query.measure;
-        d = a.query.d;
-        probe = a.query.probe;
-        reach = a.query.reach;
-      };
-      scope = a.scope;
-      size = a.size;
-    }
+ask_known a = ap (λ (q : Query). record { query = q; scope = a.scope; size = a.size }) (query_known a.query)
 
 answer_known : (y : Answer) → answer_in (answer_fields y) ≡ y
-answer_known y =
-    let o = order_known y.query.order in
-    λ i. record {
-      query = record {
-        order = o i;
-        table = y.query.table;
-        measure = y.query.measure;
-        d = y.query.d;
-        probe = y.query.probe;
-        reach = y.query.reach;
-      };
-      scope = y.scope;
-      last = y.last;
-      count = y.count;
-      items = y.items;
-    }
+answer_known y = ap (λ (q : Query). record { query = q; scope = y.scope; last = y.last; count = y.count; items = y.items }) (query_known y.query)
 
 -- ---- [9.15] readers
 

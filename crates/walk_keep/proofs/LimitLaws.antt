@@ -27,14 +27,14 @@ module _ (sought : Sought) (o : List ℕ) (far x : ℕ) (beyond : beyond_limit (
 
 -- and its side is skipped, whatever the other tests say
 module _ (ask : Asked) (o : List ℕ) (far x : ℕ) (beyond : beyond_limit (get_or o (ask.sought.size - 1) 0) far x ≡ true) where
-  abbrev Kept : ℕ
-  Kept = get_or o (ask.sought.size - 1) 0
+  abbrev LastKept : ℕ
+  LastKept = get_or o (ask.sought.size - 1) 0
 
   pub limit_beyond : (least f : ℕ) → beyond_at ask x far least f o ≡ true
   unfolding beyond_limit beyond_at
   limit_beyond least f =
-      let h = ltb-true (limit_at Kept far) x beyond in
-      le-leb Kept (key_at (max (x - far) least) f) (omega arith)
+      let h = ltb-true (limit_at LastKept far) x beyond in
+      le-leb LastKept (key_at (max (x - far) least) f) (omega arith)
 
 -- one comparison tells it of two sides
 pub both_limits : (last x xfar y yfar r : ℕ) → r ≡ min (x - xfar) (y - yfar) → ltb (last / most_claims) r ≡ (beyond_limit last xfar x && beyond_limit last yfar y)

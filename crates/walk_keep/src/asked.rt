@@ -1,6 +1,6 @@
 // What a question asks of a walk, and the numbers that the walk compares in place of its reach and its mark.
-ghost use Rattle.std.specs.Prelude.{◌≡◌, ◌+◌, ◌<◌, ◌≤◌, min};
-ghost use Rattle.paper.specs.Limits.{most_claims, most_page};
+ghost use Rattle.std.specs.Prelude.{◌≡◌, ◌+◌, ◌≤◌, min};
+ghost use Rattle.paper.specs.Limits.{most_claims};
 ghost use Rattle.paper.specs.Orders.{snapshot_of};
 ghost use Rattle.walk_keep.specs.Numbers.{top, mark_at, front_at, behind_at, first_at, low_at, end_at};
 
