@@ -39,17 +39,15 @@ abbrev pub query_from : ℕ → ℕ → ℕ → ℕ → List ℤ → ℕ → Que
 query_from order table measure d probe reach =
     record { order = order_in order; table = table; measure = measure; d = d; probe = probe; reach = reach }
 
+-- the same in eight slots, as lists, asks and answers have it
+abbrev pub query_back : ℕ → ℕ → ℕ → ℕ → List ℤ → ℕ → queries.Query
+query_back order table measure d probe reach =
+    record { order = order_in order; table = table; measure = measure; d = d; probe = probe; reach = reach }
+
 abbrev pub list_in : Listing → lists.List
 list_in l =
     record {
-      query = record {
-        order = order_in l.order;
-        table = l.table;
-        measure = l.measure;
-        d = l.d;
-        probe = l.probe;
-        reach = l.reach;
-      };
+      query = query_back l.order l.table l.measure l.d l.probe l.reach;
       started = flag_in l.started;
       snapshot = l.snapshot;
       count = l.count;
@@ -90,11 +88,7 @@ ask_fields a =
       size = a.size;
     }
 
--- the query, the ask and the answer whose fields these are
-abbrev pub query_back : ℕ → ℕ → ℕ → ℕ → List ℤ → ℕ → queries.Query
-query_back order table measure d probe reach =
-    record { order = order_in order; table = table; measure = measure; d = d; probe = probe; reach = reach }
-
+-- the ask and the answer whose fields these are
 abbrev pub ask_in : AskFields → Ask
 ask_in a =
     record {

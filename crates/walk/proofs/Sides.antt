@@ -57,7 +57,7 @@ module _ (nodes : List ℕ) (ask : Asked) (m s x least : ℕ) (o : List ℕ) (fa
 pub way_leads : (nodes : List ℕ) (ask : Asked) (m s x least : ℕ) (o : List ℕ) (w : ℕ) → way_down nodes ask m s x least o ≡ Some w → field_at nodes m (4 + s) ≡ w + 1
 unfolding way_down
 way_leads nodes ask m s x least o w =
-    go (passed_at ask x (field_at nodes m (2 + s))) (beyond_at ask x (field_at nodes m (2 + s)) least (field_at nodes m 1) o)
+    go (passed_at ask.first x (field_at nodes m (2 + s))) (beyond_at ask.sought x (field_at nodes m (2 + s)) least (field_at nodes m 1) o)
   where
     go : (u v : Bool) → cond u None (cond v None (link_at nodes m s)) ≡ Some w → field_at nodes m (4 + s) ≡ w + 1
     go true v e = absurd cc
@@ -90,13 +90,13 @@ module _ (ask : Asked) (nodes : List ℕ) (e : ℕ → ℕ → ℕ) (dist : ℕ 
       near px py closer hs (metric.there (side_claim nodes m s) j) (metric.between (side_claim nodes m (1 - s)) j) c.closer
 
   module _ (x least : ℕ) (near : dist (side_claim nodes m s) ≤ most_distance) (px : x ≡ rank_at ask.order (dist (side_claim nodes m s))) (leasts : Least least) (o : List ℕ) where
-    side_passed : passed_at ask x (field_at nodes m (2 + s)) ≡ true → Walked ask dist Side o o
+    side_passed : passed_at ask.first x (field_at nodes m (2 + s)) ≡ true → Walked ask dist Side o o
     side_passed test =
         walked_still ask dist Side o
         (λ l g j c y. absurd (passed_by (dist (side_claim nodes m s)) (dist j) (e (side_claim nodes m s) j) (field_at nodes m (2 + s)) near
         (metric.there (side_claim nodes m s) j) (metric.back (side_claim nodes m s) j) c.near ask x j px test y))
 
-    side_beyond : beyond_at ask x (field_at nodes m (2 + s)) least (field_at nodes m 1) o ≡ true → Walked ask dist Side o o
+    side_beyond : beyond_at ask.sought x (field_at nodes m (2 + s)) least (field_at nodes m 1) o ≡ true → Walked ask dist Side o o
     side_beyond test =
         walked_still ask dist Side o
         (λ l g j c y. beyond_covered ask dist o l g j y (dist (side_claim nodes m s)) (e (side_claim nodes m s) j) (field_at nodes m (2 + s)) least (field_at nodes m 1) x near
@@ -106,13 +106,13 @@ module _ (ask : Asked) (nodes : List ℕ) (e : ℕ → ℕ → ℕ) (dist : ℕ 
     pub side_went : (way : Option ℕ) (o' : List ℕ) → way ≡ way_down nodes ask m s x least o → Walked ask dist (InOrBelow nodes e way) o o' → Walked ask dist Side o o'
     unfolding way_down
     side_went way o' is w =
-        go (passed_at ask x (field_at nodes m (2 + s))) (beyond_at ask x (field_at nodes m (2 + s)) least (field_at nodes m 1) o) refl refl is
+        go (passed_at ask.first x (field_at nodes m (2 + s))) (beyond_at ask.sought x (field_at nodes m (2 + s)) least (field_at nodes m 1) o) refl refl is
       where
         after : Walked ask dist Side o o → Walked ask dist Side o o'
         after h = walked_then ask dist Side Side (InOrBelow nodes e way) o o o' h w (λ j c. inl c)
 
-        go : (u v : Bool) → passed_at ask x (field_at nodes m (2 + s)) ≡ u
-            → beyond_at ask x (field_at nodes m (2 + s)) least (field_at nodes m 1) o ≡ v → way ≡ cond u None (cond v None (link_at nodes m s)) → Walked ask dist Side o o'
+        go : (u v : Bool) → passed_at ask.first x (field_at nodes m (2 + s)) ≡ u
+            → beyond_at ask.sought x (field_at nodes m (2 + s)) least (field_at nodes m 1) o ≡ v → way ≡ cond u None (cond v None (link_at nodes m s)) → Walked ask dist Side o o'
         go true v p q f = after (side_passed p)
         go false true p q f = after (side_beyond q)
         go false false p q f =

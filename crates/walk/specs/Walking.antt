@@ -61,8 +61,8 @@ link_at nodes m s = cond (eqb (field_at nodes m (4 + s)) 0) None (Some (field_at
 -- side's claim is at rank x, and no claim below is before rank `least`
 unfoldable pub way_down : List ℕ → Asked → ℕ → ℕ → ℕ → ℕ → List ℕ → Option ℕ
 way_down nodes ask m s x least o =
-    cond (passed_at ask x (field_at nodes m (2 + s))) None
-    (cond (beyond_at ask x (field_at nodes m (2 + s)) least (field_at nodes m 1) o) None (link_at nodes m s))
+    cond (passed_at ask.first x (field_at nodes m (2 + s))) None
+    (cond (beyond_at ask.sought x (field_at nodes m (2 + s)) least (field_at nodes m 1) o) None (link_at nodes m s))
 
 -- a claim in or below the node to go to
 pub record InOrBelow (nodes : List ℕ) (e : ℕ → ℕ → ℕ) (way : Option ℕ) (j : ℕ) : Type 0 where

@@ -8,7 +8,6 @@ use lib.Dec.{ltb}
 use lib.ListN.{get_or}
 use borrow.Author.Tests.{ltb-true, ltb-false, lt-ltb, le-ltb, le-leb}
 use Rattle.paper.specs.Limits.{most_claims}
-use Rattle.walk_keep.specs.declared.asked.Asked.{Asked}
 use Rattle.walk_keep.specs.declared.sought.Sought.{Sought}
 use Rattle.walk_keep.specs.Numbers.{key_at}
 use Rattle.walk_keep.specs.Kept.{late, KeepIs}
@@ -25,16 +24,12 @@ module _ (sought : Sought) (o : List ℕ) (far x : ℕ) (beyond : beyond_limit (
       let h = ltb-true (limit_at Last far) x beyond in
       record { put = λ _. late (omega arith) refl; left = λ _. refl }
 
--- and its side is skipped, whatever the other tests say
-module _ (ask : Asked) (o : List ℕ) (far x : ℕ) (beyond : beyond_limit (get_or o (ask.sought.size - 1) 0) far x ≡ true) where
-  abbrev LastKept : ℕ
-  LastKept = get_or o (ask.sought.size - 1) 0
-
-  pub limit_beyond : (least f : ℕ) → beyond_at ask x far least f o ≡ true
+  -- and its side is skipped, whatever the other tests say
+  pub limit_beyond : (least f : ℕ) → beyond_at sought x far least f o ≡ true
   unfolding beyond_limit beyond_at
   limit_beyond least f =
-      let h = ltb-true (limit_at LastKept far) x beyond in
-      le-leb LastKept (key_at (max (x - far) least) f) (omega arith)
+      let h = ltb-true (limit_at Last far) x beyond in
+      le-leb Last (key_at (max (x - far) least) f) (omega arith)
 
 -- one comparison tells it of two sides
 pub both_limits : (last x xfar y yfar r : ℕ) → r ≡ min (x - xfar) (y - yfar) → ltb (last / most_claims) r ≡ (beyond_limit last xfar x && beyond_limit last yfar y)

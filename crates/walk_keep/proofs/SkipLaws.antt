@@ -63,7 +63,7 @@ module _ (dk dj e far : ℕ) (near : dk ≤ most_distance) (there : dk ≤ e + d
           way false q = front (omega (arith, ltb-false (rank_at ask.order dk) (mark_at ask.order m - far) q))
 
   -- the same by the numbers of a question
-  pub passed_by : (ask : Asked) (x j : ℕ) → x ≡ rank_at ask.order dk → passed_at ask x far ≡ true → admitted ask dj j ≡ true → ⊥
+  pub passed_by : (ask : Asked) (x j : ℕ) → x ≡ rank_at ask.order dk → passed_at ask.first x far ≡ true → admitted ask dj j ≡ true → ⊥
   unfolding passed_at
   passed_by ask x j is test ok = passed_none (wanted_by ask) x j is (rw ask.first_is at test) ok
 
@@ -113,7 +113,7 @@ module _ (ask : Asked) (dist : ℕ → ℕ) (o l : List ℕ) (h : Holding ask di
 
   -- [4.13] [4.14] nothing below the side comes before the last key kept
   pub beyond_covered : (dk e far least f x : ℕ) → dk ≤ most_distance → dk ≤ e + dist j → dist j ≤ e + dk → e ≤ far → least ≤ most_distance
-      → (ask.order ≡ Near → least ≤ dist j) × (ask.order ≡ Far → least ≡ 0) → f ≤ j → x ≡ rank_at ask.order dk → beyond_at ask x far least f o ≡ true → Covered R j ask.sought.size l
+      → (ask.order ≡ Near → least ≤ dist j) × (ask.order ≡ Far → least ≡ 0) → f ≤ j → x ≡ rank_at ask.order dk → beyond_at ask.sought x far least f o ≡ true → Covered R j ask.sought.size l
   unfolding beyond_at end_at
   beyond_covered dk e far least f x near there back within small halfway later is test = go (ltb (length l) ask.sought.size) refl
     where
